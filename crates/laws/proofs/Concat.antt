@@ -1,0 +1,85 @@
+-- Strings laid one after another: where each stands, and its bytes. `at i` is where string i begins. By induction on the number of strings.
+-- Assumes nothing.
+use Prim.Native.Nat.{ℕ, zero, suc, _+_, _-_, _*_, _/_, _%_, _≤_, _<_}
+use mathlib.Core.Path.{_≡_, refl, sym, ap, _∙_, subst}
+use mathlib.Core.List.{List, [], _∷_, _++_}
+use native.Mathlib.Omega.{arith}
+use native.Mathlib.Nat.{mul-suc, mul-zero}
+use native.Mathlib.Decide.{decLt}
+use lib.ListN.{length, getD, take, drop, length-append, length-drop}
+use lib.Seq.{take-append-le, drop-append-le, drop-append-add, take-all}
+use Rattle.spec.specs.Bytes.{part, tabulate, concat}
+use Rattle.laws.proofs.Lists.{length-tabulate, getD-tabulate, getD-part}
+
+-- ---- a part of two strings
+
+pub part-front : (xs ys : List ℕ) (at n : ℕ) → at + n ≤ length xs → part (xs ++ ys) at n ≡ part xs at n
+part-front xs ys at n h =
+    ap (take n) (drop-append-le at xs ys (omega arith)) ∙ take-append-le n (drop at xs) ys (simp length-drop (omega arith))
+
+pub part-after : (xs ys : List ℕ) (at m n : ℕ) → at ≡ length xs + m → part (xs ++ ys) at n ≡ part ys m n
+part-after xs ys at m n e = ap (λ (a : ℕ). part (xs ++ ys) a n) e ∙ ap (take n) (drop-append-add xs ys m)
+
+pub part-whole : (xs : List ℕ) (n : ℕ) → length xs ≡ n → part xs 0 n ≡ xs
+part-whole xs n e = take-all n xs (omega arith)
+
+-- ---- strings of any lengths
+
+module _ (f : ℕ → List ℕ) (at : ℕ → ℕ) (none : at 0 ≡ 0) where
+  abbrev pub Laid : ℕ → Type 0
+  Laid n = (i : ℕ) → i < n → at (suc i) ≡ at i + length (f i)
+
+  before : (n i : ℕ) → Laid n → i < n → at i + length (f i) ≤ at n
+  before zero i h l = absurd (omega arith)
+  before (suc n) i h l = go (decLt i n) (λ m. before n i (λ a k. h a (omega arith)) m)
+    where
+      go : Dec (i < n) → (i < n → at i + length (f i) ≤ at n) → at i + length (f i) ≤ at (suc n)
+      go (yes m) ih = (let a = ih m in let b = h n (omega arith) in omega arith)
+      go (no m) ih =
+          let e : i ≡ n = omega arith in
+          subst (λ (x : ℕ). at i + length (f i) ≤ at (suc x)) e (let b = h i l in omega arith)
+
+  pub laid-length : (n : ℕ) → Laid n → length (concat n f) ≡ at n
+  unfolding concat
+  laid-length zero h = sym none
+  laid-length (suc n) h =
+      let a = laid-length n (λ i l. h i (omega arith)) in
+      let b = h n (omega arith) in
+      simp length-append (omega arith)
+
+  pub laid-part : (n i m l : ℕ) → Laid n → i < n → m + l ≤ length (f i) → part (concat n f) (at i + m) l ≡ part (f i) m l
+  unfolding concat
+  laid-part zero i m l h k z = absurd (omega arith)
+  laid-part (suc n) i m l h k z = go (decLt i n) (λ d. laid-part n i m l (λ a q. h a (omega arith)) d z)
+    where
+      go : Dec (i < n) → (i < n → part (concat n f) (at i + m) l ≡ part (f i) m l) → part (concat n f ++ f n) (at i + m) l ≡ part (f i) m l
+      go (yes d) ih =
+          let a = before n i (λ a q. h a (omega arith)) d in
+          let b = laid-length n (λ a q. h a (omega arith)) in
+          part-front (concat n f) (f n) (at i + m) l (omega arith) ∙ ih d
+      go (no d) ih =
+          let e : n ≡ i = omega arith in
+          let b = laid-length n (λ a q. h a (omega arith)) in
+          part-after (concat n f) (f n) (at i + m) m l (let q : at n ≡ at i = ap at e in omega arith) ∙ ap (λ (x : ℕ). part (f x) m l) e
+
+-- ---- strings of w bytes each
+
+module _ (f : ℕ → List ℕ) (w : ℕ) where
+  even : (n : ℕ) → ((i : ℕ) → i < n → length (f i) ≡ w) → (i : ℕ) → i < n → w * suc i ≡ w * i + length (f i)
+  even n h i l = (let e = h i l in let m = mul-suc w i in omega arith)
+
+  pub even-length : (n : ℕ) → ((i : ℕ) → i < n → length (f i) ≡ w) → length (concat n f) ≡ w * n
+  even-length n h = laid-length f (λ i. w * i) (mul-zero w) n (even n h)
+
+  pub even-part : (n i : ℕ) → ((i : ℕ) → i < n → length (f i) ≡ w) → i < n → part (concat n f) (w * i) w ≡ f i
+  even-part n i h l =
+      ap (λ (a : ℕ). part (concat n f) a w) (let z : w * i ≡ w * i + 0 = omega arith in z)
+      ∙ laid-part f (λ i. w * i) (mul-zero w) n i 0 w (even n h) l (let e = h i l in omega arith)
+      ∙ part-whole (f i) w (h i l)
+
+-- byte p of string j of strings given by a rule
+pub concat-byte : (b k : ℕ) (f : ℕ → ℕ → ℕ) (j p : ℕ) → j < k → p < b → getD (concat k (λ j. tabulate b (f j))) (b * j + p) 0 ≡ f j p
+concat-byte b k f j p h l =
+    sym (getD-part (concat k (λ j. tabulate b (f j))) (b * j) b p l)
+    ∙ ap (λ (x : List ℕ). getD x p 0) (even-part (λ j. tabulate b (f j)) b k j (λ j h. length-tabulate b (f j)) h)
+    ∙ getD-tabulate b (f j) p 0 l

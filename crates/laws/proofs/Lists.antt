@@ -1,0 +1,50 @@
+-- Lists that are given by a rule for each index: length, elements, and that a list with the right elements is the rule's. By induction on the length.
+-- Assumes nothing.
+use mathlib.Core.Path.{_≡_, refl, sym, ap, ap₂, _∙_}
+use mathlib.Core.List.{List, [], _∷_, _++_}
+use Prim.Native.Nat.{ℕ, zero, suc, _+_, _-_, _*_, _≤_, _<_}
+use native.Mathlib.Omega.{arith}
+use lib.ListN.{length, getD, take, drop, length-drop, length-replicate}
+use lib.Seq.{ext-getD, length-take-le, getD-take, getD-drop}
+use Rattle.spec.specs.Bytes.{part, tabulate, zeros}
+
+module _ {A : Type 0} where
+  pub length-tabulate : (n : ℕ) (f : ℕ → A) → length (tabulate n f) ≡ n
+  unfolding tabulate
+  length-tabulate zero f = refl
+  length-tabulate (suc n) f = ap suc (length-tabulate n (λ i. f (suc i)))
+
+  pub getD-tabulate : (n : ℕ) (f : ℕ → A) (i : ℕ) (d : A) → i < n → getD (tabulate n f) i d ≡ f i
+  unfolding tabulate
+  getD-tabulate zero f i d h = absurd (omega arith)
+  getD-tabulate (suc n) f zero d h = refl
+  getD-tabulate (suc n) f (suc i) d h = getD-tabulate n (λ i. f (suc i)) i d (omega arith)
+
+  pub tabulate-same : (n : ℕ) (f g : ℕ → A) → ((i : ℕ) → i < n → f i ≡ g i) → tabulate n f ≡ tabulate n g
+  unfolding tabulate
+  tabulate-same zero f g h = refl
+  tabulate-same (suc n) f g h =
+      ap₂ (λ (x : A) (l : List A). x ∷ l) (h 0 (omega arith))
+      (tabulate-same n (λ i. f (suc i)) (λ i. g (suc i)) (λ i l. h (suc i) (omega arith)))
+
+  -- a list of n elements is the rule's where each element is
+  pub is-tabulate : (n : ℕ) (f : ℕ → A) (d : A) (l : List A) → length l ≡ n → ((i : ℕ) → i < n → getD l i d ≡ f i) → l ≡ tabulate n f
+  is-tabulate n f d l e h =
+      ext-getD d l (tabulate n f) (e ∙ sym (length-tabulate n f))
+      (λ i lt. let lt′ : i < n = rw e at lt in h i lt′ ∙ sym (getD-tabulate n f i d lt′))
+
+  -- one element more at the end
+  pub tabulate-more : (n : ℕ) (f : ℕ → A) → tabulate (suc n) f ≡ tabulate n f ++ (f n ∷ [])
+  unfolding tabulate
+  tabulate-more zero f = refl
+  tabulate-more (suc n) f = ap (λ (l : List A). f 0 ∷ l) (tabulate-more n (λ i. f (suc i)))
+
+pub length-part : (xs : List ℕ) (at n : ℕ) → at + n ≤ length xs → length (part xs at n) ≡ n
+length-part xs at n h = length-take-le n (drop at xs) (simp length-drop (omega arith))
+
+pub getD-part : (xs : List ℕ) (at n p : ℕ) → p < n → getD (part xs at n) p 0 ≡ getD xs (at + p) 0
+getD-part xs at n p h = getD-take n (drop at xs) p 0 h ∙ getD-drop at xs p 0
+
+pub length-zeros : (n : ℕ) → length (zeros n) ≡ n
+unfolding zeros
+length-zeros n = length-replicate n 0

@@ -1,0 +1,82 @@
+-- Document 01's examples P1 to P10, as entries of one table about the definitions; each is computed.
+-- Assumes nothing.
+use Prim.Native.Nat.{ℕ}
+use mathlib.Core.Path.{_≡_, refl}
+use mathlib.Core.List.{List, [], _∷_, _++_}
+use lib.ListN.{drop}
+use Rattle.spec.specs.declared.Shape.{Shape}
+use Rattle.spec.specs.Bytes.{tabulate, zeros, allZero, number}
+use Rattle.spec.specs.Tree.{parent, isAncestorWithin, isAncestor, some, covered, siblingToReveal, revealedFrom, revealed, nodeCount}
+use Rattle.spec.specs.Challenge.{bitAt, bitsAt, indexAt, clearAt}
+use Rattle.spec.specs.Shapes.{faest128s, resolved, level, challengeBytes, depthOf, firstBit, leaves, leafOf, shapeOk, hiddenIndex, hiddenLeaf, hiddenLeaves, grindingOk, planned, plannedCount}
+use Rattle.spec.specs.Calls.{written, countWith, nodesOk, planNumber}
+
+-- a call of plan with a challenge of one byte and fifteen zeros and a list of t zeros: its number, its count and the list after it
+pub record Row : Type 0 where
+  pub shape : Shape
+  pub first : ℕ
+  pub number : ℕ
+  pub count : ℕ
+  pub nodes : List ℕ
+
+pub challengeOf : Row → List ℕ
+challengeOf r = r .first ∷ zeros 15
+
+pub Planned : Row → Type 0
+Planned r =
+    let s = resolved (r .shape) in
+    let ch = challengeOf r in
+    let n = planNumber s ch (zeros (s .t)) in
+    (n ≡ r .number)
+    × (countWith n (plannedCount s ch) ≡ r .count)
+    × (written n (planned s ch ++ drop (plannedCount s ch) (zeros (s .t))) (zeros (s .t)) ≡ r .nodes)
+
+pub row : ℕ → ℕ → ℕ → ℕ → ℕ → ℕ → ℕ → List ℕ → Row
+row tau k w t first number count nodes =
+    record { shape = record { tau = tau; k = k; w = w; t = t }; first = first; number = number; count = count; nodes = nodes }
+
+abbrev pub P1 : Type 0
+P1 = Planned (row 1 1 127 1 0x00 0 1 (2 ∷ []))
+
+abbrev pub P2 : Type 0
+P2 = Planned (row 1 1 127 1 0x01 0 1 (1 ∷ []))
+
+abbrev pub P3 : Type 0
+P3 = Planned (row 2 2 124 4 0x00 0 2 (4 ∷ 2 ∷ 0 ∷ 0 ∷ []))
+
+abbrev pub P4 : Type 0
+P4 = Planned (row 2 2 124 4 0x0c 0 4 (13 ∷ 8 ∷ 5 ∷ 4 ∷ []))
+
+abbrev pub P5 : Type 0
+P5 = Planned (row 2 2 124 4 0x01 0 3 (10 ∷ 7 ∷ 2 ∷ 0 ∷ []))
+
+abbrev pub P6 : Type 0
+P6 = Planned (row 3 1 125 2 0x00 0 2 (8 ∷ 4 ∷ []))
+
+abbrev pub P7 : Type 0
+P7 = Planned (row 3 1 125 2 0x07 0 2 (7 ∷ 2 ∷ []))
+
+abbrev pub P8 : Type 0
+P8 = Planned (row 2 2 124 3 0x0c 5 4 (0 ∷ 0 ∷ 0 ∷ []))
+
+abbrev pub P9 : Type 0
+P9 = Planned (row 2 2 124 4 0x10 4 0 (0 ∷ 0 ∷ 0 ∷ 0 ∷ []))
+
+-- the default: its L, and its last leaf, entry 2,047 of vector 10
+abbrev pub P10 : Type 0
+P10 = let s = resolved (record { tau = 0; k = 0; w = 0; t = 0 }) in (s ≡ faest128s) × (leaves s ≡ 22528) × (leafOf s 10 2047 ≡ 45054)
+
+pub table : P1 × P2 × P3 × P4 × P5 × P6 × P7 × P8 × P9 × P10
+unfolding challengeOf Planned row tabulate zeros allZero number parent isAncestorWithin isAncestor some covered siblingToReveal revealedFrom revealed nodeCount bitAt bitsAt indexAt clearAt faest128s resolved level challengeBytes depthOf firstBit leaves leafOf shapeOk hiddenIndex hiddenLeaf hiddenLeaves grindingOk planned plannedCount countWith nodesOk planNumber
+table = (
+  (refl, refl, refl),
+  (refl, refl, refl),
+  (refl, refl, refl),
+  (refl, refl, refl),
+  (refl, refl, refl),
+  (refl, refl, refl),
+  (refl, refl, refl),
+  (refl, refl, refl),
+  (refl, refl, refl),
+  (refl, refl, refl),
+)

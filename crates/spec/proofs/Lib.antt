@@ -1,0 +1,6 @@
+-- What the definitions compute, and what they are not.
+pub mod Standards
+pub mod Examples
+pub mod Refusals
+pub mod WorkedExample
+pub mod Misreadings

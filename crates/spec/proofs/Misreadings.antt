@@ -1,0 +1,96 @@
+-- Document 01's "Misreadings to exclude": each misread rule is written out, and at a small shape it gives something else than the definitions do.
+-- By computing one element in which the two differ. Assumes nothing.
+use Prim.Native.Nat.{ℕ, zero, suc, _+_, _-_, _*_}
+use mathlib.Core.Path.{_≡_, subst}
+use mathlib.Core.Bool.{Bool, true, false, not, cond}
+use mathlib.Core.List.{List, [], _∷_, _++_}
+use lib.Dec.{T, T-not, eqb, eqb-refl, leb}
+use lib.ListN.{length, getD, take}
+use Rattle.spec.specs.declared.Shape.{Shape}
+use Rattle.spec.specs.Bytes.{tabulate, concat, zeros, allZero, xorBelow, number}
+use Rattle.spec.specs.Tree.{parent, isAncestorWithin, isAncestor, some, covered, siblingToReveal, revealedFrom, revealed, nodeCount, expandTree}
+use Rattle.spec.specs.Challenge.{bitAt, bitsAt, indexAt, clearAt}
+use Rattle.spec.specs.Shapes.{level, nodeBytes, challengeBytes, leafCommitmentBytes, depthOf, entriesOf, firstBit, firstEntry, leaves, leafOf, shapeOk, hiddenIndex, hiddenLeaf, hiddenLeaves, grindingOk, planned, plannedCount, treeBytes, leafCommitmentsBytes, openingBytes}
+use Rattle.spec.specs.Primitives.{prg}
+use Rattle.spec.specs.Leaves.{nodeAt, leafKey, children, stretched, leafSeed}
+use Rattle.spec.specs.Rows.{rowByte, uByte}
+use Rattle.spec.specs.Signer.{signerU, correction, corrections, leafCommitmentAt, openingOf}
+use Rattle.spec.specs.Calls.{written, nodesOk, planNumber, openNumber}
+use Rattle.spec.proofs.WorkedExample.{standIn, shape, challenge, iv, signer-tree, signer-leaf-commitments}
+
+-- two lists that differ at place i are not equal
+apart : (xs ys : List ℕ) (i : ℕ) → T (not (eqb (getD xs i 0) (getD ys i 0))) → xs ≡ ys → ⊥
+apart xs ys i t e =
+    T-not (eqb (getD xs i 0) (getD ys i 0)) t (subst (λ (l : List ℕ). T (eqb (getD xs i 0) (getD l i 0))) e (eqb-refl (getD xs i 0)))
+
+-- P5's challenge, and P8's shape
+abbrev pub challenge5 : List ℕ
+challenge5 = 1 ∷ zeros 15
+
+abbrev pub shape8 : Shape
+shape8 = record { tau = 2; k = 2; w = 124; t = 3 }
+
+-- ---- leaves laid vector after vector instead of interleaved
+
+pub vectorAfterVector : Shape → ℕ → ℕ → ℕ
+vectorAfterVector s i j = leaves s - 1 + firstEntry s i + j
+
+pub not-vector-after-vector :
+    revealed (leaves shape) (tabulate 2 (λ i. vectorAfterVector shape i (hiddenIndex shape challenge5 i))) ≡ planned shape challenge5 → ⊥
+unfolding vectorAfterVector tabulate zeros number parent isAncestorWithin isAncestor some covered siblingToReveal revealedFrom revealed bitAt bitsAt indexAt depthOf firstBit firstEntry leaves leafOf hiddenIndex hiddenLeaf hiddenLeaves planned
+not-vector-after-vector =
+    apart (revealed (leaves shape) (tabulate 2 (λ i. vectorAfterVector shape i (hiddenIndex shape challenge5 i)))) (planned shape challenge5) 0 tt
+
+-- ---- nodes revealed from the root downward, or the covered child revealed
+
+pub revealedDownward : (ℕ → Bool) → ℕ → List ℕ
+revealedDownward c zero = []
+revealedDownward c (suc a) = revealedDownward c a ++ siblingToReveal (c (2 * a + 1)) (c (2 * a + 2)) a
+
+pub not-root-downward : revealedDownward (covered (hiddenLeaves shape challenge)) 7 ≡ planned shape challenge → ⊥
+unfolding revealedDownward tabulate number parent isAncestorWithin isAncestor some covered siblingToReveal revealedFrom revealed bitAt bitsAt indexAt depthOf firstBit leaves leafOf hiddenIndex hiddenLeaf hiddenLeaves planned
+not-root-downward = apart (revealedDownward (covered (hiddenLeaves shape challenge)) 7) (planned shape challenge) 0 tt
+
+pub coveredChildren : (ℕ → Bool) → ℕ → List ℕ
+coveredChildren c zero = []
+coveredChildren c (suc a) = siblingToReveal (c (2 * a + 2)) (c (2 * a + 1)) a ++ coveredChildren c a
+
+pub not-covered-child : coveredChildren (covered (hiddenLeaves shape challenge)) 7 ≡ planned shape challenge → ⊥
+unfolding coveredChildren tabulate number parent isAncestorWithin isAncestor some covered siblingToReveal revealedFrom revealed bitAt bitsAt indexAt depthOf firstBit leaves leafOf hiddenIndex hiddenLeaf hiddenLeaves planned
+not-covered-child = apart (coveredChildren (covered (hiddenLeaves shape challenge)) 7) (planned shape challenge) 0 tt
+
+-- ---- T compared with all covered nodes instead of the revealed ones
+
+pub coveredBelow : List ℕ → ℕ → ℕ
+coveredBelow hidden zero = 0
+coveredBelow hidden (suc a) = cond (covered hidden a) 1 0 + coveredBelow hidden a
+
+pub coveredNumber : Shape → List ℕ → ℕ
+coveredNumber s ch = cond (leb (coveredBelow (hiddenLeaves s ch) (2 * leaves s - 1)) (s .t)) 0 5
+
+pub not-covered-nodes : coveredNumber shape challenge ∷ [] ≡ planNumber shape challenge (zeros 4) ∷ [] → ⊥
+unfolding coveredBelow coveredNumber tabulate zeros allZero number parent isAncestorWithin isAncestor some covered siblingToReveal revealedFrom revealed nodeCount bitAt bitsAt indexAt clearAt level challengeBytes depthOf firstBit leaves leafOf shapeOk hiddenIndex hiddenLeaf hiddenLeaves grindingOk plannedCount nodesOk planNumber
+not-covered-nodes = apart (coveredNumber shape challenge ∷ []) (planNumber shape challenge (zeros 4) ∷ []) 0 tt
+
+-- ---- the correction of vector 0 taken as u instead of nothing
+
+pub withVector0 : List ℕ
+withVector0 = signerU standIn shape 2 iv signer-tree ++ corrections standIn shape 2 iv signer-tree
+
+pub not-vector-0 : withVector0 ≡ corrections standIn shape 2 iv signer-tree → ⊥
+unfolding withVector0 tabulate concat xorBelow level nodeBytes leafCommitmentBytes depthOf entriesOf leaves leafOf prg nodeAt leafKey stretched leafSeed rowByte uByte signerU correction corrections
+not-vector-0 = apart withVector0 (corrections standIn shape 2 iv signer-tree) 1 tt
+
+-- ---- the opening filled first and the count compared later
+
+pub filledFirst : List ℕ → List ℕ
+filledFirst before = take (length before) (openingOf shape8 challenge signer-tree signer-leaf-commitments)
+
+pub ours : List ℕ → List ℕ
+ours before =
+    written (openNumber shape8 challenge signer-tree signer-leaf-commitments before)
+    (openingOf shape8 challenge signer-tree signer-leaf-commitments) before
+
+pub not-filled-first : filledFirst (zeros 144) ≡ ours (zeros 144) → ⊥
+unfolding filledFirst ours tabulate concat zeros allZero number parent isAncestorWithin isAncestor some covered siblingToReveal revealedFrom revealed nodeCount bitAt bitsAt indexAt clearAt level nodeBytes challengeBytes leafCommitmentBytes depthOf firstBit firstEntry leaves leafOf shapeOk hiddenIndex hiddenLeaf hiddenLeaves grindingOk planned plannedCount treeBytes leafCommitmentsBytes openingBytes nodeAt leafCommitmentAt openingOf nodesOk openNumber
+not-filled-first = apart (filledFirst (zeros 144)) (ours (zeros 144)) 0 tt

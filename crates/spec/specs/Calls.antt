@@ -1,0 +1,187 @@
+-- Document 01, "The five calls" and "When a call is turned down": for each call its number, its count and every buffer after it. The record with the
+-- call's name is its contract. The shape a caller gives is resolved here and nowhere below.
+use Prim.Native.Nat.{ℕ, _+_, _*_, _/_, _%_}
+use mathlib.Core.Path.{_≡_}
+use mathlib.Core.Bool.{Bool, true, false, _&&_, _||_, cond}
+use mathlib.Core.List.{List, [], _∷_, _++_}
+use lib.Dec.{leb, eqb}
+use lib.ListN.{length, drop}
+use Rattle.spec.specs.declared.Shape.{Shape}
+use Rattle.spec.specs.declared.Answer.{Answer}
+use Rattle.spec.specs.Shapes.{resolved, shapeOk, nodeBytes, challengeBytes, hashBytes, ivBytes, treeBytes, leafCommitmentsBytes, openingBytes, matrixBytes, correctionsBytes, hiddenIndices, grindingOk, planned, plannedCount}
+use Rattle.spec.specs.Primitives.{Primitives}
+use Rattle.spec.specs.Leaves.{leafCommitments, commitmentOf}
+use Rattle.spec.specs.Rows.{matrixOf}
+use Rattle.spec.specs.Signer.{signerTree, signerLeafCommitment, signerU, signerColumn, corrections, openingOf}
+use Rattle.spec.specs.Verifier.{slotsOk, reconstructedTree, verifierLeafCommitment, verifierColumn}
+
+-- ---- tests and refusals
+
+-- the number beside the first test that fails, or 0
+abbrev pub firstRefusal : List (Bool × ℕ) → ℕ
+firstRefusal [] = 0
+firstRefusal (t ∷ ts) = cond (t .0) (firstRefusal ts) (t .1)
+
+-- each buffer has its length: pairs of a length and what it must be
+abbrev pub fits : List (ℕ × ℕ) → Bool
+fits [] = true
+fits (p ∷ ps) = eqb (p .0) (p .1) && fits ps
+
+-- a row length in bits: a multiple of 8 from 8 to 65,536
+unfoldable pub rowOk : ℕ → Bool
+rowOk n = eqb (n % 8) 0 && (leb 8 n && leb n 65536)
+
+-- the nodes of the opening are within the shape's allowance T
+unfoldable pub nodesOk : Shape → List ℕ → Bool
+nodesOk s ch = leb (plannedCount s ch) (s .t)
+
+-- the count is the planned one with 0, 5 and 6, and else 0
+unfoldable pub countWith : ℕ → ℕ → ℕ
+countWith number n = cond (eqb number 0 || (eqb number 5 || eqb number 6)) n 0
+
+-- what a call that answers `number` leaves of a buffer: the new contents with 0, and else the old
+abbrev pub written : {A : Type 0} → ℕ → A → A → A
+written number new old = cond (eqb number 0) new old
+
+-- ---- decode: the hidden indices
+
+unfoldable pub decodeNumber : Shape → List ℕ → List ℕ → ℕ
+decodeNumber s ch indices =
+    firstRefusal
+    ((shapeOk s, 1)
+    ∷ (fits ((length ch, challengeBytes s) ∷ (length indices, s .tau) ∷ []), 3)
+    ∷ (grindingOk s ch, 4)
+    ∷ [])
+
+pub record Decode (s : Shape) (ch before after : List ℕ) (r : Answer) : Type 0 where
+  pub number : r .number ≡ decodeNumber (resolved s) ch before
+  pub count : r .count ≡ 0
+  pub indices : after ≡ written (r .number) (hiddenIndices (resolved s) ch) before
+
+-- ---- plan: the revealed nodes, at the front of the list
+
+unfoldable pub planNumber : Shape → List ℕ → List ℕ → ℕ
+planNumber s ch nodes =
+    firstRefusal
+    ((shapeOk s, 1)
+    ∷ (fits ((length ch, challengeBytes s) ∷ (length nodes, s .t) ∷ []), 3)
+    ∷ (grindingOk s ch, 4)
+    ∷ (nodesOk s ch, 5)
+    ∷ [])
+
+pub record Plan (s : Shape) (ch before after : List ℕ) (r : Answer) : Type 0 where
+  pub number : r .number ≡ planNumber (resolved s) ch before
+  pub count : r .count ≡ countWith (r .number) (plannedCount (resolved s) ch)
+  pub nodes : after ≡ written (r .number) (planned (resolved s) ch ++ drop (plannedCount (resolved s) ch) before) before
+
+-- ---- commit
+
+pub record Committed : Type 0 where
+  pub commitment : List ℕ
+  pub tree : List ℕ
+  pub leafCommitments : List ℕ
+  pub u : List ℕ
+  pub v : List ℕ
+  pub corrections : List ℕ
+
+-- what commit writes, with rows of b bytes
+unfoldable pub committed : Primitives → Shape → ℕ → List ℕ → List ℕ → Committed
+committed P s b root iv =
+    let tree = signerTree P s root iv in
+    record {
+      commitment = commitmentOf P s (signerLeafCommitment P s iv tree);
+      tree = tree;
+      leafCommitments = leafCommitments s (signerLeafCommitment P s iv tree);
+      u = signerU P s b iv tree;
+      v = matrixOf s b (signerColumn P s b iv tree);
+      corrections = corrections P s b iv tree;
+    }
+
+abbrev pub commitLengths : Shape → ℕ → List ℕ → List ℕ → Committed → List (ℕ × ℕ)
+commitLengths s b root iv x =
+    (length root, nodeBytes s)
+    ∷ (length iv, ivBytes)
+    ∷ (length (x .commitment), hashBytes s)
+    ∷ (length (x .tree), treeBytes s)
+    ∷ (length (x .leafCommitments), leafCommitmentsBytes s)
+    ∷ (length (x .u), b)
+    ∷ (length (x .v), matrixBytes s b)
+    ∷ (length (x .corrections), correctionsBytes s b)
+    ∷ []
+
+unfoldable pub commitNumber : Shape → ℕ → List ℕ → List ℕ → Committed → ℕ
+commitNumber s n root iv x = firstRefusal ((shapeOk s, 1) ∷ (rowOk n, 2) ∷ (fits (commitLengths s (n / 8) root iv x), 3) ∷ [])
+
+-- n is the row length in bits
+pub record Commit (P : Primitives) (s : Shape) (n : ℕ) (root iv : List ℕ) (before after : Committed) (r : Answer) : Type 0 where
+  pub number : r .number ≡ commitNumber (resolved s) n root iv before
+  pub count : r .count ≡ 0
+  pub buffers : after ≡ written (r .number) (committed P (resolved s) (n / 8) root iv) before
+
+-- ---- open
+
+abbrev pub openLengths : Shape → List ℕ → List ℕ → List ℕ → List ℕ → List (ℕ × ℕ)
+openLengths s ch tree lcs opening =
+    (length ch, challengeBytes s)
+    ∷ (length tree, treeBytes s)
+    ∷ (length lcs, leafCommitmentsBytes s)
+    ∷ (length opening, openingBytes s)
+    ∷ []
+
+unfoldable pub openNumber : Shape → List ℕ → List ℕ → List ℕ → List ℕ → ℕ
+openNumber s ch tree lcs opening =
+    firstRefusal
+    ((shapeOk s, 1) ∷ (fits (openLengths s ch tree lcs opening), 3) ∷ (grindingOk s ch, 4) ∷ (nodesOk s ch, 5) ∷ [])
+
+pub record Open (s : Shape) (ch tree lcs before after : List ℕ) (r : Answer) : Type 0 where
+  pub number : r .number ≡ openNumber (resolved s) ch tree lcs before
+  pub count : r .count ≡ countWith (r .number) (plannedCount (resolved s) ch)
+  pub opening : after ≡ written (r .number) (openingOf (resolved s) ch tree lcs) before
+
+-- ---- reconstruct
+
+pub record Reconstructed : Type 0 where
+  pub commitment : List ℕ
+  pub tree : List ℕ
+  pub leafCommitments : List ℕ
+  pub q : List ℕ
+
+-- what reconstruct writes, with rows of b bytes
+unfoldable pub reconstructed : Primitives → Shape → ℕ → List ℕ → List ℕ → List ℕ → List ℕ → Reconstructed
+reconstructed P s b iv ch corrections opening =
+    let tree = reconstructedTree P s iv ch opening in
+    record {
+      commitment = commitmentOf P s (verifierLeafCommitment P s iv ch opening tree);
+      tree = tree;
+      leafCommitments = leafCommitments s (verifierLeafCommitment P s iv ch opening tree);
+      q = matrixOf s b (verifierColumn P s b iv ch corrections tree);
+    }
+
+abbrev pub reconstructLengths : Shape → ℕ → List ℕ → List ℕ → List ℕ → List ℕ → Reconstructed → List (ℕ × ℕ)
+reconstructLengths s b iv ch corrections opening x =
+    (length iv, ivBytes)
+    ∷ (length ch, challengeBytes s)
+    ∷ (length corrections, correctionsBytes s b)
+    ∷ (length opening, openingBytes s)
+    ∷ (length (x .commitment), hashBytes s)
+    ∷ (length (x .tree), treeBytes s)
+    ∷ (length (x .leafCommitments), leafCommitmentsBytes s)
+    ∷ (length (x .q), matrixBytes s b)
+    ∷ []
+
+unfoldable pub reconstructNumber : Shape → ℕ → List ℕ → List ℕ → List ℕ → List ℕ → Reconstructed → ℕ
+reconstructNumber s n iv ch corrections opening x =
+    firstRefusal
+    ((shapeOk s, 1)
+    ∷ (rowOk n, 2)
+    ∷ (fits (reconstructLengths s (n / 8) iv ch corrections opening x), 3)
+    ∷ (grindingOk s ch, 4)
+    ∷ (nodesOk s ch, 5)
+    ∷ (slotsOk s ch opening, 6)
+    ∷ [])
+
+-- n is the row length in bits
+pub record Reconstruct (P : Primitives) (s : Shape) (n : ℕ) (iv ch corrections opening : List ℕ) (before after : Reconstructed) (r : Answer) : Type 0 where
+  pub number : r .number ≡ reconstructNumber (resolved s) n iv ch corrections opening before
+  pub count : r .count ≡ countWith (r .number) (plannedCount (resolved s) ch)
+  pub buffers : after ≡ written (r .number) (reconstructed P (resolved s) (n / 8) iv ch corrections opening) before

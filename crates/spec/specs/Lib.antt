@@ -1,0 +1,28 @@
+-- The definitions of the base, in the order in which to read them. Nothing is proved here: ../proofs has the worked examples, crates/laws and
+-- crates/theorems the laws. "Document 000" is the FAEST specification, version 2.0; "document 01" the requirements (docs/DECISIONS.md).
+
+-- strings of bytes, polynomials over GF(2)
+pub mod Bytes
+pub mod Polynomials
+-- FIPS 197
+pub mod Gf256
+pub mod Aes
+-- FIPS 202
+pub mod Keccak
+pub mod Sponge
+-- document 000, section 3.3 and the leaf hash of section 5.1
+pub mod Generator
+pub mod Hashes
+pub mod LeafHash
+-- the tree, the challenge and the shape that joins them
+pub mod Tree
+pub mod Challenge
+pub mod Shapes
+-- document 000, section 5
+pub mod Primitives
+pub mod Leaves
+pub mod Rows
+pub mod Signer
+pub mod Verifier
+-- the five calls of document 01
+pub mod Calls

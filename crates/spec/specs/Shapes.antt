@@ -1,0 +1,132 @@
+-- Document 01, "The shape and the tree": shapes, the numbers and widths that a shape gives, and what it makes of a challenge. s is a resolved shape.
+-- A later request changes a definition here, behind its name.
+use Prim.Native.Nat.{ℕ, _+_, _-_, _*_, _/_, _%_, _^_}
+use mathlib.Core.Bool.{Bool, true, false, _&&_, cond}
+use mathlib.Core.List.{List, [], _∷_}
+use lib.Dec.{leb, eqb}
+use Rattle.spec.specs.declared.Shape.{Shape}
+use Rattle.spec.specs.Bytes.{tabulate, allZero}
+use Rattle.spec.specs.Challenge.{indexAt, clearAt}
+use Rattle.spec.specs.Tree.{revealed, nodeCount}
+
+-- the default: FAEST-128s (document 000, table 3.2)
+unfoldable pub faest128s : Shape
+faest128s = record { tau = 11; k = 11; w = 7; t = 102 }
+
+-- four zeros stand for the default
+unfoldable pub resolved : Shape → Shape
+resolved s = cond (allZero (s .tau ∷ s .k ∷ s .w ∷ s .t ∷ [])) faest128s s
+
+-- ---- widths
+
+-- the security level in bits: document 000's lambda
+unfoldable pub level : Shape → ℕ
+level s = 128
+
+-- bytes of a node, a seed and a generator key
+unfoldable pub nodeBytes : Shape → ℕ
+nodeBytes s = level s / 8
+
+unfoldable pub challengeBytes : Shape → ℕ
+challengeBytes s = level s / 8
+
+-- bytes of a leaf commitment and of a hash key
+unfoldable pub leafCommitmentBytes : Shape → ℕ
+leafCommitmentBytes s = 3 * nodeBytes s
+
+-- bytes of H1 and of the commitment
+unfoldable pub hashBytes : Shape → ℕ
+hashBytes s = 2 * nodeBytes s
+
+-- bytes of the IV, at every level
+abbrev pub ivBytes : ℕ
+ivBytes = 16
+
+-- the words of an AES key, the rate of SHAKE in bytes, and the field of 2^(3 lambda) elements: its width and polynomial
+unfoldable pub keyWords : Shape → ℕ
+keyWords s = level s / 32
+
+unfoldable pub rate : Shape → ℕ
+rate s = 168
+
+unfoldable pub fieldWidth : Shape → ℕ
+fieldWidth s = 3 * level s
+
+-- document 000, section 3.2: P384
+unfoldable pub fieldPolynomial : Shape → ℕ
+fieldPolynomial s = 2 ^ 384 + 2 ^ 12 + 2 ^ 3 + 2 ^ 2 + 1
+
+-- ---- vectors
+
+unfoldable pub depthOf : Shape → ℕ → ℕ
+depthOf s i = s .k
+
+-- the entries of vector i: document 000's N_i
+unfoldable pub entriesOf : Shape → ℕ → ℕ
+entriesOf s i = 2 ^ depthOf s i
+
+-- the first challenge bit of vector i, which is also the number of its first column
+unfoldable pub firstBit : Shape → ℕ → ℕ
+firstBit s i = i * s .k
+
+-- how many entries the vectors before vector i have: the place of its first leaf commitment
+unfoldable pub firstEntry : Shape → ℕ → ℕ
+firstEntry s i = i * 2 ^ s .k
+
+-- L, the number of leaves
+unfoldable pub leaves : Shape → ℕ
+leaves s = s .tau * 2 ^ s .k
+
+-- BAVC.PosInTree, figure 5.2: the node of entry j of vector i
+unfoldable pub leafOf : Shape → ℕ → ℕ → ℕ
+leafOf s i j = leaves s - 1 + s .tau * j + i
+
+-- ---- the shape rules, refusal 1
+
+unfoldable pub shapeOk : Shape → Bool
+shapeOk s =
+    leb 1 (s .tau) && leb (s .tau) 32 && leb 1 (s .k) && leb (s .k) 12 && leb (s .w) 127 && leb 1 (s .t) && leb (s .t) 512
+    && eqb (s .tau * s .k + s .w) (level s)
+
+-- ---- what a challenge hides
+
+-- DecodeAllChall3, figure 5.7: Delta_i
+unfoldable pub hiddenIndex : Shape → List ℕ → ℕ → ℕ
+hiddenIndex s ch i = indexAt ch (firstBit s i) (depthOf s i)
+
+unfoldable pub hiddenIndices : Shape → List ℕ → List ℕ
+hiddenIndices s ch = tabulate (s .tau) (hiddenIndex s ch)
+
+unfoldable pub hiddenLeaf : Shape → List ℕ → ℕ → ℕ
+hiddenLeaf s ch i = leafOf s i (hiddenIndex s ch i)
+
+unfoldable pub hiddenLeaves : Shape → List ℕ → List ℕ
+hiddenLeaves s ch = tabulate (s .tau) (hiddenLeaf s ch)
+
+-- the grinding bits, the last w, are 0
+unfoldable pub grindingOk : Shape → List ℕ → Bool
+grindingOk s ch = clearAt ch (firstBit s (s .tau)) (s .w)
+
+-- the nodes of the opening in revealing order, and how many they are
+unfoldable pub planned : Shape → List ℕ → List ℕ
+planned s ch = revealed (leaves s) (hiddenLeaves s ch)
+
+unfoldable pub plannedCount : Shape → List ℕ → ℕ
+plannedCount s ch = nodeCount (leaves s) (hiddenLeaves s ch)
+
+-- ---- lengths of buffers in bytes; b is the length of a row
+
+unfoldable pub treeBytes : Shape → ℕ
+treeBytes s = nodeBytes s * (2 * leaves s - 1)
+
+unfoldable pub leafCommitmentsBytes : Shape → ℕ
+leafCommitmentsBytes s = leafCommitmentBytes s * leaves s
+
+unfoldable pub openingBytes : Shape → ℕ
+openingBytes s = leafCommitmentBytes s * s .tau + nodeBytes s * s .t
+
+unfoldable pub matrixBytes : Shape → ℕ → ℕ
+matrixBytes s b = b * level s
+
+unfoldable pub correctionsBytes : Shape → ℕ → ℕ
+correctionsBytes s b = b * (s .tau - 1)

@@ -1,0 +1,51 @@
+-- Document 000, figures 5.4 and 5.8: what the signing half computes. b is the length of a row in bytes.
+use Prim.Native.Nat.{ℕ, _+_, _-_, _*_}
+use mathlib.Core.List.{List, _++_}
+use lib.Bits.{bitXor}
+use lib.ListN.{getD}
+use Rattle.spec.specs.declared.Shape.{Shape}
+use Rattle.spec.specs.Bytes.{part, tabulate, concat, zeros}
+use Rattle.spec.specs.Tree.{expandTree}
+use Rattle.spec.specs.Shapes.{nodeBytes, leafCommitmentBytes, firstEntry, leaves, hiddenIndex, planned, plannedCount}
+use Rattle.spec.specs.Primitives.{Primitives}
+use Rattle.spec.specs.Leaves.{nodeAt, leafKey, children, leafCommitment, leafCommitments, commitmentOf}
+use Rattle.spec.specs.Rows.{uByte, columnByte, matrixOf}
+
+-- ---- BAVC.Commit, figure 5.4
+
+unfoldable pub signerTree : Primitives → Shape → List ℕ → List ℕ → List ℕ
+signerTree P s root iv = expandTree (nodeBytes s) root (children P s iv) (leaves s - 1)
+
+-- com_(i,j)
+unfoldable pub signerLeafCommitment : Primitives → Shape → List ℕ → List ℕ → ℕ → ℕ → List ℕ
+signerLeafCommitment P s iv tree i j = leafCommitment P s iv i (leafKey s tree i j)
+
+-- ---- VOLECommit, figure 5.8, from the tree's bytes
+
+-- the signer's u is that of vector 0
+unfoldable pub signerU : Primitives → Shape → ℕ → List ℕ → List ℕ → List ℕ
+signerU P s b iv tree = tabulate b (uByte P s iv tree 0)
+
+-- column j of vector i of V
+unfoldable pub signerColumn : Primitives → Shape → ℕ → List ℕ → List ℕ → ℕ → ℕ → List ℕ
+signerColumn P s b iv tree i j = tabulate b (columnByte P s iv tree (λ e. e) i j)
+
+-- correction i, for i from 1: the xor of the u of vectors 0 and i
+unfoldable pub correction : Primitives → Shape → ℕ → List ℕ → List ℕ → ℕ → List ℕ
+correction P s b iv tree i = tabulate b (λ p. bitXor (uByte P s iv tree 0 p) (uByte P s iv tree i p))
+
+unfoldable pub corrections : Primitives → Shape → ℕ → List ℕ → List ℕ → List ℕ
+corrections P s b iv tree = concat (s .tau - 1) (λ i. correction P s b iv tree (i + 1))
+
+-- ---- BAVC.Open, figure 5.4, from a tree and leaf commitments as lent
+
+-- the leaf commitment of entry j of vector i among the lent ones
+unfoldable pub leafCommitmentAt : Shape → List ℕ → ℕ → ℕ → List ℕ
+leafCommitmentAt s lcs i j = part lcs (leafCommitmentBytes s * (firstEntry s i + j)) (leafCommitmentBytes s)
+
+-- the hidden leaf commitments in vector order, the revealed nodes in revealing order, zeros in the unused slots
+unfoldable pub openingOf : Shape → List ℕ → List ℕ → List ℕ → List ℕ
+openingOf s ch tree lcs =
+    (concat (s .tau) (λ i. leafCommitmentAt s lcs i (hiddenIndex s ch i))
+    ++ concat (plannedCount s ch) (λ m. nodeAt s tree (getD (planned s ch) m 0)))
+    ++ zeros (nodeBytes s * (s .t - plannedCount s ch))

@@ -1,0 +1,15 @@
+// The types that every public contract shares. The definitions stand in ../specs, in the order of specs/Lib.antt.
+
+// A shape: tau vectors of depth k, w grinding bits, and an opening of at most t nodes (document 01, "The shape and the tree").
+pub struct Shape {
+    pub tau: usize,
+    pub k: usize,
+    pub w: usize,
+    pub t: usize,
+}
+
+// What each of the five calls answers: 0 or the number of the refusal, and the node count.
+pub struct Answer {
+    pub number: usize,
+    pub count: usize,
+}

@@ -1,0 +1,226 @@
+//! The five calls of document 01, with their refusals and exact lengths.
+//!
+//! Every call tests what it is lent in the order of the numbers and writes
+//! only with number 0.
+
+use crate::bavc::{self, Bottom, Vectors};
+use crate::shape::{decode_all_chall, grinding_bits_are_zero, row_bytes, Shape};
+use crate::vole::{vole_commit, vole_reconstruct, Row};
+use crate::Block;
+
+/// Document 01, "When a call is turned down".
+#[derive(Clone, Copy, Debug, PartialEq, Eq)]
+pub enum Refusal {
+    Shape = 1,
+    RowLength = 2,
+    Buffer = 3,
+    Grinding = 4,
+    Nodes = 5,
+    Slots = 6,
+    Line = 7,
+}
+
+/// The answer of a call: 0 or the number of a refusal, and the node count.
+#[derive(Clone, Copy, Debug, PartialEq, Eq)]
+pub struct Answer {
+    pub number: u32,
+    pub count: u32,
+}
+
+impl Answer {
+    pub const fn done(count: usize) -> Answer {
+        Answer {
+            number: 0,
+            count: count as u32,
+        }
+    }
+
+    pub const fn refused(refusal: Refusal, count: usize) -> Answer {
+        Answer {
+            number: refusal as u32,
+            count: count as u32,
+        }
+    }
+}
+
+/// The tree of document 01: the nodes in order, 16 zero bytes for a covered one.
+fn tree_bytes(vectors: &Vectors) -> Vec<u8> {
+    let nodes = vectors.nodes.iter();
+    nodes.flat_map(|node| node.unwrap_or_default()).collect()
+}
+
+/// The leaf commitments of document 01: vector after vector.
+fn leaf_commitment_bytes(vectors: &Vectors) -> Vec<u8> {
+    vectors.leaf_coms.concat().concat()
+}
+
+/// Decode: the hidden indices. Checks 1, 3, 4.
+pub fn decode(shape: Shape, challenge: &[u8], indices: &mut [u32]) -> Answer {
+    let Some(shape) = shape.resolve() else {
+        return Answer::refused(Refusal::Shape, 0);
+    };
+    let Ok(challenge) = Block::try_from(challenge) else {
+        return Answer::refused(Refusal::Buffer, 0);
+    };
+    if indices.len() != shape.tau {
+        return Answer::refused(Refusal::Buffer, 0);
+    }
+    if !grinding_bits_are_zero(&shape, &challenge) {
+        return Answer::refused(Refusal::Grinding, 0);
+    }
+    for (place, index) in indices.iter_mut().zip(decode_all_chall(&shape, &challenge)) {
+        *place = index as u32;
+    }
+    Answer::done(0)
+}
+
+/// Plan: the revealed nodes at the front of a list of T numbers. Checks 1, 3,
+/// 4, 5.
+pub fn plan(shape: Shape, challenge: &[u8], nodes: &mut [u32]) -> Answer {
+    let Some(shape) = shape.resolve() else {
+        return Answer::refused(Refusal::Shape, 0);
+    };
+    let Ok(challenge) = Block::try_from(challenge) else {
+        return Answer::refused(Refusal::Buffer, 0);
+    };
+    if nodes.len() != shape.t {
+        return Answer::refused(Refusal::Buffer, 0);
+    }
+    if !grinding_bits_are_zero(&shape, &challenge) {
+        return Answer::refused(Refusal::Grinding, 0);
+    }
+    let hidden = decode_all_chall(&shape, &challenge);
+    let count = bavc::node_count(&shape, &hidden);
+    if count > shape.t {
+        return Answer::refused(Refusal::Nodes, count);
+    }
+    for (place, node) in nodes.iter_mut().zip(bavc::revealed_nodes(&shape, &hidden)) {
+        *place = node as u32;
+    }
+    Answer::done(count)
+}
+
+/// Commit: figure 5.8 of document 000. Checks 1, 2, 3.
+#[allow(clippy::too_many_arguments)]
+pub fn commit(
+    shape: Shape,
+    row_bits: usize,
+    root: &[u8],
+    iv: &[u8],
+    commitment: &mut [u8],
+    tree: &mut [u8],
+    leaf_commitments: &mut [u8],
+    u: &mut [u8],
+    v: &mut [u8],
+    corrections: &mut [u8],
+) -> Answer {
+    let Some(shape) = shape.resolve() else {
+        return Answer::refused(Refusal::Shape, 0);
+    };
+    let Some(b) = row_bytes(row_bits) else {
+        return Answer::refused(Refusal::RowLength, 0);
+    };
+    let (Ok(root), Ok(iv)) = (Block::try_from(root), Block::try_from(iv)) else {
+        return Answer::refused(Refusal::Buffer, 0);
+    };
+    if commitment.len() != 32
+        || tree.len() != shape.tree_bytes()
+        || leaf_commitments.len() != shape.leaf_commitments_bytes()
+        || u.len() != b
+        || v.len() != 128 * b
+        || corrections.len() != (shape.tau - 1) * b
+    {
+        return Answer::refused(Refusal::Buffer, 0);
+    }
+    let made = vole_commit(&shape, &root, &iv, row_bits);
+    commitment.copy_from_slice(&made.vectors.com);
+    tree.copy_from_slice(&tree_bytes(&made.vectors));
+    leaf_commitments.copy_from_slice(&leaf_commitment_bytes(&made.vectors));
+    u.copy_from_slice(&made.u);
+    v.copy_from_slice(&made.v.concat());
+    corrections.copy_from_slice(&made.corrections.concat());
+    Answer::done(0)
+}
+
+/// Open: figure 5.4 of document 000, from the tree as it is lent. Checks 1, 3,
+/// 4, 5.
+pub fn open(
+    shape: Shape,
+    challenge: &[u8],
+    tree: &[u8],
+    leaf_commitments: &[u8],
+    opening: &mut [u8],
+) -> Answer {
+    let Some(shape) = shape.resolve() else {
+        return Answer::refused(Refusal::Shape, 0);
+    };
+    let Ok(challenge) = Block::try_from(challenge) else {
+        return Answer::refused(Refusal::Buffer, 0);
+    };
+    if tree.len() != shape.tree_bytes()
+        || leaf_commitments.len() != shape.leaf_commitments_bytes()
+        || opening.len() != shape.opening_bytes()
+    {
+        return Answer::refused(Refusal::Buffer, 0);
+    }
+    if !grinding_bits_are_zero(&shape, &challenge) {
+        return Answer::refused(Refusal::Grinding, 0);
+    }
+    let hidden = decode_all_chall(&shape, &challenge);
+    let count = bavc::node_count(&shape, &hidden);
+    let Some(decom) = bavc::open(&shape, tree, leaf_commitments, &hidden) else {
+        return Answer::refused(Refusal::Nodes, count);
+    };
+    opening.copy_from_slice(&decom);
+    Answer::done(count)
+}
+
+/// Reconstruct: figure 5.9 of document 000. Checks 1 to 6.
+#[allow(clippy::too_many_arguments)]
+pub fn reconstruct(
+    shape: Shape,
+    row_bits: usize,
+    iv: &[u8],
+    challenge: &[u8],
+    corrections: &[u8],
+    opening: &[u8],
+    commitment: &mut [u8],
+    tree: &mut [u8],
+    leaf_commitments: &mut [u8],
+    q: &mut [u8],
+) -> Answer {
+    let Some(shape) = shape.resolve() else {
+        return Answer::refused(Refusal::Shape, 0);
+    };
+    let Some(b) = row_bytes(row_bits) else {
+        return Answer::refused(Refusal::RowLength, 0);
+    };
+    let (Ok(iv), Ok(challenge)) = (Block::try_from(iv), Block::try_from(challenge)) else {
+        return Answer::refused(Refusal::Buffer, 0);
+    };
+    if corrections.len() != (shape.tau - 1) * b
+        || opening.len() != shape.opening_bytes()
+        || commitment.len() != 32
+        || tree.len() != shape.tree_bytes()
+        || leaf_commitments.len() != shape.leaf_commitments_bytes()
+        || q.len() != 128 * b
+    {
+        return Answer::refused(Refusal::Buffer, 0);
+    }
+    if !grinding_bits_are_zero(&shape, &challenge) {
+        return Answer::refused(Refusal::Grinding, 0);
+    }
+    let count = bavc::node_count(&shape, &decode_all_chall(&shape, &challenge));
+    let c: Vec<Row> = corrections.chunks_exact(b).map(Row::from).collect();
+    match vole_reconstruct(&shape, &challenge, opening, &c, &iv, row_bits) {
+        Err(Bottom::TooManyNodes) => Answer::refused(Refusal::Nodes, count),
+        Err(Bottom::UnusedSlotNotZero) => Answer::refused(Refusal::Slots, count),
+        Ok((vectors, columns)) => {
+            commitment.copy_from_slice(&vectors.com);
+            tree.copy_from_slice(&tree_bytes(&vectors));
+            leaf_commitments.copy_from_slice(&leaf_commitment_bytes(&vectors));
+            q.copy_from_slice(&columns.concat());
+            Answer::done(count)
+        }
+    }
+}

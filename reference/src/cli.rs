@@ -1,0 +1,276 @@
+//! The command line: each command makes its calls with buffers of the exact
+//! lengths and prints the answer and what was written.
+
+use std::io::Read;
+
+use crate::calls::{commit, decode, open, plan, reconstruct, Answer};
+use crate::listing::list;
+use crate::shake::shake128;
+use crate::shape::{row_bytes, Shape};
+
+pub const USAGE: &str = "\
+usage: reference decode      TAU K W T CHALLENGE
+       reference plan        TAU K W T CHALLENGE
+       reference commit      TAU K W T ROWBITS ROOT IV
+       reference open        TAU K W T ROWBITS ROOT IV CHALLENGE
+       reference reconstruct TAU K W T ROWBITS ROOT IV CHALLENGE
+       reference roundtrip   TAU K W T ROWBITS ROOT IV CHALLENGE
+       reference list        (its line on standard input)
+Numbers are decimal; ROOT, IV and CHALLENGE are hexadecimal, byte 0 first.
+";
+
+/// The bytes in hexadecimal.
+pub fn to_hex(bytes: &[u8]) -> String {
+    bytes.iter().map(|byte| format!("{byte:02x}")).collect()
+}
+
+/// The bytes of a hexadecimal argument of any even length.
+pub fn from_hex(digits: &str) -> Option<Vec<u8>> {
+    let values: Option<Vec<u32>> = digits.chars().map(|digit| digit.to_digit(16)).collect();
+    let values = values.filter(|values| values.len() % 2 == 0)?;
+    let pairs = values.chunks_exact(2);
+    Some(pairs.map(|pair| (16 * pair[0] + pair[1]) as u8).collect())
+}
+
+/// The lines `number` and `count`.
+fn answer_lines(answer: Answer) -> String {
+    format!("number {}\ncount {}\n", answer.number, answer.count)
+}
+
+/// The line of an output buffer: name, length in bytes, and the bytes, or where
+/// there are more than 64 their SHAKE128 digest of 32 bytes.
+fn buffer_line(name: &str, bytes: &[u8]) -> String {
+    let content = match bytes.len() {
+        0 => String::new(),
+        1..=64 => format!(" {}", to_hex(bytes)),
+        _ => format!(" shake128 {}", to_hex(&shake128(bytes, 32))),
+    };
+    format!("{name} {}{content}\n", bytes.len())
+}
+
+/// The line of a list of numbers: name, how many were written, and these.
+fn list_line(name: &str, numbers: &[u32]) -> String {
+    let content: String = numbers.iter().map(|number| format!(" {number}")).collect();
+    format!("{name} {}{content}\n", numbers.len())
+}
+
+/// The buffers of commit, open and reconstruct, and the answers of these calls
+/// made one after another up to the first that is refused.
+struct Run {
+    answers: Vec<Answer>,
+    commitment: Vec<u8>,
+    tree: Vec<u8>,
+    leaf_commitments: Vec<u8>,
+    u: Vec<u8>,
+    v: Vec<u8>,
+    corrections: Vec<u8>,
+    opening: Vec<u8>,
+    again_commitment: Vec<u8>,
+    again_tree: Vec<u8>,
+    again_leaf_commitments: Vec<u8>,
+    q: Vec<u8>,
+}
+
+impl Run {
+    /// Buffers of the exact lengths; empty ones where there is no exact length.
+    fn new(shape: Shape, row_bits: usize) -> Run {
+        let shape = shape.resolve();
+        let bytes = |length: fn(&Shape) -> usize| vec![0; shape.as_ref().map_or(0, length)];
+        let b = row_bytes(row_bits).unwrap_or(0);
+        Run {
+            answers: Vec::new(),
+            commitment: vec![0; 32],
+            tree: bytes(Shape::tree_bytes),
+            leaf_commitments: bytes(Shape::leaf_commitments_bytes),
+            u: vec![0; b],
+            v: vec![0; 128 * b],
+            corrections: vec![0; shape.map_or(0, |shape| (shape.tau - 1) * b)],
+            opening: bytes(Shape::opening_bytes),
+            again_commitment: vec![0; 32],
+            again_tree: bytes(Shape::tree_bytes),
+            again_leaf_commitments: bytes(Shape::leaf_commitments_bytes),
+            q: vec![0; 128 * b],
+        }
+    }
+
+    /// Whether every call so far answered 0.
+    fn well(&self) -> bool {
+        self.answers.iter().all(|answer| answer.number == 0)
+    }
+
+    fn commit(&mut self, shape: Shape, row_bits: usize, root: &[u8], iv: &[u8]) {
+        self.answers.push(commit(
+            shape,
+            row_bits,
+            root,
+            iv,
+            &mut self.commitment,
+            &mut self.tree,
+            &mut self.leaf_commitments,
+            &mut self.u,
+            &mut self.v,
+            &mut self.corrections,
+        ));
+    }
+
+    fn open(&mut self, shape: Shape, challenge: &[u8]) {
+        if self.well() {
+            let (tree, coms) = (&self.tree, &self.leaf_commitments);
+            let answer = open(shape, challenge, tree, coms, &mut self.opening);
+            self.answers.push(answer);
+        }
+    }
+
+    fn reconstruct(&mut self, shape: Shape, row_bits: usize, iv: &[u8], challenge: &[u8]) {
+        if self.well() {
+            self.answers.push(reconstruct(
+                shape,
+                row_bits,
+                iv,
+                challenge,
+                &self.corrections,
+                &self.opening,
+                &mut self.again_commitment,
+                &mut self.again_tree,
+                &mut self.again_leaf_commitments,
+                &mut self.q,
+            ));
+        }
+    }
+
+    /// How many columns j have Q = V, or Q = V xor u where challenge bit j is 1.
+    fn columns_obeying(&self, challenge: &[u8]) -> usize {
+        let b = self.u.len();
+        let obeys = |j: &usize| {
+            let bit = challenge[j / 8] >> (j % 8) & 1;
+            (0..b).all(|n| self.q[j * b + n] == self.v[j * b + n] ^ (bit * self.u[n]))
+        };
+        (0..128).filter(obeys).count()
+    }
+}
+
+/// The arguments after the command, taken from the front.
+struct Arguments<'a>(std::slice::Iter<'a, String>);
+
+impl Arguments<'_> {
+    fn number(&mut self) -> Option<usize> {
+        self.0.next()?.parse().ok()
+    }
+
+    fn bytes(&mut self) -> Option<Vec<u8>> {
+        from_hex(self.0.next()?)
+    }
+
+    fn shape(&mut self) -> Option<Shape> {
+        Some(Shape {
+            tau: self.number()?,
+            k: self.number()?,
+            w: self.number()?,
+            t: self.number()?,
+        })
+    }
+
+    fn end(mut self) -> Option<()> {
+        self.0.next().is_none().then_some(())
+    }
+}
+
+/// The text to print, and whether all is well: only a round trip that does not
+/// come out as it must is not.
+type Outcome = (Vec<u8>, bool);
+
+/// `list`, with its line from the input.
+fn list_command(rest: Arguments, input: &mut impl Read) -> Option<Outcome> {
+    rest.end()?;
+    let mut line = Vec::new();
+    input.read_to_end(&mut line).ok()?;
+    Some((list(&line), true))
+}
+
+/// `decode` and `plan`.
+fn numbers_command(command: &str, mut rest: Arguments) -> Option<Outcome> {
+    let (shape, challenge) = (rest.shape()?, rest.bytes()?);
+    rest.end()?;
+    let meant = shape.resolve();
+    let (answer, line) = if command == "decode" {
+        let mut indices = vec![0; meant.map_or(0, |meant| meant.tau)];
+        let answer = decode(shape, &challenge, &mut indices);
+        (answer, list_line("indices", &indices))
+    } else {
+        let mut nodes = vec![0; meant.map_or(0, |meant| meant.t)];
+        let answer = plan(shape, &challenge, &mut nodes);
+        nodes.truncate(answer.count as usize);
+        (answer, list_line("nodes", &nodes))
+    };
+    let mut text = answer_lines(answer);
+    if answer.number == 0 {
+        text += &line;
+    }
+    Some((text.into_bytes(), true))
+}
+
+/// `commit`, `open`, `reconstruct` and `roundtrip`.
+fn bytes_command(command: &str, mut rest: Arguments) -> Option<Outcome> {
+    let (shape, row_bits) = (rest.shape()?, rest.number()?);
+    let (root, iv) = (rest.bytes()?, rest.bytes()?);
+    let challenge = match command {
+        "commit" => Vec::new(),
+        _ => rest.bytes()?,
+    };
+    rest.end()?;
+
+    let mut run = Run::new(shape, row_bits);
+    run.commit(shape, row_bits, &root, &iv);
+    if command != "commit" {
+        run.open(shape, &challenge);
+    }
+    if command == "reconstruct" || command == "roundtrip" {
+        run.reconstruct(shape, row_bits, &iv, &challenge);
+    }
+
+    let text = answer_lines(*run.answers.last()?);
+    if !run.well() {
+        return Some((text.into_bytes(), true));
+    }
+    let buffers: &[(&str, &[u8])] = match command {
+        "commit" => &[
+            ("commitment", &run.commitment),
+            ("tree", &run.tree),
+            ("leaf_commitments", &run.leaf_commitments),
+            ("u", &run.u),
+            ("v", &run.v),
+            ("corrections", &run.corrections),
+        ],
+        "open" => &[("opening", &run.opening)],
+        "reconstruct" => &[
+            ("commitment", &run.again_commitment),
+            ("tree", &run.again_tree),
+            ("leaf_commitments", &run.again_leaf_commitments),
+            ("q", &run.q),
+        ],
+        _ => {
+            let agree = run.commitment == run.again_commitment;
+            let columns = run.columns_obeying(&challenge);
+            let word = if agree { "agree" } else { "differ" };
+            let text = format!("{text}commitments {word}\ncolumns {columns} of 128\n");
+            return Some((text.into_bytes(), agree && columns == 128));
+        }
+    };
+    let lines = buffers.iter().map(|(name, bytes)| buffer_line(name, bytes));
+    Some((
+        lines.fold(text, |text, line| text + &line).into_bytes(),
+        true,
+    ))
+}
+
+/// Carries out a command; nothing where the arguments cannot be read.
+pub fn run(args: &[String], input: &mut impl Read) -> Option<Outcome> {
+    let (command, rest) = args.split_first()?;
+    let rest = Arguments(rest.iter());
+    match command.as_str() {
+        "list" => list_command(rest, input),
+        "decode" | "plan" => numbers_command(command, rest),
+        "commit" | "open" | "reconstruct" | "roundtrip" => bytes_command(command, rest),
+        _ => None,
+    }
+}

@@ -1,0 +1,230 @@
+#!/usr/bin/env python3
+"""Derives tests/known_answers.txt; run only when that file is to be made anew.
+
+Nothing here comes from src/: SHAKE128 is hashlib's, AES is that of the Python
+package `cryptography`, field elements are Python integers, and what is computed
+follows the definitions of document 01 word by word (a node is covered if it has
+a hidden leaf beneath it; column j is the xor of the rows whose entry has bit j
+set) and not the procedures of document 000's figures.
+
+usage: python3 tests/derive.py > tests/known_answers.txt
+"""
+
+import hashlib
+from cryptography.hazmat.primitives.ciphers import Cipher, algorithms, modes
+
+
+def shake(message, length):
+    return hashlib.shake_128(message).digest(length)
+
+
+def generator(key, iv, tweak, length):
+    words = [int.from_bytes(iv[n : n + 4], "little") for n in (0, 4, 8, 12)]
+    words[3] = (words[3] + tweak) % 2**32
+    blocks = b""
+    for counter in range((length + 15) // 16):
+        lower = (words[0] + counter) % 2**32
+        blocks += b"".join(w.to_bytes(4, "little") for w in [lower] + words[1:])
+    encryptor = Cipher(algorithms.AES(key), modes.ECB()).encryptor()
+    return encryptor.update(blocks)[:length]
+
+
+def times(a, b):
+    """The product in the field of 2^384 elements: carryless, then reduced."""
+    product = 0
+    while b:
+        if b & 1:
+            product ^= a
+        a <<= 1
+        b >>= 1
+    while product.bit_length() > 384:
+        top = product.bit_length() - 1
+        product ^= (1 << 384 | 1 << 12 | 1 << 3 | 1 << 2 | 1) << (top - 384)
+    return product
+
+
+class Shape:
+    def __init__(self, tau, k, w, t):
+        if (tau, k, w, t) == (0, 0, 0, 0):
+            tau, k, w, t = 11, 11, 7, 102
+        self.tau, self.k, self.w, self.t = tau, k, w, t
+        self.leaves = tau * 2**k
+        self.nodes = 2 * self.leaves - 1
+
+    def leaf(self, i, j):
+        return self.leaves - 1 + self.tau * j + i
+
+    def indices(self, challenge):
+        number = int.from_bytes(challenge, "little")
+        return [number >> (i * self.k) & (2**self.k - 1) for i in range(self.tau)]
+
+    def covered(self, challenge):
+        """The hidden leaves and every node above one."""
+        nodes = set()
+        for i, hidden in enumerate(self.indices(challenge)):
+            node = self.leaf(i, hidden)
+            nodes.add(node)
+            while node:
+                node = (node + 1) // 2 - 1
+                nodes.add(node)
+        return nodes
+
+    def revealed(self, challenge):
+        """Uncovered nodes with a covered parent; each parent has at most one
+        of them, so descending parents are descending nodes."""
+        covered = self.covered(challenge)
+        children = {2 * a + 1 for a in covered} | {2 * a + 2 for a in covered}
+        return sorted((a for a in children - covered if a < self.nodes), reverse=True)
+
+
+def xor(a, b):
+    return bytes(x ^ y for x, y in zip(a, b))
+
+
+class Signer:
+    """Everything that commit and open write."""
+
+    def __init__(self, shape, row_bits, root, iv):
+        s, self.shape, self.iv = shape, shape, iv
+        self.b = row_bits // 8
+        self.tree = {0: root}
+        for a in range(s.leaves - 1):
+            both = generator(self.tree[a], iv, a, 32)
+            self.tree[2 * a + 1], self.tree[2 * a + 2] = both[:16], both[16:]
+        keys = shake(iv + b"\x00", 48 * s.tau)
+        self.coms, self.rows = [], []
+        for i in range(s.tau):
+            key = int.from_bytes(keys[48 * i : 48 * i + 48], "little")
+            coms, rows = [], []
+            for j in range(2**s.k):
+                out = generator(self.tree[s.leaf(i, j)], iv, i + s.leaves - 1, 64)
+                high = times(key, int.from_bytes(out[:16], "little"))
+                coms.append(xor(high.to_bytes(48, "little"), out[16:]))
+                row = generator(out[:16], iv, i + 2**31, self.b)
+                rows.append(int.from_bytes(row, "little"))
+            self.coms.append(coms)
+            self.rows.append(rows)
+        tops = [shake(b"".join(coms) + b"\x01", 32) for coms in self.coms]
+        self.commitment = shake(b"".join(tops) + b"\x01", 32)
+
+    def sum(self, rows):
+        total = 0
+        for row in rows:
+            total ^= row
+        return total.to_bytes(self.b, "little")
+
+    def commit(self):
+        s = self.shape
+        us = [self.sum(rows) for rows in self.rows]
+        v = b""
+        for rows in self.rows:
+            for bit in range(s.k):
+                v += self.sum(r for e, r in enumerate(rows) if e >> bit & 1)
+        return [
+            ("commitment", self.commitment),
+            ("tree", b"".join(self.tree[a] for a in range(s.nodes))),
+            ("leaf_commitments", b"".join(b"".join(coms) for coms in self.coms)),
+            ("u", us[0]),
+            ("v", v.ljust(128 * self.b, b"\x00")),
+            ("corrections", b"".join(xor(us[0], u) for u in us[1:])),
+        ]
+
+    def open(self, challenge):
+        s = self.shape
+        hidden = s.indices(challenge)
+        opening = b"".join(self.coms[i][hidden[i]] for i in range(s.tau))
+        opening += b"".join(self.tree[a] for a in s.revealed(challenge))
+        return [("opening", opening.ljust(48 * s.tau + 16 * s.t, b"\x00"))]
+
+    def reconstruct(self, challenge):
+        """For an honest opening: the same tree but zeros where covered, and Q
+        from the rows under the numbers e xor the hidden index."""
+        s = self.shape
+        covered = s.covered(challenge)
+        us = [self.sum(rows) for rows in self.rows]
+        q = b""
+        for i, hidden in enumerate(s.indices(challenge)):
+            for bit in range(s.k):
+                rows = self.rows[i]
+                column = self.sum(
+                    r for e, r in enumerate(rows) if (e ^ hidden) >> bit & 1
+                )
+                if i and hidden >> bit & 1:
+                    column = xor(column, xor(us[0], us[i]))
+                q += column
+        return [
+            ("commitment", self.commitment),
+            (
+                "tree",
+                b"".join(
+                    bytes(16) if a in covered else self.tree[a]
+                    for a in range(s.nodes)
+                ),
+            ),
+            ("leaf_commitments", b"".join(b"".join(coms) for coms in self.coms)),
+            ("q", q.ljust(128 * self.b, b"\x00")),
+        ]
+
+
+def show(command, arguments, count, lines):
+    print("$", command, *arguments)
+    print("number 0")
+    print("count", count)
+    for name, value in lines:
+        if isinstance(value, list):
+            print(name, len(value), *value)
+        elif len(value) == 0:
+            print(name, 0)
+        elif len(value) <= 64:
+            print(name, len(value), value.hex())
+        else:
+            print(name, len(value), "shake128", shake(value, 32).hex())
+
+
+def challenge_for(shape, label):
+    """The first allowed challenge under this label that needs at most T nodes."""
+    for attempt in range(10**6):
+        number = int.from_bytes(shake(f"{label} {attempt}".encode(), 16), "little")
+        challenge = (number % 2 ** (128 - shape.w)).to_bytes(16, "little")
+        if len(shape.revealed(challenge)) <= shape.t:
+            return challenge
+    raise SystemExit(f"no challenge for {label}")
+
+
+CASES = [
+    # (tau, k, w, T), row length in bits, IV (None: any)
+    ((1, 1, 127, 1), 8, None),
+    ((1, 12, 116, 12), 136, None),
+    ((2, 2, 124, 4), 128, "ff" * 16),
+    ((3, 1, 125, 2), 1680, None),
+    ((5, 3, 113, 9), 65536, "fdffffff" + "00" * 8 + "f0ffffff"),
+    ((7, 5, 93, 30), 24, "ffffffff" + "00" * 8 + "ffffff7f"),
+    ((9, 7, 65, 40), 264, None),
+    ((32, 4, 0, 512), 1000, None),
+    ((16, 8, 0, 120), 72, None),
+    ((0, 0, 0, 0), 1680, None),
+    ((10, 12, 8, 110), 8, "ff" * 16),
+]
+
+
+def main():
+    print("# Derived by tests/derive.py with hashlib and the package cryptography.")
+    for numbers, row_bits, iv in CASES:
+        shape = Shape(*numbers)
+        label = " ".join(map(str, numbers))
+        root = shake(f"root {label}".encode(), 16)
+        iv = bytes.fromhex(iv) if iv else shake(f"iv {label}".encode(), 16)
+        challenge = challenge_for(shape, f"challenge {label}")
+        revealed = shape.revealed(challenge)
+        signer = Signer(shape, row_bits, root, iv)
+        short = [*numbers, challenge.hex()]
+        long = [*numbers, row_bits, root.hex(), iv.hex()]
+        show("decode", short, 0, [("indices", shape.indices(challenge))])
+        show("plan", short, len(revealed), [("nodes", revealed)])
+        show("commit", long, 0, signer.commit())
+        long.append(challenge.hex())
+        show("open", long, len(revealed), signer.open(challenge))
+        show("reconstruct", long, len(revealed), signer.reconstruct(challenge))
+
+
+main()

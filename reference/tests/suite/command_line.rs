@@ -1,0 +1,109 @@
+//! The program itself.
+
+use std::io::Write;
+use std::process::{Command, Stdio};
+
+/// Runs the program and gives its exit status and standard output.
+fn program(args: &str, input: &str) -> (i32, String) {
+    let mut child = Command::new(env!("CARGO_BIN_EXE_reference"))
+        .args(args.split_whitespace())
+        .stdin(Stdio::piped())
+        .stdout(Stdio::piped())
+        .stderr(Stdio::null())
+        .spawn()
+        .unwrap();
+    // A command that reads no input may have ended already.
+    let _ = child.stdin.take().unwrap().write_all(input.as_bytes());
+    let output = child.wait_with_output().unwrap();
+    let text = String::from_utf8(output.stdout).unwrap();
+    (output.status.code().unwrap(), text)
+}
+
+const ROOT: &str = "000102030405060708090a0b0c0d0e0f";
+const CHALLENGE_0C: &str = "0c000000000000000000000000000000";
+const CHALLENGE_10: &str = "10000000000000000000000000000000";
+
+#[test]
+fn list_and_plan() {
+    let nodes = "nodes 4\n13\n8\n5\n4\n";
+    let line = format!("2 2 124 4 {CHALLENGE_0C}\n");
+    assert_eq!(program("list", &line), (0, nodes.into()));
+    assert_eq!(program("list", ""), (0, "refused 7\n".into()));
+    assert_eq!(
+        program(&format!("plan 2 2 124 4 {CHALLENGE_0C}"), ""),
+        (0, "number 0\ncount 4\nnodes 4 13 8 5 4\n".into())
+    );
+    assert_eq!(
+        program(&format!("decode 2 2 124 4 {CHALLENGE_0C}"), ""),
+        (0, "number 0\ncount 0\nindices 2 0 3\n".into())
+    );
+}
+
+#[test]
+fn roundtrip() {
+    let expected = "number 0\ncount 4\ncommitments agree\ncolumns 128 of 128\n";
+    let args = format!("roundtrip 2 2 124 4 200 {ROOT} {ROOT} {CHALLENGE_0C}");
+    assert_eq!(program(&args, ""), (0, expected.into()));
+}
+
+#[test]
+fn refusals() {
+    let refused = |number: u32, count: u32| (0, format!("number {number}\ncount {count}\n"));
+    let short = &ROOT[2..];
+    for (rest, answer) in [
+        (
+            format!("2 2 123 4 200 {ROOT} {ROOT} {CHALLENGE_0C}"),
+            (1, 0),
+        ),
+        (
+            format!("2 2 124 4 201 {ROOT} {ROOT} {CHALLENGE_0C}"),
+            (2, 0),
+        ),
+        (
+            format!("2 2 124 4 200 {ROOT} {short} {CHALLENGE_0C}"),
+            (3, 0),
+        ),
+        (
+            format!("2 2 124 4 200 {short} {ROOT} {CHALLENGE_0C}"),
+            (3, 0),
+        ),
+        (format!("2 2 124 4 200 {ROOT} {ROOT} {short}"), (3, 0)),
+        (
+            format!("2 2 124 4 200 {ROOT} {ROOT} {CHALLENGE_10}"),
+            (4, 0),
+        ),
+        (
+            format!("2 2 124 3 200 {ROOT} {ROOT} {CHALLENGE_0C}"),
+            (5, 4),
+        ),
+    ] {
+        for command in ["open", "reconstruct", "roundtrip"] {
+            let output = program(&format!("{command} {rest}"), "");
+            assert_eq!(output, refused(answer.0, answer.1), "{command} {rest}");
+        }
+    }
+    let huge = format!("commit 2 2 124 4 {} {ROOT} {ROOT}", usize::MAX);
+    assert_eq!(program(&huge, ""), refused(2, 0));
+    let huge = format!("commit {0} 2 130 4 {0} {ROOT} {ROOT}", usize::MAX);
+    assert_eq!(program(&huge, ""), refused(1, 0));
+    let plan = format!("plan 2 2 124 3 {CHALLENGE_0C}");
+    assert_eq!(program(&plan, ""), refused(5, 4));
+}
+
+#[test]
+fn arguments_that_cannot_be_read() {
+    for args in [
+        String::new(),
+        "unknown 1 1 127 1 00".into(),
+        "list more".into(),
+        "plan 1 1 127 1".into(),
+        format!("plan 1 1 127 x {ROOT}"),
+        format!("plan 1 1 127 1 {ROOT} {ROOT}"),
+        format!("plan 1 1 127 1 {}", &ROOT[1..]),
+        "plan 1 1 127 1 zz".into(),
+        format!("commit 1 1 127 1 8 {ROOT}"),
+        format!("open 1 1 127 1 8 {ROOT} {ROOT}"),
+    ] {
+        assert_eq!(program(&args, ""), (2, String::new()), "{args}");
+    }
+}

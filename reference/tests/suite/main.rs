@@ -1,0 +1,14 @@
+//! The tests. What a call gives is compared with values derived otherwise:
+//! published examples, other implementations (see `tests/derive.py`), or the
+//! definitions of document 01 worked out anew in these files.
+
+mod command_line;
+mod examples;
+mod known_answers;
+mod limits;
+mod listing;
+mod primitives;
+mod proved_examples;
+mod refusals;
+mod roundtrip;
+mod support;

@@ -1,0 +1,192 @@
+//! AES, SHAKE128, the field, the generator and the hashes.
+
+use reference::bavc::leaf_hash;
+use reference::prg::{h0, h1, prg};
+use reference::shake::shake128;
+use reference::{aes, field, Block};
+
+use crate::support::hex;
+
+fn block(digits: &str) -> Block {
+    hex(digits).try_into().unwrap()
+}
+
+#[test]
+fn aes_of_fips_197_appendix_b() {
+    let keys = aes::key_expansion(&block("2b7e151628aed2a6abf7158809cf4f3c"));
+    // Appendix A.1: the last round key.
+    assert_eq!(keys[10], block("d014f9a8c9ee2589e13f0cc8b6630ca6"));
+    let output = aes::encrypt(&keys, &block("3243f6a8885a308d313198a2e0370734"));
+    assert_eq!(output, block("3925841d02dc09fbdc118597196a0b32"));
+}
+
+#[test]
+fn aes_of_fips_197_appendix_c_1() {
+    let keys = aes::key_expansion(&block("000102030405060708090a0b0c0d0e0f"));
+    let output = aes::encrypt(&keys, &block("00112233445566778899aabbccddeeff"));
+    assert_eq!(output, block("69c4e0d86a7b0430d8cdb78070b4c55a"));
+}
+
+#[test]
+fn aes_chained_a_thousand_times() {
+    // The same loop with AES-128 of the Python package cryptography.
+    let (mut key, mut text) = ([0; 16], [0; 16]);
+    for _ in 0..1000 {
+        (key, text) = (text, aes::encrypt(&aes::key_expansion(&key), &text));
+    }
+    assert_eq!(text, block("fdf42d6fc7a3aaee56d44e2053f50dbc"));
+}
+
+#[test]
+fn s_box_of_fips_197_figure_7() {
+    // Rows 0 and f of the table, and the example {53} -> {ed} of section 5.1.1.
+    let row = |r: u8| -> Vec<u8> { (0..16).map(|c| aes::s_box(16 * r + c)).collect() };
+    assert_eq!(row(0), hex("637c777bf26b6fc53001672bfed7ab76"));
+    assert_eq!(row(15), hex("8ca1890dbfe6426841992d0fb054bb16"));
+    assert_eq!(aes::s_box(0x53), 0xed);
+}
+
+#[test]
+fn shake128_of_nothing() {
+    // FIPS 202 example values, message of 0 bits.
+    let expected = "7f9c2ba4e88f827d616045507605853ed73b8093f6efbc88eb1a6eacfa66ef26";
+    assert_eq!(shake128(b"", 32), hex(expected));
+}
+
+#[test]
+fn shake128_of_1600_bits() {
+    // FIPS 202 example values, message of 1600 bits (200 bytes a3), output of
+    // 512 bytes: three blocks and a part. hashlib.shake_128 gives the same.
+    let output = shake128(&[0xa3; 200], 512);
+    assert_eq!(output.len(), 512);
+    assert_eq!(
+        output[..32],
+        hex("131ab8d2b594946b9c81333f9bb6e0ce75c3b93104fa3469d3917457385da037")
+    );
+    // Bytes 160 to 191, over the end of the first block of 168.
+    assert_eq!(
+        output[160..192],
+        hex("3f806445bf87f8b009ba9e94f7266122ed7ac24e5e266c42a82fa1bbefb7b8db")
+    );
+    assert_eq!(
+        output[480..],
+        hex("44c9fb359fd56ac0a9a75a743cff6862f17d7259ab075216c0699511643b6439")
+    );
+}
+
+#[test]
+fn shake128_of_every_length_up_to_400() {
+    // hashlib.shake_128: pattern = bytes(n % 251 for n in range(400)); the
+    // digest of all shake_128(pattern[:n]).digest(n) for n from 0 to 400.
+    let pattern: Vec<u8> = (0..400).map(|n| (n % 251) as u8).collect();
+    let all: Vec<u8> = (0..=400).flat_map(|n| shake128(&pattern[..n], n)).collect();
+    let expected = "d7c53b313c2092f1fb0cd0951ed5df2ccec18dc31f8612c5093cb7d772bcd71c";
+    assert_eq!(shake128(&all, 32), hex(expected));
+}
+
+/// Two elements and their product, from Python integers: carryless product,
+/// then division by α^384 + α^12 + α^3 + α^2 + 1.
+const A: &str = "ea8b8bba98aaeb8c2b3ee2888dea5c9c49fcf6af905d0865\
+                 d2477a1e7b423af64e7b38ef65170c0e5ae3c02e7d93db0d";
+const B: &str = "a681d3238bdb921adebd7234c533f71fcbe9ec9aa01554c9\
+                 e5f72713318bb6d3cb0953acf9ad352bfc46a839a683a856";
+const A_TIMES_B: &str = "a1623657d053b56ea004f04e3c754af85848df02826d28f4\
+                         0c00ce4640396e728992f777402b2cd094e2da53fb5b3058";
+
+#[test]
+fn field_product() {
+    let (a, b) = (field::to_field(&hex(A)), field::to_field(&hex(B)));
+    let expected: [u8; 48] = hex(A_TIMES_B).try_into().unwrap();
+    assert_eq!(field::to_bits(&field::product(&a, &b)), expected);
+    assert_eq!(field::to_bits(&field::product(&b, &a)), expected);
+}
+
+#[test]
+fn field_reduction_by_hand() {
+    // α^383 times α is α^12 + α^3 + α^2 + 1: bits 0, 2, 3 of byte 0, bit 4 of
+    // byte 1.
+    let mut top = [0; 48];
+    top[47] = 0x80;
+    let product = field::product(&field::to_field(&top), &field::to_field(&[2]));
+    let mut expected = [0; 48];
+    (expected[0], expected[1]) = (0b1101, 0b1_0000);
+    assert_eq!(field::to_bits(&product), expected);
+}
+
+#[test]
+fn field_has_order_2_to_the_384() {
+    // Squaring 384 times is the identity modulo an irreducible polynomial of
+    // that degree, and for this element no fewer squarings are.
+    let a = field::to_field(&hex(A));
+    let mut power = a;
+    for n in 1..=384 {
+        power = field::product(&power, &power);
+        assert_eq!(power == a, n == 384, "after {n} squarings");
+    }
+}
+
+#[test]
+fn leaf_hash_multiplies_then_adds() {
+    // h = A * x0 + x1 with x0 = α^127 + 1, by 127 doublings of A.
+    let uhash: [u8; 48] = hex(A).try_into().unwrap();
+    let x0 = block("01000000000000000000000000000080");
+    let mut doubled = uhash;
+    for _ in 0..127 {
+        let carry = doubled[47] >> 7;
+        for n in (1..48).rev() {
+            doubled[n] = doubled[n] << 1 | doubled[n - 1] >> 7;
+        }
+        doubled[0] = (doubled[0] << 1) ^ (0b1101 * carry);
+        doubled[1] ^= 0b1_0000 * carry;
+    }
+    let x1 = hex(B);
+    let expected: Vec<u8> = (0..48).map(|n| uhash[n] ^ doubled[n] ^ x1[n]).collect();
+    assert_eq!(leaf_hash(&uhash, &x0, &x1).to_vec(), expected);
+}
+
+#[test]
+fn generator_with_words_that_wrap() {
+    // AES-128-ECB of the Python package cryptography on the counter blocks. The
+    // counter word starts at 2^32 - 2, the tweak word at 2^32 - 1; 53 bytes and
+    // 1 byte end within a block.
+    let key = block("000102030405060708090a0b0c0d0e0f");
+    let iv = block("feffffff0102030405060708ffffffff");
+    for (tweak, expected) in [
+        (0, "59432d8e9b7de23b150fae0fc392c00a"),
+        (
+            1,
+            "1d2e853b1e2dc0f7b4aea651a5297bc9c8284adc47e0d1ffe6b8f8da034d847a\
+             790baa73fe258da3ae9794aec434a59a865c16f9029e1bc733511ee1bfe0aac4\
+             8294bddd08feabfc8a9c774bcefc9dc1",
+        ),
+        (
+            0x8000_0003,
+            "f39ff3badf181ce62d741457491cda3017a0d304d0c96ed611cf2cf41597d5c2\
+             e06ba8f4c989210be26d8b64465de3bcc12b3b681c",
+        ),
+        (0xffff_ffff, "fe"),
+    ] {
+        let expected = hex(expected);
+        assert_eq!(prg(&key, &iv, tweak, 8 * expected.len()), expected);
+    }
+}
+
+#[test]
+fn hashes_with_their_domain_bytes() {
+    // hashlib.shake_128(b"\x11" * 16 + b"\x00").digest(144) in three keys, and
+    // hashlib.shake_128(b"abc\x01").digest(32).
+    let keys = h0(&[0x11; 16], 3);
+    assert_eq!(keys.len(), 3);
+    assert_eq!(
+        keys.concat(),
+        hex(
+            "71170c9aefc009ae0a82bb104dd991f7722868288a03d56e7e09f68d16ae4deb\
+             0623cb75e888b55b4e2288496ff34accf2f0d283af88c731a9800f1c1f1a7588\
+             630e16b8d57e74335d3c77889e6f1c2bc671044b78c861a9c8162b1b5add08b0\
+             6418ee36e35dcebd669cf0c4534a67de3100cc78145ac012ec725b702acf36a8\
+             0d6e858cb13a65085a803db5cad397cf"
+        )
+    );
+    let expected = "3b988e5af2df3b23c26709fb4bbb3d404174087eabd536e3cfbf0d47450aff39";
+    assert_eq!(h1(b"abc").to_vec(), hex(expected));
+}

@@ -1,0 +1,350 @@
+//! The refusals: each of them, their order, and that nothing is written.
+
+use reference::calls::{commit, decode, open, plan, reconstruct, Answer};
+use reference::shape::Shape;
+
+use crate::support::{first_byte, noise};
+
+/// All that a call is lent: what it reads and what it writes.
+#[derive(Clone, PartialEq, Debug)]
+struct Lent {
+    shape: Shape,
+    row_bits: usize,
+    read: Vec<Vec<u8>>,
+    written: Vec<Vec<u8>>,
+    numbers: Vec<u32>,
+}
+
+/// A call, how its buffers are made for a shape and a challenge, the place of
+/// the challenge and of the opening among what it reads, and what it checks.
+struct Call {
+    name: &'static str,
+    lend: fn(Shape, &[u8]) -> Lent,
+    make: fn(&mut Lent) -> Answer,
+    challenge: Option<usize>,
+    opening: Option<usize>,
+    checks: &'static [u32],
+}
+
+const B: usize = 3;
+
+/// Buffers of these lengths, the written ones with a pattern in them.
+fn lend(shape: Shape, read: Vec<Vec<u8>>, written: &[usize], numbers: usize) -> Lent {
+    let pattern = |(n, &length): (usize, &usize)| noise(n as u64, length);
+    Lent {
+        shape,
+        row_bits: 8 * B,
+        read,
+        written: written.iter().enumerate().map(pattern).collect(),
+        numbers: (0..numbers as u32).map(|n| 0xabcd_0000 + n).collect(),
+    }
+}
+
+const CALLS: [Call; 5] = [
+    Call {
+        name: "decode",
+        lend: |shape, challenge| lend(shape, vec![challenge.to_vec()], &[], shape.tau),
+        make: |lent| decode(lent.shape, &lent.read[0], &mut lent.numbers),
+        challenge: Some(0),
+        opening: None,
+        checks: &[1, 3, 4],
+    },
+    Call {
+        name: "plan",
+        lend: |shape, challenge| lend(shape, vec![challenge.to_vec()], &[], shape.t),
+        make: |lent| plan(lent.shape, &lent.read[0], &mut lent.numbers),
+        challenge: Some(0),
+        opening: None,
+        checks: &[1, 3, 4, 5],
+    },
+    Call {
+        name: "commit",
+        lend: |shape, _| {
+            let l = shape.tau << shape.k;
+            let written = [
+                32,
+                16 * (2 * l - 1),
+                48 * l,
+                B,
+                128 * B,
+                (shape.tau - 1) * B,
+            ];
+            lend(shape, vec![noise(7, 16), noise(8, 16)], &written, 0)
+        },
+        make: |lent| {
+            let [commitment, tree, coms, u, v, corrections] = &mut lent.written[..] else {
+                unreachable!()
+            };
+            let (root, iv) = (&lent.read[0], &lent.read[1]);
+            commit(
+                lent.shape,
+                lent.row_bits,
+                root,
+                iv,
+                commitment,
+                tree,
+                coms,
+                u,
+                v,
+                corrections,
+            )
+        },
+        challenge: None,
+        opening: None,
+        checks: &[1, 2, 3],
+    },
+    Call {
+        name: "open",
+        lend: |shape, challenge| {
+            let l = shape.tau << shape.k;
+            let (tree, coms) = (noise(9, 16 * (2 * l - 1)), noise(10, 48 * l));
+            let read = vec![challenge.to_vec(), tree, coms];
+            lend(shape, read, &[48 * shape.tau + 16 * shape.t], 0)
+        },
+        make: |lent| {
+            let (tree, coms) = (&lent.read[1], &lent.read[2]);
+            open(lent.shape, &lent.read[0], tree, coms, &mut lent.written[0])
+        },
+        challenge: Some(0),
+        opening: None,
+        checks: &[1, 3, 4, 5],
+    },
+    Call {
+        name: "reconstruct",
+        lend: |shape, challenge| {
+            let l = shape.tau << shape.k;
+            let corrections = noise(11, (shape.tau - 1) * B);
+            // The unused slots are zero: at most two nodes are needed where
+            // the shape allows four (see `lent_with`).
+            let mut opening = noise(12, 48 * shape.tau + 32);
+            opening.resize(48 * shape.tau + 16 * shape.t, 0);
+            let read = vec![noise(8, 16), challenge.to_vec(), corrections, opening];
+            let written = [32, 16 * (2 * l - 1), 48 * l, 128 * B];
+            lend(shape, read, &written, 0)
+        },
+        make: |lent| {
+            let [commitment, tree, coms, q] = &mut lent.written[..] else {
+                unreachable!()
+            };
+            reconstruct(
+                lent.shape,
+                lent.row_bits,
+                &lent.read[0],
+                &lent.read[1],
+                &lent.read[2],
+                &lent.read[3],
+                commitment,
+                tree,
+                coms,
+                q,
+            )
+        },
+        challenge: Some(1),
+        opening: Some(3),
+        checks: &[1, 2, 3, 4, 5, 6],
+    },
+];
+
+/// Makes the call. The answer must be this one; with a refusal all that was
+/// lent must be as it was, with 0 every output must have lost its pattern.
+fn expect(call: &Call, lent: &Lent, answer: Answer, what: &str) {
+    let mut after = lent.clone();
+    assert_eq!((call.make)(&mut after), answer, "{} {what}", call.name);
+    if answer.number == 0 {
+        for (new, old) in after.written.iter().zip(&lent.written) {
+            assert!(old.is_empty() || new != old, "{} {what}", call.name);
+        }
+        let (new, old) = (&after.numbers, &lent.numbers);
+        assert!(old.is_empty() || new != old, "{} {what}", call.name);
+    } else {
+        assert_eq!(after, *lent, "{} {what}", call.name);
+    }
+}
+
+/// The challenge 00 needs 2 nodes at τ 2, k 2 (P3), the challenge 0c needs 4
+/// (P4).
+const NEEDED_00: u32 = 2;
+const NEEDED_0C: u32 = 4;
+
+/// Lends buffers on which exactly the conditions of this set hold, as far as
+/// the call knows them, and gives the planned count too. 5 and 6 cannot hold
+/// together, for with 5 there are no unused slots.
+fn lent_with(call: &Call, conditions: &[u32]) -> (Lent, u32) {
+    let holds = |number: u32| conditions.contains(&number);
+    let (byte, t, needed) = match holds(5) {
+        true => (0x0c, 3, NEEDED_0C),
+        false => (0x00, 4, NEEDED_00),
+    };
+    let mut lent = (call.lend)(Shape::new(2, 2, 124, t), &first_byte(byte));
+    if let (true, Some(opening)) = (holds(6), call.opening) {
+        *lent.read[opening].last_mut().unwrap() = 1;
+    }
+    if let (true, Some(challenge)) = (holds(4), call.challenge) {
+        lent.read[challenge][15] = 0x80;
+    }
+    if holds(3) {
+        match lent.written.last_mut() {
+            Some(buffer) => buffer.push(0x55),
+            None => lent.numbers.push(0x55),
+        }
+    }
+    if holds(2) {
+        lent.row_bits = 12;
+    }
+    if holds(1) {
+        lent.shape.k = 3;
+    }
+    (lent, needed)
+}
+
+#[test]
+fn every_set_of_conditions() {
+    for call in &CALLS {
+        for set in 0..64u32 {
+            let conditions: Vec<u32> = (1..=6).filter(|n| set >> (n - 1) & 1 == 1).collect();
+            if conditions.contains(&5) && conditions.contains(&6) {
+                continue;
+            }
+            let (lent, needed) = lent_with(call, &conditions);
+            let first = conditions
+                .iter()
+                .find(|number| call.checks.contains(number));
+            let number = first.copied().unwrap_or(0);
+            let counting = ["plan", "open", "reconstruct"].contains(&call.name);
+            let count = match number {
+                0 | 5 | 6 if counting => needed,
+                _ => 0,
+            };
+            expect(
+                call,
+                &lent,
+                Answer { number, count },
+                &format!("{conditions:?}"),
+            );
+        }
+    }
+}
+
+#[test]
+fn every_buffer_has_its_exact_length() {
+    let refused = Answer {
+        number: 3,
+        count: 0,
+    };
+    let changes: [fn(usize) -> usize; 4] = [|n| n.wrapping_sub(1), |n| n + 1, |_| 0, |n| 2 * n];
+    for call in &CALLS {
+        let (lent, _) = lent_with(call, &[]);
+        for change in changes {
+            for n in 0..lent.read.len() {
+                let mut other = lent.clone();
+                let length = change(other.read[n].len());
+                other.read[n].resize(length, 0);
+                expect(call, &other, refused, &format!("read {n}, {length} bytes"));
+            }
+            for n in 0..lent.written.len() {
+                let mut other = lent.clone();
+                let length = change(other.written[n].len());
+                other.written[n].resize(length, 0x77);
+                expect(
+                    call,
+                    &other,
+                    refused,
+                    &format!("written {n}, {length} bytes"),
+                );
+            }
+            if !lent.numbers.is_empty() {
+                let mut other = lent.clone();
+                let length = change(other.numbers.len());
+                other.numbers.resize(length, 0x77);
+                expect(call, &other, refused, &format!("{length} numbers"));
+            }
+        }
+    }
+}
+
+#[test]
+fn one_vector_has_no_corrections() {
+    let shape = Shape::new(1, 1, 127, 1);
+    for call in CALLS.iter().filter(|call| call.checks.contains(&2)) {
+        let mut lent = (call.lend)(shape, &first_byte(0));
+        if let Some(opening) = call.opening {
+            lent.read[opening].truncate(48 + 16);
+        }
+        let count = u32::from(call.name == "reconstruct");
+        expect(call, &lent, Answer { number: 0, count }, "no corrections");
+        match call.name {
+            "commit" => lent.written[5].push(0),
+            _ => lent.read[2].push(0),
+        }
+        let refused = Answer {
+            number: 3,
+            count: 0,
+        };
+        expect(call, &lent, refused, "a byte of corrections");
+    }
+}
+
+#[test]
+fn four_zeros_take_the_lengths_of_the_default() {
+    let zeros = Shape::new(0, 0, 0, 0);
+    let mut list = [0xabcd; 102];
+    assert_eq!(plan(zeros, &[0; 16], &mut list).number, 0);
+    assert_eq!(plan(zeros, &[0; 16], &mut []).number, 3);
+    assert_eq!(decode(zeros, &[0; 16], &mut list[..11]).number, 0);
+    assert_eq!(decode(zeros, &[0; 16], &mut list[..10]).number, 3);
+    assert_eq!(decode(zeros, &[0; 16], &mut []).number, 3);
+    // Bit 121 is the first of the seven grinding bits, bit 120 is not one.
+    let mut challenge = [0; 16];
+    challenge[15] = 0x02;
+    assert_eq!(decode(zeros, &challenge, &mut list[..11]).number, 4);
+    challenge[15] = 0x01;
+    assert_eq!(decode(zeros, &challenge, &mut list[..11]).number, 0);
+    assert_eq!(list[10], 1 << 10);
+}
+
+#[test]
+fn every_grinding_bit() {
+    // At τ 3, k 5, w 113 the bits from 15 on are grinding bits.
+    let shape = Shape::new(3, 5, 113, 512);
+    for bit in 0..128 {
+        let challenge = (1u128 << bit).to_le_bytes();
+        let expected = if bit < 15 { 0 } else { 4 };
+        let mut indices = [9; 3];
+        let number = decode(shape, &challenge, &mut indices).number;
+        assert_eq!(number, expected, "bit {bit}");
+        assert_eq!(plan(shape, &challenge, &mut [0; 512]).number, expected);
+        if expected == 4 {
+            assert_eq!(indices, [9; 3]);
+        }
+    }
+    // Without grinding bits every challenge is an allowed one.
+    let challenge = [0xff; 16];
+    assert_eq!(
+        plan(Shape::new(32, 4, 0, 512), &challenge, &mut [0; 512]).number,
+        0
+    );
+}
+
+#[test]
+fn every_byte_of_the_unused_slots() {
+    let call = &CALLS[4];
+    let (lent, _) = lent_with(call, &[]);
+    let used = 48 * 2 + 16 * 2;
+    let done = Answer {
+        number: 0,
+        count: NEEDED_00,
+    };
+    let refused = Answer {
+        number: 6,
+        count: NEEDED_00,
+    };
+    assert_eq!(lent.read[3].len(), used + 32);
+    for n in 0..used + 32 {
+        for bit in [0x01, 0x80] {
+            let mut other = lent.clone();
+            other.read[3][n] ^= bit;
+            let answer = if n < used { done } else { refused };
+            expect(call, &other, answer, &format!("byte {n} of the opening"));
+        }
+    }
+}

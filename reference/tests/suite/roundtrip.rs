@@ -1,0 +1,349 @@
+//! Commit, open and reconstruct one after another, and what each of them makes
+//! of bytes that no other call wrote.
+
+use reference::calls::{commit, open, reconstruct, Answer};
+use reference::prg::prg;
+use reference::shake::shake128;
+use reference::shape::Shape;
+use reference::Block;
+
+use crate::support::{allowed, covered, indices, noise, revealed};
+
+/// What commit writes.
+struct Signer {
+    commitment: Vec<u8>,
+    tree: Vec<u8>,
+    coms: Vec<u8>,
+    u: Vec<u8>,
+    v: Vec<u8>,
+    corrections: Vec<u8>,
+}
+
+/// What reconstruct writes.
+struct Verifier {
+    answer: Answer,
+    commitment: Vec<u8>,
+    tree: Vec<u8>,
+    coms: Vec<u8>,
+    q: Vec<u8>,
+}
+
+fn sign(shape: Shape, row_bits: usize, root: &[u8], iv: &[u8]) -> Signer {
+    let (l, b) = (shape.tau << shape.k, row_bits / 8);
+    let mut signer = Signer {
+        commitment: noise(1, 32),
+        tree: noise(2, 16 * (2 * l - 1)),
+        coms: noise(3, 48 * l),
+        u: noise(4, b),
+        v: noise(5, 128 * b),
+        corrections: noise(6, (shape.tau - 1) * b),
+    };
+    let answer = commit(
+        shape,
+        row_bits,
+        root,
+        iv,
+        &mut signer.commitment,
+        &mut signer.tree,
+        &mut signer.coms,
+        &mut signer.u,
+        &mut signer.v,
+        &mut signer.corrections,
+    );
+    assert_eq!(answer, Answer::done(0));
+    signer
+}
+
+fn opened(shape: Shape, challenge: &[u8], signer: &Signer) -> (Answer, Vec<u8>) {
+    let mut opening = noise(7, 48 * shape.tau + 16 * shape.t);
+    let answer = open(shape, challenge, &signer.tree, &signer.coms, &mut opening);
+    (answer, opening)
+}
+
+fn verify(
+    shape: Shape,
+    row_bits: usize,
+    iv: &[u8],
+    challenge: &[u8],
+    corrections: &[u8],
+    opening: &[u8],
+) -> Verifier {
+    let (l, b) = (shape.tau << shape.k, row_bits / 8);
+    let mut verifier = Verifier {
+        answer: Answer::done(0),
+        commitment: noise(11, 32),
+        tree: noise(12, 16 * (2 * l - 1)),
+        coms: noise(13, 48 * l),
+        q: noise(15, 128 * b),
+    };
+    verifier.answer = reconstruct(
+        shape,
+        row_bits,
+        iv,
+        challenge,
+        corrections,
+        opening,
+        &mut verifier.commitment,
+        &mut verifier.tree,
+        &mut verifier.coms,
+        &mut verifier.q,
+    );
+    verifier
+}
+
+fn bit(challenge: &[u8], n: usize) -> bool {
+    u128::from_le_bytes(challenge.try_into().unwrap()) >> n & 1 == 1
+}
+
+fn xor(a: &[u8], b: &[u8]) -> Vec<u8> {
+    a.iter().zip(b).map(|(x, y)| x ^ y).collect()
+}
+
+/// Document 01, demand 3: with T at least the count an opening is made and
+/// accepted, and commitments and columns fit; with less both give 5.
+fn round_trip(tau: usize, k: usize, w: usize, row_bits: usize, challenges: u64) {
+    let shape = Shape::new(tau, k, w, 512);
+    let seed = (tau << 8 | k) as u64;
+    let (root, iv) = (noise(seed, 16), noise(seed + 1, 16));
+    let signer = sign(shape, row_bits, &root, &iv);
+    let b = row_bits / 8;
+    for n in 0..challenges {
+        let bytes = match n {
+            0 => noise(seed + 2, 16),
+            1 => vec![0; 16],
+            2 => vec![0xff; 16],
+            _ => noise(seed + n, 16),
+        };
+        let challenge = allowed(&shape, &bytes);
+        let count = revealed(&shape, &challenge).len();
+
+        // One allowance too few.
+        if count > 1 {
+            let tight = Shape {
+                t: count - 1,
+                ..shape
+            };
+            let refused = Answer {
+                number: 5,
+                count: count as u32,
+            };
+            assert_eq!(opened(tight, &challenge, &signer).0, refused);
+            let opening = vec![0; 48 * tau + 16 * tight.t];
+            let corrections = &signer.corrections;
+            let verifier = verify(tight, row_bits, &iv, &challenge, corrections, &opening);
+            assert_eq!(verifier.answer, refused);
+        }
+
+        // Just enough, and more than enough.
+        for t in [count, count + 3] {
+            let shape = Shape { t, ..shape };
+            let (answer, opening) = opened(shape, &challenge, &signer);
+            assert_eq!(answer, Answer::done(count), "{shape:?}");
+            let corrections = &signer.corrections;
+            let verifier = verify(shape, row_bits, &iv, &challenge, corrections, &opening);
+            assert_eq!(verifier.answer, Answer::done(count), "{shape:?}");
+            assert_eq!(verifier.commitment, signer.commitment, "{shape:?}");
+            assert_eq!(verifier.coms, signer.coms, "{shape:?}");
+            for (node, covered) in covered(&shape, &challenge).into_iter().enumerate() {
+                let place = 16 * node..16 * node + 16;
+                let expected = match covered {
+                    true => &[0; 16],
+                    false => &signer.tree[place.clone()],
+                };
+                assert_eq!(&verifier.tree[place], expected, "{shape:?} node {node}");
+            }
+            for j in 0..128 {
+                let place = b * j..b * (j + 1);
+                let v = signer.v[place.clone()].to_vec();
+                let expected = match bit(&challenge, j) {
+                    true => xor(&v, &signer.u),
+                    false => v,
+                };
+                assert_eq!(verifier.q[place], expected, "{shape:?} column {j}");
+            }
+        }
+    }
+}
+
+#[test]
+fn small_shapes() {
+    round_trip(1, 1, 127, 8, 4);
+    round_trip(1, 5, 123, 72, 8);
+    round_trip(2, 2, 124, 128, 16);
+    round_trip(3, 1, 125, 1680, 8);
+    round_trip(5, 6, 98, 200, 8);
+    round_trip(13, 3, 89, 264, 8);
+    round_trip(31, 1, 97, 16, 8);
+    round_trip(32, 4, 0, 136, 8);
+}
+
+#[test]
+fn rows_of_every_remainder() {
+    // 1 to 33 bytes: whole blocks and every uneven last block.
+    for b in 1..=33 {
+        round_trip(2, 1, 126, 8 * b, 2);
+    }
+}
+
+#[test]
+fn longest_rows() {
+    round_trip(4, 2, 120, 65_536, 4);
+}
+
+#[test]
+fn large_shapes() {
+    round_trip(16, 8, 0, 1680, 3);
+    round_trip(11, 11, 7, 1680, 1);
+    round_trip(10, 12, 8, 24, 1);
+    round_trip(1, 12, 116, 24, 3);
+}
+
+#[test]
+fn vectors_do_not_share_their_leaves() {
+    // No two nodes, no two leaf commitments and no two columns are alike.
+    let shape = Shape::new(7, 3, 107, 512);
+    let signer = sign(shape, 1680, &noise(30, 16), &noise(31, 16));
+    let distinct = |bytes: &[u8], size: usize| {
+        let mut parts: Vec<&[u8]> = bytes.chunks_exact(size).collect();
+        parts.sort_unstable();
+        parts.dedup();
+        parts.len()
+    };
+    assert_eq!(distinct(&signer.tree, 16), 2 * 56 - 1);
+    assert_eq!(distinct(&signer.coms, 48), 56);
+    // The 21 columns and the zero one.
+    assert_eq!(distinct(&signer.v, 210), 22);
+    assert_eq!(distinct(&signer.corrections, 210), 6);
+    assert!(signer.v[21 * 210..].iter().all(|&byte| byte == 0));
+}
+
+#[test]
+fn columns_by_their_definition() {
+    // Column j of vector i is the xor of the rows whose entry has bit j set, u
+    // is the xor of all rows of vector 0, correction i that of u_0 and u_i. The
+    // seed of a leaf is the first 16 bytes it is stretched to.
+    let (shape, row_bits) = (Shape::new(3, 4, 116, 512), 200);
+    let iv: Block = noise(21, 16).try_into().unwrap();
+    let signer = sign(shape, row_bits, &noise(20, 16), &iv);
+    let l = 3 << 4;
+    let row = |i: usize, j: usize| {
+        let at = 16 * (l - 1 + 3 * j + i);
+        let leaf: Block = signer.tree[at..at + 16].try_into().unwrap();
+        let seed = prg(&leaf, &iv, (i + l - 1) as u32, 128).try_into().unwrap();
+        prg(&seed, &iv, i as u32 + 0x8000_0000, row_bits)
+    };
+    let sum = |i: usize, chosen: &dyn Fn(usize) -> bool| {
+        let rows = (0..16).filter(|&j| chosen(j)).map(|j| row(i, j));
+        rows.fold(vec![0; 25], |sum, row| xor(&sum, &row))
+    };
+    assert_eq!(signer.u, sum(0, &|_| true));
+    for i in 0..3 {
+        for j in 0..4 {
+            let at = 25 * (4 * i + j);
+            assert_eq!(signer.v[at..at + 25], sum(i, &|entry| entry >> j & 1 == 1));
+        }
+        if i > 0 {
+            let at = 25 * (i - 1);
+            let expected = xor(&signer.u, &sum(i, &|_| true));
+            assert_eq!(signer.corrections[at..at + 25], expected);
+        }
+    }
+}
+
+#[test]
+fn opening_of_any_tree() {
+    // The tree and the leaf commitments are noise: the opening is parts of them
+    // in their order, whatever else is in the tree.
+    let shape = Shape::new(9, 5, 83, 60);
+    let l = 9 << 5;
+    let challenge = allowed(&shape, &noise(40, 16));
+    let mut signer = Signer {
+        commitment: vec![],
+        tree: noise(41, 16 * (2 * l - 1)),
+        coms: noise(42, 48 * l),
+        u: vec![],
+        v: vec![],
+        corrections: vec![],
+    };
+    let hidden = indices(&shape, &challenge);
+    let nodes = revealed(&shape, &challenge);
+    let com = |i: usize| 48 * (32 * i + hidden[i]);
+    let mut expected = Vec::new();
+    for i in 0..9 {
+        expected.extend_from_slice(&signer.coms[com(i)..com(i) + 48]);
+    }
+    for node in &nodes {
+        expected.extend_from_slice(&signer.tree[16 * node..16 * node + 16]);
+    }
+    assert!(nodes.len() < 60);
+    expected.resize(48 * 9 + 16 * 60, 0);
+    let (answer, opening) = opened(shape, &challenge, &signer);
+    assert_eq!(answer, Answer::done(nodes.len()));
+    assert_eq!(opening, expected);
+
+    // Another signer that agrees on just these parts.
+    for node in (0..2 * l - 1).filter(|node| !nodes.contains(node)) {
+        signer.tree[16 * node..16 * node + 16].fill(0xee);
+    }
+    for (n, part) in signer.coms.chunks_exact_mut(48).enumerate() {
+        if hidden[n / 32] != n % 32 {
+            part.fill(0xee);
+        }
+    }
+    let again = opened(shape, &challenge, &signer);
+    assert_eq!(again, (answer, expected));
+}
+
+#[test]
+fn reconstruction_of_any_opening() {
+    // The opening and the corrections are noise.
+    let (shape, row_bits) = (Shape::new(6, 4, 104, 64), 136);
+    let iv = noise(50, 16);
+    let challenge = allowed(&shape, &noise(51, 16));
+    let hidden = indices(&shape, &challenge);
+    let nodes = revealed(&shape, &challenge);
+    let mut opening = noise(52, 48 * 6 + 16 * nodes.len());
+    opening.resize(48 * 6 + 16 * 64, 0);
+    let corrections = noise(53, 5 * 17);
+    let made = verify(shape, row_bits, &iv, &challenge, &corrections, &opening);
+    assert_eq!(made.answer, Answer::done(nodes.len()));
+
+    // Revealed nodes and hidden leaf commitments are those of the opening.
+    for (n, node) in nodes.iter().enumerate() {
+        let at = 48 * 6 + 16 * n;
+        assert_eq!(
+            made.tree[16 * node..16 * node + 16],
+            opening[at..at + 16],
+            "node {node}"
+        );
+    }
+    for i in 0..6 {
+        let at = 48 * (16 * i + hidden[i]);
+        assert_eq!(made.coms[at..at + 48], opening[48 * i..48 * i + 48]);
+    }
+    for (node, covered) in covered(&shape, &challenge).into_iter().enumerate() {
+        let zero = made.tree[16 * node..16 * node + 16] == [0; 16];
+        assert_eq!(zero, covered, "node {node}");
+    }
+
+    // The commitment is SHAKE128 twice, with the byte 1 after the message.
+    let hash = |message: &[u8]| shake128(&[message, &[1]].concat(), 32);
+    let answers: Vec<Vec<u8>> = made.coms.chunks_exact(48 * 16).map(hash).collect();
+    assert_eq!(made.commitment, hash(&answers.concat()));
+
+    // A correction enters the columns of its vector whose bit is 1, only Q
+    // depends on it, and vector 0 has none.
+    let plain = verify(shape, row_bits, &iv, &challenge, &[0; 5 * 17], &opening);
+    assert_eq!(plain.commitment, made.commitment);
+    assert_eq!((&plain.tree, &plain.coms), (&made.tree, &made.coms));
+    for j in 0..128 {
+        let place = 17 * j..17 * j + 17;
+        let difference = xor(&plain.q[place.clone()], &made.q[place]);
+        let i = j / 4;
+        let expected = match (1..6).contains(&i) && bit(&challenge, j) {
+            true => corrections[17 * (i - 1)..17 * i].to_vec(),
+            false => vec![0; 17],
+        };
+        assert_eq!(difference, expected, "column {j}");
+    }
+}

@@ -1,0 +1,75 @@
+//! Bytes to try, and document 01's definitions of covered and revealed nodes.
+
+use reference::cli;
+use reference::shape::Shape;
+
+/// Bytes that look random: SplitMix64 from a seed.
+pub fn noise(seed: u64, length: usize) -> Vec<u8> {
+    let word = |n: u64| {
+        let mut z = (seed << 32 | n).wrapping_mul(0x9e37_79b9_7f4a_7c15);
+        z = (z ^ z >> 30).wrapping_mul(0xbf58_476d_1ce4_e5b9);
+        z = (z ^ z >> 27).wrapping_mul(0x94d0_49bb_1331_11eb);
+        z ^ z >> 31
+    };
+    let words = (1..=length.div_ceil(8) as u64).flat_map(|n| word(n).to_le_bytes());
+    words.take(length).collect()
+}
+
+/// The challenge with this first byte and zeros after it.
+pub fn first_byte(byte: u8) -> Vec<u8> {
+    let mut challenge = vec![0; 16];
+    challenge[0] = byte;
+    challenge
+}
+
+/// These 16 bytes with the grinding bits of the shape set to 0.
+pub fn allowed(shape: &Shape, bytes: &[u8]) -> Vec<u8> {
+    let number = u128::from_le_bytes(bytes.try_into().unwrap());
+    let kept = number << shape.w >> shape.w;
+    kept.to_le_bytes().to_vec()
+}
+
+/// The hidden indices, from the challenge as one number.
+pub fn indices(shape: &Shape, challenge: &[u8]) -> Vec<usize> {
+    let number = u128::from_le_bytes(challenge.try_into().unwrap());
+    let index = |i: usize| (number >> (i * shape.k)) as usize % (1 << shape.k);
+    (0..shape.tau).map(index).collect()
+}
+
+/// A node is covered if it is a hidden leaf or has a hidden leaf beneath it.
+pub fn covered(shape: &Shape, challenge: &[u8]) -> Vec<bool> {
+    fn cover(node: usize, leaves: usize, hidden: &[usize], marks: &mut Vec<bool>) -> bool {
+        marks[node] = if node < leaves - 1 {
+            let left = cover(2 * node + 1, leaves, hidden, marks);
+            let right = cover(2 * node + 2, leaves, hidden, marks);
+            left || right
+        } else {
+            hidden.contains(&node)
+        };
+        marks[node]
+    }
+    let leaves = shape.tau << shape.k;
+    let entries = indices(shape, challenge).into_iter().enumerate();
+    let hidden: Vec<usize> = entries
+        .map(|(i, j)| leaves - 1 + shape.tau * j + i)
+        .collect();
+    let mut marks = vec![false; 2 * leaves - 1];
+    cover(0, leaves, &hidden, &mut marks);
+    marks
+}
+
+/// The revealed nodes: those not covered whose parent is, by falling parent.
+pub fn revealed(shape: &Shape, challenge: &[u8]) -> Vec<usize> {
+    let marks = covered(shape, challenge);
+    let uncovered = (1..marks.len()).filter(|&node| !marks[node]);
+    let mut nodes: Vec<usize> = uncovered
+        .filter(|&node| marks[node.div_ceil(2) - 1])
+        .collect();
+    nodes.sort_by_key(|&node| std::cmp::Reverse(node.div_ceil(2)));
+    nodes
+}
+
+/// The bytes of a hexadecimal string, spaces left out.
+pub fn hex(digits: &str) -> Vec<u8> {
+    cli::from_hex(&digits.replace(' ', "")).unwrap()
+}

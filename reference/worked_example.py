@@ -1,0 +1,179 @@
+#!/usr/bin/env python3
+"""The worked example of crates/spec/proofs/WorkedExample.antt, derived from document 000 with stand-in primitives.
+
+    worked_example.py            prints each list by its name
+    worked_example.py FILE       compares them with the lists of the same names in FILE; exit status 1 where one differs or is missing
+
+Commit, open and reconstruct follow figures 5.4, 5.5, 5.8 and 5.9 at the shape 2, 2, 124, 4, with rows of 2 bytes. The generator, the two hashes and the
+leaf hash are simple sums in place of AES, SHAKE and the field, so that a prover can compute the whole example.
+"""
+import re
+import sys
+from functools import reduce
+
+TAU, K, W, T, B = 2, 2, 124, 4, 2
+N = 1 << K
+L = TAU * N
+ROOT = [(7 * i + 1) % 256 for i in range(16)]
+IV = [(11 * i + 3) % 256 for i in range(16)]
+CHALLENGE = [0x0C] + [0] * 15
+
+
+# ---- the stand-in primitives
+
+def weight(xs):
+    return sum((i + 1) * x for i, x in enumerate(xs))
+
+
+def prg(key, tweak, n):
+    a = weight(key) + 7 * tweak + weight(IV)
+    return [(a + 13 * p + a // 256 * p * p) % 256 for p in range(n)]
+
+
+def h0(message, n):
+    return [(weight(message) + 3 * p) % 256 for p in range(n)]
+
+
+def h1(message):
+    a = weight(message)
+    return [(a + a // 256 * (p + 1)) % 256 for p in range(32)]
+
+
+def leaf_hash(u, x0, x1):
+    return [b ^ (u[p] + x0[p % 16]) % 256 for p, b in enumerate(x1)]
+
+
+# ---- shared by both halves
+
+def joined(parts):
+    return [byte for part in parts for byte in part]
+
+
+def xor(a, b):
+    return [x ^ y for x, y in zip(a, b)]
+
+
+def pos_in_tree(i, j):
+    return L - 1 + TAU * j + i
+
+
+def hidden_indices():
+    bits = [CHALLENGE[b // 8] >> b % 8 & 1 for b in range(128)]
+    return [sum(bits[i * K + j] << j for j in range(K)) for i in range(TAU)]
+
+
+def leaf_commit(key, i):
+    uhash = h0(IV, 48 * TAU)[48 * i:48 * i + 48]
+    stretched = prg(key, i + L - 1, 64)
+    return stretched[:16], leaf_hash(uhash, stretched[:16], stretched[16:])
+
+
+def hashed(coms):
+    return h1(joined(h1(joined(vector)) for vector in coms))
+
+
+def convert_to_vole(seeds, i):
+    """Section 5.4 by halving; a seed that is None counts as a row of zeros."""
+    rows = [[0] * B if seed is None else prg(seed, i + 2**31, B) for seed in seeds]
+    columns = []
+    while len(rows) > 1:
+        columns.append(reduce(xor, rows[1::2]))
+        rows = [xor(rows[e], rows[e + 1]) for e in range(0, len(rows), 2)]
+    return rows[0], columns
+
+
+# ---- the three algorithms
+
+def commit():
+    nodes = [ROOT] + [None] * (2 * L - 2)
+    for a in range(L - 1):
+        both = prg(nodes[a], a, 32)
+        nodes[2 * a + 1], nodes[2 * a + 2] = both[:16], both[16:]
+    leaves = [[leaf_commit(nodes[pos_in_tree(i, j)], i) for j in range(N)] for i in range(TAU)]
+    coms = [[com for _, com in vector] for vector in leaves]
+    voles = [convert_to_vole([seed for seed, _ in vector], i) for i, vector in enumerate(leaves)]
+    return {
+        'signer-commitment': hashed(coms),
+        'signer-tree': joined(nodes),
+        'signer-leaf-commitments': joined(joined(vector) for vector in coms),
+        'signer-u': voles[0][0],
+        'signer-v': joined(joined(columns) for _, columns in voles) + [0] * (W * B),
+        'signer-corrections': joined(xor(voles[0][0], u) for u, _ in voles[1:]),
+    }
+
+
+def marked():
+    """S of figures 5.4 and 5.5, and the nodes that an opening has, in order."""
+    s = [0] * (2 * L - 1)
+    for i, delta in enumerate(hidden_indices()):
+        s[pos_in_tree(i, delta)] = 1
+    nodes = []
+    for a in reversed(range(L - 1)):
+        s[a] = s[2 * a + 1] | s[2 * a + 2]
+        if s[2 * a + 1] != s[2 * a + 2]:
+            nodes.append(2 * a + 1 + s[2 * a + 1])
+    return s, nodes
+
+
+def opened(tree, coms):
+    out = []
+    for i, delta in enumerate(hidden_indices()):
+        at = 48 * (N * i + delta)
+        out += coms[at:at + 48]
+    for a in marked()[1]:
+        out += tree[16 * a:16 * a + 16]
+    return out + [0] * (48 * TAU + 16 * T - len(out))
+
+
+def reconstruct(opening, corrections):
+    s, given = marked()
+    nodes = [[0] * 16 for _ in s]
+    for m, a in enumerate(given):
+        nodes[a] = opening[48 * TAU + 16 * m:48 * TAU + 16 * m + 16]
+    for a in range(L - 1):
+        if not s[a]:
+            both = prg(nodes[a], a, 32)
+            nodes[2 * a + 1], nodes[2 * a + 2] = both[:16], both[16:]
+    coms, q = [], []
+    for i, delta in enumerate(hidden_indices()):
+        leaves = [leaf_commit(nodes[pos_in_tree(i, j)], i) for j in range(N)]
+        coms.append([opening[48 * i:48 * i + 48] if j == delta else leaves[j][1] for j in range(N)])
+        permuted = [None] + [leaves[e ^ delta][0] for e in range(1, N)]
+        _, columns = convert_to_vole(permuted, i)
+        if i > 0:
+            c = corrections[B * (i - 1):B * i]
+            columns = [xor(column, c) if delta >> j & 1 else column for j, column in enumerate(columns)]
+        q += joined(columns)
+    return {
+        'verifier-commitment': hashed(coms),
+        'verifier-tree': joined(nodes),
+        'verifier-leaf-commitments': joined(joined(vector) for vector in coms),
+        'verifier-q': q + [0] * (W * B),
+    }
+
+
+def example():
+    lists = {'root': ROOT, 'iv': IV, 'challenge': CHALLENGE}
+    lists.update(commit())
+    lists['opening'] = opened(lists['signer-tree'], lists['signer-leaf-commitments'])
+    lists.update(reconstruct(lists['opening'], lists['signer-corrections']))
+    return lists
+
+
+def main():
+    lists = example()
+    if len(sys.argv) == 1:
+        for name, xs in lists.items():
+            print(name, '=', ' ∷ '.join(map(str, xs)), '∷ []')
+        return
+    text = open(sys.argv[1], encoding='utf-8').read()
+    wrong = []
+    for name, xs in lists.items():
+        found = re.search(rf'^{name} =([\d\s∷]+)\[\]$', text, re.M)
+        if not found or [int(x) for x in re.findall(r'\d+', found.group(1))] != xs:
+            wrong.append(name)
+    print(f'worked example: {len(lists) - len(wrong)} of {len(lists)} lists as derived' + ''.join(f'; wrong: {n}' for n in wrong))
+    sys.exit(bool(wrong))
+
+
+main()
