@@ -19,7 +19,7 @@ use Rattle.laws.proofs.Lists.{length-tabulate, is-tabulate}
 use Rattle.laws.proofs.Concat.{even-length, concat-byte}
 use Rattle.laws.proofs.Tables.{allBelow, at-below}
 use Rattle.laws.proofs.Polynomials.{product-lt, remainder-lt, remainder-multiple, remainder-unique}
-use Rattle.tree_laws.proofs.Count.{count-covered}
+use Rattle.planning_laws.proofs.Count.{count-covered}
 use Rattle.theorems.specs.Standards.{SboxInverse, FieldProduct, Gf256Product, LeafHashProduct, SpongeBlocks, CountOfCovered}
 
 -- ---- the inverse

@@ -12,7 +12,7 @@ use Rattle.spec.specs.Gf256.{mul, inverse}
 use Rattle.spec.specs.Sponge.{stateByte, absorbedAll, permuted, sponge}
 use Rattle.spec.specs.Tree.{nodeCount}
 use Rattle.spec.specs.Shapes.{fieldWidth, fieldPolynomial}
-use Rattle.tree_laws.specs.Lists.{Leaves, WithoutDuplicates, coveredCount}
+use Rattle.planning_laws.specs.Lists.{Leaves, WithoutDuplicates, coveredCount}
 
 -- FIPS 197, section 4.4: the inverse of a byte other than 0, times that byte, is 1
 abbrev pub SboxInverse : Type 0

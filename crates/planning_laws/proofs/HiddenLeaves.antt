@@ -1,0 +1,71 @@
+-- The hidden leaves of a shape and a challenge are leaves of its tree, one for each vector, and distinct: leaf numbers of different vectors differ modulo
+-- tau. By induction on the vectors. Assumes nothing.
+use Prim.Native.Nat.{ℕ, zero, suc, _+_, _-_, _*_, _^_, _≤_, _<_}
+use mathlib.Core.Path.{_≡_, refl, sym, ap, ap₂, _∙_}
+use mathlib.Core.Bool.{Bool, true, false, _||_}
+use mathlib.Core.List.{List, [], _∷_}
+use native.Mathlib.Omega.{arith}
+use native.Mathlib.Decide.{decLt}
+use lib.Dec.{eqb}
+use lib.ListN.{length}
+use borrow.Author.Tests.{ne-eqb}
+use Rattle.spec.specs.declared.Shape.{Shape}
+use Rattle.spec.specs.Bytes.{tabulate}
+use Rattle.spec.specs.Tree.{some}
+use Rattle.spec.specs.Shapes.{depthOf, firstBit, leaves, leafOf, hiddenIndex, hiddenLeaf, hiddenLeaves}
+use Rattle.laws.proofs.Lists.{length-tabulate}
+use Rattle.planning_laws.specs.Lists.{Leaves, WithoutDuplicates}
+use Rattle.planning_laws.proofs.Bits.{index-lt}
+use Rattle.planning_laws.proofs.ShapeFacts.{ShapeFacts, interleaved-lt, leaves-pos}
+
+pub hidden-count : (s : Shape) (ch : List ℕ) → length (hiddenLeaves s ch) ≡ s .tau
+unfolding hiddenLeaves
+hidden-count s ch = length-tabulate (s .tau) (hiddenLeaf s ch)
+
+-- an entry of a vector is a leaf
+pub leaf-of-entry : (s : Shape) (i j : ℕ) → i < s .tau → j < 2 ^ s .k → (leaves s ≤ leafOf s i j + 1) × (leafOf s i j + 1 < 2 * leaves s)
+unfolding leafOf leaves
+leaf-of-entry s i j h l = (let q = interleaved-lt (s .tau) (2 ^ s .k) j i l h in (omega arith, omega arith))
+
+pub hidden-index-lt : (s : Shape) (ch : List ℕ) (i : ℕ) → hiddenIndex s ch i < 2 ^ s .k
+unfolding hiddenIndex depthOf
+hidden-index-lt s ch i = index-lt ch (firstBit s i) (s .k)
+
+tabulated-leaves : (L : ℕ) (f : ℕ → ℕ) (n : ℕ) → ((i : ℕ) → i < n → (L ≤ f i + 1) × (f i + 1 < 2 * L)) → Leaves L (tabulate n f)
+unfolding tabulate
+tabulated-leaves L f zero h = tt
+tabulated-leaves L f (suc n) h = (h 0 (omega arith) .0, h 0 (omega arith) .1, tabulated-leaves L (λ i. f (suc i)) n (λ i l. h (suc i) (omega arith)))
+
+pub hidden-leaves : (s : Shape) (ch : List ℕ) → Leaves (leaves s) (hiddenLeaves s ch)
+unfolding hiddenLeaves hiddenLeaf
+hidden-leaves s ch =
+    tabulated-leaves (leaves s) (hiddenLeaf s ch) (s .tau) (λ i l. leaf-of-entry s i (hiddenIndex s ch i) l (hidden-index-lt s ch i))
+
+-- ---- distinct
+
+apart : (tau L b c j k : ℕ) → j < k → k < tau → L + tau * b + j ≡ L + tau * c + k → ⊥
+apart tau L b c j k h l e = go (decLt b c) (decLt c b)
+  where
+    go : Dec (b < c) → Dec (c < b) → ⊥
+    go (yes p) d = (let z = interleaved-lt tau c b j p (omega arith) in omega arith)
+    go (no p) (yes q) = (let z = interleaved-lt tau b c k q l in omega arith)
+    go (no p) (no q) = (let z : b ≡ c = omega arith in let w : L + tau * c + j ≡ L + tau * c + k = rw z at e in omega arith)
+
+absent : (f : ℕ → ℕ) (x n : ℕ) → ((i : ℕ) → i < n → x ≡ f i → ⊥) → some (eqb x) (tabulate n f) ≡ false
+unfolding tabulate some
+absent f x zero h = refl
+absent f x (suc n) h = ap₂ _||_ (ne-eqb x (f 0) (h 0 (omega arith))) (absent (λ i. f (suc i)) x n (λ i l. h (suc i) (omega arith)))
+
+distinct : (f : ℕ → ℕ) (n : ℕ) → ((j k : ℕ) → j < k → k < n → f j ≡ f k → ⊥) → WithoutDuplicates (tabulate n f)
+unfolding tabulate
+distinct f zero h = tt
+distinct f (suc n) h = (
+  absent (λ i. f (suc i)) (f 0) n (λ i l. h 0 (suc i) (omega arith) (omega arith)),
+  distinct (λ i. f (suc i)) n (λ j k a b. h (suc j) (suc k) (omega arith) (omega arith)),
+)
+
+pub hidden-distinct : (s : Shape) (ch : List ℕ) → WithoutDuplicates (hiddenLeaves s ch)
+unfolding hiddenLeaves hiddenLeaf leafOf
+hidden-distinct s ch =
+    distinct (λ i. leaves s - 1 + s .tau * hiddenIndex s ch i + i) (s .tau)
+    (λ j k a b. apart (s .tau) (leaves s - 1) (hiddenIndex s ch j) (hiddenIndex s ch k) j k a b)

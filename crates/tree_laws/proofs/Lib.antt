@@ -1,3 +1,0 @@
-pub mod Ancestors
-pub mod Covered
-pub mod Count
