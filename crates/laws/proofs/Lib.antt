@@ -6,3 +6,6 @@ pub mod Front
 pub mod Concat
 pub mod Numbers
 pub mod Polynomials
+pub mod FieldProduct
+pub mod Limbs
+pub mod Prefixes
