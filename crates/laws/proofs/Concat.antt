@@ -1,10 +1,11 @@
 -- Strings laid one after another: where each stands, and its bytes. `at i` is where string i begins. By induction on the number of strings.
 -- Assumes nothing.
 use Prim.Native.Nat.{ℕ, zero, suc, _+_, _-_, _*_, _/_, _%_, _≤_, _<_}
-use mathlib.Core.Path.{_≡_, refl, sym, ap, _∙_, subst}
+use mathlib.Core.Path.{_≡_, refl, sym, ap, ap₂, _∙_, subst}
 use mathlib.Core.List.{List, [], _∷_, _++_}
 use native.Mathlib.Omega.{arith}
-use native.Mathlib.Nat.{mul-suc, mul-zero}
+use native.Mathlib.Nat.{mul-suc, mul-zero, mul-le-mul, le-refl}
+use native.Mathlib.Numerals.{add-one}
 use native.Mathlib.Decide.{decLt}
 use lib.ListN.{length, getD, take, drop, length-append, length-drop}
 use lib.Seq.{take-append-le, drop-append-le, drop-append-add, take-all}
@@ -83,3 +84,18 @@ concat-byte b k f j p h l =
     sym (getD-part (concat k (λ j. tabulate b (f j))) (b * j) b p l)
     ∙ ap (λ (x : List ℕ). getD x p 0) (even-part (λ j. tabulate b (f j)) b k j (λ j h. length-tabulate b (f j)) h)
     ∙ getD-tabulate b (f j) p 0 l
+
+pub concat-same : (f g : ℕ → List ℕ) (n : ℕ) → ((i : ℕ) → i < n → f i ≡ g i) → concat n f ≡ concat n g
+unfolding concat
+concat-same f g zero h = refl
+concat-same f g (suc n) h = ap₂ _++_ (concat-same f g n (λ i l. h i (omega arith))) (h n (omega arith))
+
+-- ---- products of a width and a number of blocks
+
+pub mul-next : (w n : ℕ) → w * (n + 1) ≡ w * n + w
+mul-next w n = ap (λ (m : ℕ). w * m) (add-one n) ∙ mul-suc w n
+
+pub mul-within : (w c n : ℕ) → c < n → w * c + w ≤ w * n
+mul-within w c n h =
+    let l : w * suc c ≤ w * n = mul-le-mul (le-refl w) h in
+    omega (arith, mul-suc w c)

@@ -4,9 +4,10 @@ use mathlib.Core.Path.{_≡_, refl, sym, ap, ap₂, _∙_}
 use mathlib.Core.List.{List, [], _∷_, _++_}
 use Prim.Native.Nat.{ℕ, zero, suc, _+_, _-_, _*_, _≤_, _<_}
 use native.Mathlib.Omega.{arith}
+use lib.Bits.{bitXor}
 use lib.ListN.{length, getD, take, drop, length-drop, length-replicate}
 use lib.Seq.{ext-getD, length-take-le, getD-take, getD-drop}
-use Rattle.spec.specs.Bytes.{part, tabulate, zeros}
+use Rattle.spec.specs.Bytes.{part, tabulate, zeros, xorBytes}
 
 module _ {A : Type 0} where
   pub length-tabulate : (n : ℕ) (f : ℕ → A) → length (tabulate n f) ≡ n
@@ -48,3 +49,8 @@ getD-part xs at n p h = getD-take n (drop at xs) p 0 h ∙ getD-drop at xs p 0
 pub length-zeros : (n : ℕ) → length (zeros n) ≡ n
 unfolding zeros
 length-zeros n = length-replicate n 0
+
+pub tabulate-xor : (n : ℕ) (f g : ℕ → ℕ) → tabulate n (λ i. bitXor (f i) (g i)) ≡ xorBytes (tabulate n f) (tabulate n g)
+unfolding tabulate xorBytes
+tabulate-xor zero f g = refl
+tabulate-xor (suc n) f g = ap (λ (l : List ℕ). bitXor (f 0) (g 0) ∷ l) (tabulate-xor n (λ i. f (suc i)) (λ i. g (suc i)))

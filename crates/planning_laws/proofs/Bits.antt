@@ -26,7 +26,7 @@ bits-more ch at n =
 
 -- ---- the index
 
-index-more : (ch : List ℕ) (at n : ℕ) → indexAt ch at (suc n) ≡ 2 * indexAt ch (at + 1) n + bitAt ch at
+pub index-more : (ch : List ℕ) (at n : ℕ) → indexAt ch at (suc n) ≡ 2 * indexAt ch (at + 1) n + bitAt ch at
 unfolding indexAt number
 index-more ch at n = ap (number 1) (bits-more ch at n) ∙ omega arith
 

@@ -2,6 +2,9 @@ pub mod Ancestors
 pub mod Covered
 pub mod Count
 pub mod Rising
+pub mod Revealed
 pub mod Bits
 pub mod ShapeFacts
 pub mod HiddenLeaves
+pub mod ExpandTree
+pub mod ShapeLaws

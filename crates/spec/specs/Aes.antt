@@ -22,7 +22,7 @@ word f = f 0 ∷ f 1 ∷ f 2 ∷ f 3 ∷ []
 abbrev pub state : (ℕ → List ℕ) → List (List ℕ)
 state f = f 0 ∷ f 1 ∷ f 2 ∷ f 3 ∷ []
 
--- section 3.4: word i of a string of bytes, the state of a block of 16 bytes, and the block of a state
+-- sections 3.4 and 3.5: word i of a string of bytes, the state of a block of 16 bytes, and the block of a state
 abbrev pub wordAt : List ℕ → ℕ → List ℕ
 wordAt b i = word (λ r. getD b (4 * i + r) 0)
 

@@ -44,12 +44,12 @@ abbrev pub bit : ℕ → ℕ → ℕ
 bit j n = n / 2 ^ j % 2
 
 -- the number whose digits in base 2 ^ k, least first, are the list: of bits with k 1, of bytes with k 8
--- (NumRec of document 000, figure 3.5, with k 1)
+-- (NumRec of document 000, section 3.2, with k 1)
 unfoldable pub number : ℕ → List ℕ → ℕ
 number k [] = 0
 number k (x ∷ xs) = x + number k xs * 2 ^ k
 
--- the n lowest digits of x in base 2 ^ k, least first (BitDec of figure 3.5, with k 1)
+-- the n lowest digits of x in base 2 ^ k, least first (BitDec of section 3.2, with k 1)
 unfoldable pub digits : ℕ → ℕ → ℕ → List ℕ
 digits k n x = tabulate n (λ i. x / 2 ^ (k * i) % 2 ^ k)
 

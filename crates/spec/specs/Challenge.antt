@@ -12,7 +12,7 @@ bitAt ch b = bit (b % 8) (getD ch (b / 8) 0)
 unfoldable pub bitsAt : List ℕ → ℕ → ℕ → List ℕ
 bitsAt ch at n = tabulate n (λ j. bitAt ch (at + j))
 
--- NumRec of DecodeChall3, figure 5.7: the number that n bits make, least first
+-- DecodeAllChall3, figure 5.7, line 2, NumRec: the number that n bits make, least first
 unfoldable pub indexAt : List ℕ → ℕ → ℕ → ℕ
 indexAt ch at n = number 1 (bitsAt ch at n)
 

@@ -20,6 +20,6 @@ addToLowerWord iv v = addToWord (column iv 0) v ∷ column iv 1 ∷ column iv 2 
 unfoldable pub generatorBlock : ℕ → List ℕ → List ℕ → ℕ → ℕ → List ℕ
 generatorBlock nk key iv tweak n = bytesOf (cipher (nk + 6) (keyExpansion nk key) (addToLowerWord (addToUpperWord (stateOf iv) tweak) n))
 
--- byte p of the output, whatever the output's length: the blocks follow one another, and the last is cut
+-- byte p of the output, whatever the output's length: the blocks follow one another, and the last is cut (docs/DECISIONS.md on line 7)
 unfoldable pub generatorByte : ℕ → List ℕ → List ℕ → ℕ → ℕ → ℕ
 generatorByte nk key iv tweak p = getD (generatorBlock nk key iv tweak (p / 16)) (p % 16) 0

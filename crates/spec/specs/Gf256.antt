@@ -15,7 +15,7 @@ unfoldable pub squares : ℕ → ℕ → ℕ
 squares zero a = 1
 squares (suc n) a = mul (mul a a) (squares n (mul a a))
 
--- section 4.4: the multiplicative inverse is a^254, which is 0 for 0
+-- section 4.4: the multiplicative inverse is a^254; it is 0 for 0, as section 5.1.1 asks
 unfoldable pub inverse : ℕ → ℕ
 inverse a = squares 7 a
 

@@ -15,15 +15,15 @@ nodeAt s tree a = part tree (nodeBytes s * a) (nodeBytes s)
 unfoldable pub leafKey : Shape → List ℕ → ℕ → ℕ → List ℕ
 leafKey s tree i j = nodeAt s tree (leafOf s i j)
 
--- figure 5.4, line 7: the two children of node a, whose bytes are x
+-- figure 5.4, Commit, line 7: the two children of node a, whose bytes are x
 unfoldable pub children : Primitives → Shape → List ℕ → ℕ → List ℕ → List ℕ
 children P s iv a x = prg P s x iv a (2 * nodeBytes s)
 
--- figure 5.4, lines 1 to 3: uhash_i, the hash key of vector i. One call of H0 gives all of them.
+-- figure 5.4, Commit, line 2: uhash_i, the hash key of vector i. One call of H0 gives all of them.
 unfoldable pub hashKey : Primitives → Shape → List ℕ → ℕ → List ℕ
 hashKey P s iv i = part (P .h0 s iv (leafCommitmentBytes s * s .tau)) (leafCommitmentBytes s * i) (leafCommitmentBytes s)
 
--- FAEST.LeafCommit, figure 5.3: the leaf `key` of vector i is stretched; the first bytes are the seed, and the leaf hash of all is the commitment
+-- FAEST.LeafCommit, section 5.1: the leaf `key` of vector i is stretched; the first bytes are the seed, and the leaf hash of all is the commitment
 unfoldable pub stretched : Primitives → Shape → List ℕ → ℕ → List ℕ → List ℕ
 stretched P s iv i key = prg P s key iv (i + leaves s - 1) (nodeBytes s + leafCommitmentBytes s)
 
@@ -42,7 +42,7 @@ vectorCommitments s lc i = concat (entriesOf s i) (lc i)
 unfoldable pub leafCommitments : Shape → (ℕ → ℕ → List ℕ) → List ℕ
 leafCommitments s lc = concat (s .tau) (vectorCommitments s lc)
 
--- figure 5.4, lines 12 and 13: h_i, and the commitment
+-- figure 5.4, Commit, lines 12 and 13: h_i, and the commitment
 unfoldable pub vectorHash : Primitives → Shape → (ℕ → ℕ → List ℕ) → ℕ → List ℕ
 vectorHash P s lc i = P .h1 s (vectorCommitments s lc i)
 

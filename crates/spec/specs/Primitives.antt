@@ -1,4 +1,4 @@
--- The four primitives that section 5 of document 000 is built on, as one record: the definitions above it know nothing of AES, SHAKE or the field.
+-- The four primitives that section 5 of document 000 is built on, as one record: the definitions that use it know nothing of AES, SHAKE or the field.
 use mathlib.Core.List.{List}
 use Prim.Native.Nat.{ℕ}
 use Rattle.spec.specs.declared.Shape.{Shape}

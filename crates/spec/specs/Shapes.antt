@@ -9,7 +9,7 @@ use Rattle.spec.specs.Bytes.{tabulate, allZero}
 use Rattle.spec.specs.Challenge.{indexAt, clearAt}
 use Rattle.spec.specs.Tree.{revealed, nodeCount}
 
--- the default: FAEST-128s (document 000, table 3.2)
+-- the default: FAEST-128s (document 000, tables 3.2 and 5.1, whose k - 1 is the common depth here called k)
 unfoldable pub faest128s : Shape
 faest128s = record { tau = 11; k = 11; w = 7; t = 102 }
 
@@ -77,7 +77,7 @@ firstEntry s i = i * 2 ^ s .k
 unfoldable pub leaves : Shape → ℕ
 leaves s = s .tau * 2 ^ s .k
 
--- BAVC.PosInTree, figure 5.2: the node of entry j of vector i
+-- BAVC.PosInTree, section 5.1, as document 01 numbers the leaves: the node of entry j of vector i
 unfoldable pub leafOf : Shape → ℕ → ℕ → ℕ
 leafOf s i j = leaves s - 1 + s .tau * j + i
 

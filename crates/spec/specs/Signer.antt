@@ -1,4 +1,4 @@
--- Document 000, figures 5.4 and 5.8: what the signing half computes. b is the length of a row in bytes.
+-- Document 000, figure 5.4 and section 5.5.2: what the signing half computes. b is the length of a row in bytes.
 use Prim.Native.Nat.{ℕ, _+_, _-_, _*_}
 use mathlib.Core.List.{List, _++_}
 use lib.Bits.{bitXor}
@@ -20,7 +20,7 @@ signerTree P s root iv = expandTree (nodeBytes s) root (children P s iv) (leaves
 unfoldable pub signerLeafCommitment : Primitives → Shape → List ℕ → List ℕ → ℕ → ℕ → List ℕ
 signerLeafCommitment P s iv tree i j = leafCommitment P s iv i (leafKey s tree i j)
 
--- ---- VOLECommit, figure 5.8, from the tree's bytes
+-- ---- VOLECommit, section 5.5.2, from the tree's bytes
 
 -- the signer's u is that of vector 0
 unfoldable pub signerU : Primitives → Shape → ℕ → List ℕ → List ℕ → List ℕ

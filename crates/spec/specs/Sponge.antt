@@ -1,4 +1,4 @@
--- FIPS 202, section 4 and 6.2: the sponge on byte strings, and SHAKE. r is the rate in bytes; bit j of byte i is bit 8 i + j of the standard's
+-- FIPS 202, sections 4, 5.1 and 6.2: the sponge on byte strings, and SHAKE. r is the rate in bytes; bit j of byte i is bit 8 i + j of the standard's
 -- string (appendix B.1).
 use Prim.Native.Nat.{ℕ, zero, suc, _+_, _-_, _*_, _/_, _%_, _^_}
 use mathlib.Core.List.{List, [], _∷_, _++_}

@@ -49,7 +49,7 @@ revealed L hidden = revealedFrom (covered hidden) (L - 1)
 unfoldable pub nodeCount : ℕ → List ℕ → ℕ
 nodeCount L hidden = length (revealed L hidden)
 
--- figure 5.4, lines 5 to 7: the bytes of a tree, node after node, w bytes each. `first` is node 0; `children a x` are the two children of node a,
+-- figure 5.4, Commit, lines 5 to 7: the bytes of a tree, node after node, w bytes each. `first` is node 0; `children a x` are the two children of node a,
 -- whose bytes are x; n nodes have been expanded
 unfoldable pub expandTree : ℕ → List ℕ → (ℕ → List ℕ → List ℕ) → ℕ → List ℕ
 expandTree w first children zero = first

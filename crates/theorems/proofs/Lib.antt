@@ -1,1 +1,5 @@
 pub mod Standards
+pub mod Columns
+pub mod Buffers
+pub mod Reconstruction
+pub mod Demand3

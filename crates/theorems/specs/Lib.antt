@@ -1,1 +1,2 @@
 pub mod Standards
+pub mod Demands

@@ -1,4 +1,4 @@
--- Statements by which a reader recognises the standards in the definitions, where a definition is not the standard's text word for word.
+-- Statements by which a reader recognises FIPS 197, FIPS 202 and document 000's count of nodes in the definitions that are not their text word for word.
 -- ../proofs/Standards.antt proves each.
 use Prim.Native.Nat.{ℕ, _+_, _*_, _^_, _≤_, _<_}
 use mathlib.Core.Path.{_≡_}
@@ -38,7 +38,8 @@ SpongeBlocks =
     (r suffix n blocks : ℕ) (m : List ℕ) → 0 < r → n ≤ r * blocks
     → sponge r suffix m n ≡ take n (concat blocks (λ q. tabulate r (stateByte (permuted q (absorbedAll r suffix m)))))
 
--- document 000, figure 5.4, line 16: n_h - 2 τ + 1 is the node count, where the τ hidden leaves are distinct (as sums, since n_h may be 1)
+-- document 000, figure 5.4, Open, line 16: n_h - 2 τ + 1 is the node count, where the τ hidden leaves are distinct; as sums, for the difference is 0 where
+-- every leaf is hidden
 abbrev pub CountOfCovered : Type 0
 CountOfCovered =
     (L : ℕ) (hidden : List ℕ) → Leaves L hidden → WithoutDuplicates hidden → 0 < length hidden

@@ -1,0 +1,205 @@
+-- The revealed nodes: a node that is not covered is revealed, or is the root, or has a parent that is not covered; a revealed node is not covered and its
+-- parent is; and no revealed node is above another. By induction on the nodes that reveal. Assumes nothing.
+use Prim.Native.Nat.{ℕ, zero, suc, _+_, _-_, _*_, _/_, _≤_, _<_}
+use mathlib.Core.Path.{_≡_, refl, sym, ap, ap₂, _∙_, subst}
+use mathlib.Core.Bool.{Bool, true, false, _||_, true≢false}
+use mathlib.Core.List.{List, [], _∷_, _++_}
+use mathlib.Core.Logic.{_⊎_, inl, inr}
+use native.Mathlib.Omega.{arith}
+use native.Mathlib.Decide.{decLt, ℕ-discrete}
+use lib.ListN.{length, getD}
+use borrow.Author.Tests.{eq-eqb, ne-eqb}
+use Rattle.spec.specs.Bytes.{indexOf}
+use Rattle.spec.specs.Tree.{parent, isAncestor, some, covered, siblingToReveal, revealedFrom, revealed, nodeCount}
+use Rattle.planning_laws.specs.Lists.{Leaves}
+use Rattle.planning_laws.proofs.Ancestors.{ancestor-parent, ancestor-self, ancestor-past}
+use Rattle.planning_laws.proofs.Covered.{covered-inner}
+
+contrary : {A : Type 0} {b : Bool} → b ≡ true → b ≡ false → A
+contrary p q = absurd (true≢false (sym p ∙ q))
+
+-- ---- members of a list
+
+-- x is in the list, at its first place
+pub record In (x : ℕ) (l : List ℕ) : Type 0 where
+  pub here : indexOf x l < length l
+  pub same : getD l (indexOf x l) 0 ≡ x
+
+in-head : (x : ℕ) (l : List ℕ) → In x (x ∷ l)
+unfolding indexOf
+in-head x l = record { here = rw (eq-eqb x x refl) (omega arith); same = rw (eq-eqb x x refl) refl }
+
+in-tail : (x y : ℕ) (l : List ℕ) → In x l → In x (y ∷ l)
+unfolding indexOf
+in-tail x y l m = go (ℕ-discrete x y)
+  where
+    go : Dec (x ≡ y) → In x (y ∷ l)
+    go (yes e) = subst (λ (z : ℕ). In x (z ∷ l)) e (in-head x l)
+    go (no d) = record { here = rw (ne-eqb x y d) (let h = m .here in omega arith); same = rw (ne-eqb x y d) (m .same) }
+
+in-after : (x : ℕ) (a l : List ℕ) → In x l → In x (a ++ l)
+in-after x [] l m = m
+in-after x (y ∷ a) l m = in-tail x y (a ++ l) (in-after x a l m)
+
+-- ---- a child that is not covered, of a covered node, is revealed
+
+sibling-left : (x y : Bool) (a : ℕ) (l : List ℕ) → (x || y) ≡ true → x ≡ false → In (2 * a + 1) (siblingToReveal x y a ++ l)
+unfolding siblingToReveal
+sibling-left true y a l h e = contrary refl e
+sibling-left false false a l h e = contrary h refl
+sibling-left false true a l h e = in-head (2 * a + 1) l
+
+sibling-right : (x y : Bool) (a : ℕ) (l : List ℕ) → (x || y) ≡ true → y ≡ false → In (2 * a + 2) (siblingToReveal x y a ++ l)
+unfolding siblingToReveal
+sibling-right x true a l h e = contrary refl e
+sibling-right false false a l h e = contrary h refl
+sibling-right true false a l h e = in-head (2 * a + 2) l
+
+module _ (c : ℕ → Bool) (child : ℕ → ℕ)
+    (shown : (a : ℕ) (l : List ℕ) → (c (2 * a + 1) || c (2 * a + 2)) ≡ true → c (child a) ≡ false
+    → In (child a) (siblingToReveal (c (2 * a + 1)) (c (2 * a + 2)) a ++ l)) where
+  child-revealed : (n a : ℕ) → a < n → (c (2 * a + 1) || c (2 * a + 2)) ≡ true → c (child a) ≡ false → In (child a) (revealedFrom c n)
+  unfolding revealedFrom
+  child-revealed zero a h p q = absurd (omega arith)
+  child-revealed (suc n) a h p q = go (decLt a n) (λ l. child-revealed n a l p q)
+    where
+      go : Dec (a < n) → (a < n → In (child a) (revealedFrom c n)) → In (child a) (siblingToReveal (c (2 * n + 1)) (c (2 * n + 2)) n ++ revealedFrom c n)
+      go (yes l) ih = in-after (child a) (siblingToReveal (c (2 * n + 1)) (c (2 * n + 2)) n) (revealedFrom c n) (ih l)
+      go (no l) ih =
+          let e : a ≡ n = omega arith in
+          subst (λ (m : ℕ). In (child a) (siblingToReveal (c (2 * m + 1)) (c (2 * m + 2)) m ++ revealedFrom c n)) e (shown a (revealedFrom c n) p q)
+
+pub left-revealed : (L a : ℕ) (hs : List ℕ) → Leaves L hs → a + 1 < L → covered hs a ≡ true → covered hs (2 * a + 1) ≡ false → In (2 * a + 1) (revealed L hs)
+unfolding revealed
+left-revealed L a hs ls h p q =
+    child-revealed (covered hs) (λ a. 2 * a + 1) (λ a l. sibling-left (covered hs (2 * a + 1)) (covered hs (2 * a + 2)) a l) (L - 1) a (omega arith)
+    (sym (covered-inner L a hs ls h) ∙ p) q
+
+pub right-revealed : (L a : ℕ) (hs : List ℕ) → Leaves L hs → a + 1 < L → covered hs a ≡ true → covered hs (2 * a + 2) ≡ false → In (2 * a + 2) (revealed L hs)
+unfolding revealed
+right-revealed L a hs ls h p q =
+    child-revealed (covered hs) (λ a. 2 * a + 2) (λ a l. sibling-right (covered hs (2 * a + 1)) (covered hs (2 * a + 2)) a l) (L - 1) a (omega arith)
+    (sym (covered-inner L a hs ls h) ∙ p) q
+
+-- a node but the root that is not covered is revealed or has a parent that is not covered
+pub uncovered : (L x : ℕ) (hs : List ℕ) → Leaves L hs → 0 < x → x + 1 < 2 * L → covered hs x ≡ false → (covered hs (parent x) ≡ false) ⊎ In x (revealed L hs)
+unfolding parent
+uncovered L x hs ls h l e = go (covered hs (parent x)) refl (decLt x (2 * parent x + 2))
+  where
+    go : (b : Bool) → covered hs (parent x) ≡ b → Dec (x < 2 * parent x + 2) → (covered hs (parent x) ≡ false) ⊎ In x (revealed L hs)
+    go false p d = inl p
+    go true p (yes q) =
+        let z : 2 * parent x + 1 ≡ x = omega arith in
+        inr (subst (λ (y : ℕ). In y (revealed L hs)) z (left-revealed L (parent x) hs ls (omega arith) p (ap (covered hs) z ∙ e)))
+    go true p (no q) =
+        let z : 2 * parent x + 2 ≡ x = omega arith in
+        inr (subst (λ (y : ℕ). In y (revealed L hs)) z (right-revealed L (parent x) hs ls (omega arith) p (ap (covered hs) z ∙ e)))
+
+-- ---- each revealed node is not covered, and its parent is
+
+abbrev pub Shown : List ℕ → ℕ → Type 0
+Shown hs x = (covered hs x ≡ false) × (covered hs (parent x) ≡ true) × (0 < x)
+
+module _ (L : ℕ) (hs : List ℕ) (ls : Leaves L hs) where
+  abbrev AllShown : List ℕ → Type 0
+  AllShown xs = (m : ℕ) → m < length xs → Shown hs (getD xs m 0)
+
+  shown-first : (x : ℕ) (xs : List ℕ) → Shown hs x → AllShown xs → AllShown (x ∷ xs)
+  shown-first x xs s f zero h = s
+  shown-first x xs s f (suc m) h = f m (omega arith)
+
+  sibling-shown : (p q : Bool) (a : ℕ) (xs : List ℕ) → a + 1 < L → covered hs (2 * a + 1) ≡ p → covered hs (2 * a + 2) ≡ q → AllShown xs
+      → AllShown (siblingToReveal p q a ++ xs)
+  unfolding siblingToReveal parent
+  sibling-shown true true a xs h ep eq f = f
+  sibling-shown false false a xs h ep eq f = f
+  sibling-shown true false a xs h ep eq f =
+      shown-first (2 * a + 2) xs
+      (eq, ap (covered hs) (let z : (2 * a + 2 - 1) / 2 ≡ a = omega arith in z) ∙ covered-inner L a hs ls h ∙ ap₂ _||_ ep eq, omega arith) f
+  sibling-shown false true a xs h ep eq f =
+      shown-first (2 * a + 1) xs
+      (ep, ap (covered hs) (let z : (2 * a + 1 - 1) / 2 ≡ a = omega arith in z) ∙ covered-inner L a hs ls h ∙ ap₂ _||_ ep eq, omega arith) f
+
+  from-shown : (n : ℕ) → n < L → AllShown (revealedFrom (covered hs) n)
+  unfolding revealedFrom
+  from-shown zero h = λ m l. absurd (omega arith)
+  from-shown (suc a) h =
+      sibling-shown (covered hs (2 * a + 1)) (covered hs (2 * a + 2)) a (revealedFrom (covered hs) a) (omega arith) refl refl (from-shown a (omega arith))
+
+  pub revealed-shown : 1 ≤ L → (m : ℕ) → m < length (revealed L hs) → Shown hs (getD (revealed L hs) m 0)
+  unfolding revealed
+  revealed-shown p = from-shown (L - 1) (omega arith)
+
+-- ---- no revealed node is above another
+
+pub ancestor-le : (a x : ℕ) → isAncestor a x ≡ true → a ≤ x
+ancestor-le a x h = go (decLt x a)
+  where
+    go : Dec (x < a) → a ≤ x
+    go (yes l) = contrary h (ancestor-past a x l)
+    go (no l) = omega arith
+
+pub ancestor-trans : (d a b x : ℕ) → x ≤ d → isAncestor a b ≡ true → isAncestor b x ≡ true → isAncestor a x ≡ true
+unfolding parent
+ancestor-trans zero a b x h p q =
+    let l = ancestor-le b x q in
+    subst (λ (y : ℕ). isAncestor a y ≡ true) (let z : b ≡ x = omega arith in z) p
+ancestor-trans (suc d) a b x h p q = go (decLt b x) (λ l. ancestor-trans d a b (parent x) (omega arith) p (sym (ancestor-parent b x l) ∙ q))
+  where
+    le : b ≤ x
+    le = ancestor-le b x q
+
+    go : Dec (b < x) → (b < x → isAncestor a (parent x) ≡ true) → isAncestor a x ≡ true
+    go (no l) ih = subst (λ (y : ℕ). isAncestor a y ≡ true) (let z : b ≡ x = omega (arith, le) in z) p
+    go (yes l) ih = ancestor-parent a x (let z = ancestor-le a b p in omega arith) ∙ ih l
+
+covered-above : (a b : ℕ) (hs : List ℕ) → isAncestor a b ≡ true → covered hs b ≡ true → covered hs a ≡ true
+unfolding covered some
+covered-above a b [] p q = q
+covered-above a b (x ∷ xs) p q = go (isAncestor b x) refl (λ e. covered-above a b xs p e)
+  where
+    or-right : (z y : Bool) → y ≡ true → (z || y) ≡ true
+    or-right true y e = refl
+    or-right false y e = e
+
+    go : (z : Bool) → isAncestor b x ≡ z → (some (isAncestor b) xs ≡ true → some (isAncestor a) xs ≡ true) → (isAncestor a x || some (isAncestor a) xs) ≡ true
+    go true e ih = ap (λ (y : Bool). y || some (isAncestor a) xs) (ancestor-trans x a b x (omega arith) p e)
+    go false e ih = or-right (isAncestor a x) (some (isAncestor a) xs) (ih (sym (ap (λ (y : Bool). y || some (isAncestor b) xs) e) ∙ q))
+
+pub apart-on-paths : (hs : List ℕ) (x y : ℕ) → Shown hs x → Shown hs y → isAncestor x y ≡ true → x ≡ y
+apart-on-paths hs x y s t h = go (decLt x y)
+  where
+    le : x ≤ y
+    le = ancestor-le x y h
+
+    go : Dec (x < y) → x ≡ y
+    go (no l) = omega (arith, le)
+    go (yes l) = contrary (covered-above x (parent y) hs (sym (ancestor-parent x y l) ∙ h) (t .1)) (s .0)
+
+-- ---- a revealed node is a node
+
+append-below : (n : ℕ) (xs ys : List ℕ) → ((m : ℕ) → m < length xs → getD xs m 0 < n) → ((m : ℕ) → m < length ys → getD ys m 0 < n)
+    → (m : ℕ) → m < length (xs ++ ys) → getD (xs ++ ys) m 0 < n
+append-below n [] ys f g m h = g m h
+append-below n (x ∷ xs) ys f g zero h = f 0 (omega arith)
+append-below n (x ∷ xs) ys f g (suc m) h = append-below n xs ys (λ m l. f (suc m) (omega arith)) g m (omega arith)
+
+sibling-low : (x y : Bool) (a m : ℕ) → m < length (siblingToReveal x y a) → getD (siblingToReveal x y a) m 0 < 2 * a + 3
+unfolding siblingToReveal
+sibling-low true true a m h = absurd (omega arith)
+sibling-low false false a m h = absurd (omega arith)
+sibling-low true false a zero h = omega arith
+sibling-low true false a (suc m) h = absurd (omega arith)
+sibling-low false true a zero h = omega arith
+sibling-low false true a (suc m) h = absurd (omega arith)
+
+from-low : (c : ℕ → Bool) (n m : ℕ) → m < length (revealedFrom c n) → getD (revealedFrom c n) m 0 < 2 * n + 1
+unfolding revealedFrom
+from-low c zero m h = absurd (omega arith)
+from-low c (suc n) m h =
+    append-below (2 * suc n + 1) (siblingToReveal (c (2 * n + 1)) (c (2 * n + 2)) n) (revealedFrom c n)
+    (λ m l. (let r = sibling-low (c (2 * n + 1)) (c (2 * n + 2)) n m l in omega arith)) (λ m l. (let r = from-low c n m l in omega arith)) m h
+
+pub revealed-low : (L : ℕ) (hs : List ℕ) (m : ℕ) → 1 ≤ L → m < nodeCount L hs → getD (revealed L hs) m 0 < 2 * L - 1
+unfolding revealed nodeCount
+revealed-low L hs m p h = (let r = from-low (covered hs) (L - 1) m h in omega arith)

@@ -1,0 +1,99 @@
+-- Demand 3 over the contracts of commit, open and reconstruct together, and what an opening may depend on (document 01, "Challenge, nodes and opening").
+-- ../proofs/Demand3.antt proves both.
+use Prim.Native.Nat.{ℕ, _-_, _*_, _/_, _≤_, _<_}
+use mathlib.Core.Path.{_≡_}
+use mathlib.Core.Bool.{true, false}
+use mathlib.Core.List.{List, [], _∷_}
+use lib.ListN.{length, getD}
+use Rattle.spec.specs.declared.Shape.{Shape}
+use Rattle.spec.specs.declared.Answer.{Answer}
+use Rattle.spec.specs.Bytes.{part, zeros, xorBytes}
+use Rattle.spec.specs.Challenge.{bitAt}
+use Rattle.spec.specs.Tree.{covered}
+use Rattle.spec.specs.Shapes.{resolved, level, nodeBytes, challengeBytes, hashBytes, leaves, shapeOk, hiddenIndex, hiddenLeaves, grindingOk, planned, plannedCount, treeBytes, leafCommitmentsBytes, openingBytes, matrixBytes}
+use Rattle.spec.specs.Primitives.{Primitives}
+use Rattle.spec.specs.Leaves.{nodeAt}
+use Rattle.spec.specs.Signer.{leafCommitmentAt}
+use Rattle.spec.specs.Calls.{rowOk, Committed, Commit, openLengths, Open, Reconstructed, reconstructLengths, Reconstruct}
+
+-- each length is what it must be
+abbrev pub Sized : List (ℕ × ℕ) → Type 0
+Sized [] = Unit {0}
+Sized (p ∷ ps) = (p .0 ≡ p .1) × Sized ps
+
+-- each of n columns of q is that of v where the challenge bit is 0, and that of v xored with u where it is 1
+pub record ColumnRule (n b : ℕ) (ch u v q : List ℕ) : Type 0 where
+  pub at-0 : (c : ℕ) → c < n → bitAt ch c ≡ 0 → part q (b * c) b ≡ part v (b * c) b
+  pub at-1 : (c : ℕ) → c < n → bitAt ch c ≡ 1 → part q (b * c) b ≡ xorBytes (part v (b * c) b) u
+
+-- the opening is made and accepted: s is the resolved shape, b a row's bytes, `signer` what commit wrote, `verifier` what reconstruct wrote
+pub record Accepted (s : Shape) (b : ℕ) (ch : List ℕ) (signer : Committed) (verifier : Reconstructed) (opened checked : Answer) : Type 0 where
+  pub open-number : opened .number ≡ 0
+  pub open-count : opened .count ≡ plannedCount s ch
+  pub check-number : checked .number ≡ 0
+  pub check-count : checked .count ≡ plannedCount s ch
+  pub commitment : verifier .commitment ≡ signer .commitment
+  pub leafCommitments : verifier .leafCommitments ≡ signer .leafCommitments
+  pub nodes : (a : ℕ) → a < 2 * leaves s - 1 → covered (hiddenLeaves s ch) a ≡ false → nodeAt s (verifier .tree) a ≡ nodeAt s (signer .tree) a
+  pub hidden : (a : ℕ) → a < 2 * leaves s - 1 → covered (hiddenLeaves s ch) a ≡ true → nodeAt s (verifier .tree) a ≡ zeros (nodeBytes s)
+  pub columns : ColumnRule (level s) b ch (signer .u) (signer .v) (verifier .q)
+
+-- the number is 5 exactly when the grinding bits are clear and more nodes are needed than the shape allows
+pub record Five (s : Shape) (ch : List ℕ) (r : Answer) : Type 0 where
+  pub only : r .number ≡ 5 → (grindingOk s ch ≡ true) × (s .t < plannedCount s ch)
+  pub always : grindingOk s ch ≡ true → s .t < plannedCount s ch → r .number ≡ 5
+  pub count : r .number ≡ 5 → r .count ≡ plannedCount s ch
+
+-- Demand 3. In `accepted` the lengths that the host still chooses are premises; those of the tree, the leaf commitments, the corrections and the opening
+-- follow from the calls before. All 128 columns are meant.
+pub record Demand3 (P : Primitives) : Type 0 where
+  pub accepted :
+      (s : Shape) (n : ℕ) (root iv ch opening opening′ : List ℕ) (signer signer′ : Committed) (verifier verifier′ : Reconstructed) (made opened checked : Answer)
+      → Commit P s n root iv signer signer′ made
+      → made .number ≡ 0
+      → Open s ch (signer′ .tree) (signer′ .leafCommitments) opening opening′ opened
+      → Reconstruct P s n iv ch (signer′ .corrections) opening′ verifier verifier′ checked
+      → Sized
+      ((length ch, challengeBytes (resolved s))
+      ∷ (length opening, openingBytes (resolved s))
+      ∷ (length (verifier .commitment), hashBytes (resolved s))
+      ∷ (length (verifier .tree), treeBytes (resolved s))
+      ∷ (length (verifier .leafCommitments), leafCommitmentsBytes (resolved s))
+      ∷ (length (verifier .q), matrixBytes (resolved s) (n / 8))
+      ∷ [])
+      → grindingOk (resolved s) ch ≡ true
+      → plannedCount (resolved s) ch ≤ resolved s .t
+      → Accepted (resolved s) (n / 8) ch signer′ verifier′ opened checked
+  pub open-five :
+      (s : Shape) (ch tree lcs opening opening′ : List ℕ) (r : Answer)
+      → Open s ch tree lcs opening opening′ r
+      → shapeOk (resolved s) ≡ true
+      → Sized (openLengths (resolved s) ch tree lcs opening)
+      → Five (resolved s) ch r
+  pub check-five :
+      (s : Shape) (n : ℕ) (iv ch corrections opening : List ℕ) (x x′ : Reconstructed) (r : Answer)
+      → Reconstruct P s n iv ch corrections opening x x′ r
+      → shapeOk (resolved s) ≡ true
+      → rowOk n ≡ true
+      → Sized (reconstructLengths (resolved s) (n / 8) iv ch corrections opening x)
+      → Five (resolved s) ch r
+
+-- two signers' openings
+pub record Alike (r r₂ : Answer) (opening opening₂ : List ℕ) : Type 0 where
+  pub number : r .number ≡ r₂ .number
+  pub count : r .count ≡ r₂ .count
+  pub bytes : r .number ≡ 0 → opening ≡ opening₂
+
+-- two signers that agree on shape, challenge, buffer lengths, revealed nodes and hidden leaf commitments get the same number and count and, with answer 0,
+-- the same opening, however their other keys differ
+pub record OpeningDepends : Type 0 where
+  pub alike :
+      (s : Shape) (ch tree lcs before after tree₂ lcs₂ before₂ after₂ : List ℕ) (r r₂ : Answer)
+      → Open s ch tree lcs before after r
+      → Open s ch tree₂ lcs₂ before₂ after₂ r₂
+      → length tree ≡ length tree₂
+      → length lcs ≡ length lcs₂
+      → length before ≡ length before₂
+      → ((m : ℕ) → m < plannedCount (resolved s) ch → nodeAt (resolved s) tree (getD (planned (resolved s) ch) m 0) ≡ nodeAt (resolved s) tree₂ (getD (planned (resolved s) ch) m 0))
+      → ((i : ℕ) → i < resolved s .tau → leafCommitmentAt (resolved s) lcs i (hiddenIndex (resolved s) ch i) ≡ leafCommitmentAt (resolved s) lcs₂ i (hiddenIndex (resolved s) ch i))
+      → Alike r r₂ after after₂
