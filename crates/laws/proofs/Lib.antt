@@ -9,3 +9,6 @@ pub mod Polynomials
 pub mod FieldProduct
 pub mod Limbs
 pub mod Prefixes
+pub mod Strings
+pub mod Filling
+pub mod Division

@@ -3,6 +3,7 @@
 use mathlib.Core.Path.{_≡_, refl, sym, ap, ap₂, _∙_}
 use mathlib.Core.List.{List, [], _∷_, _++_}
 use Prim.Native.Nat.{ℕ, zero, suc, _+_, _-_, _*_, _≤_, _<_}
+use native.Mathlib.Nat.{zero-add, suc-add}
 use native.Mathlib.Omega.{arith}
 use lib.Bits.{bitXor}
 use lib.ListN.{length, getD, take, drop, length-drop, length-replicate}
@@ -39,6 +40,18 @@ module _ {A : Type 0} where
   unfolding tabulate
   tabulate-more zero f = refl
   tabulate-more (suc n) f = ap (λ (l : List A). f 0 ∷ l) (tabulate-more n (λ i. f (suc i)))
+
+  -- m elements of a rule, and n more
+  pub tabulate-append : (m n : ℕ) (f : ℕ → A) → tabulate (m + n) f ≡ tabulate m f ++ tabulate n (λ i. f (m + i))
+  unfolding tabulate
+  tabulate-append zero n f =
+      ap (λ (k : ℕ). tabulate k f) (zero-add n) ∙ tabulate-same n f (λ i. f (zero + i)) (λ i h. ap f (sym (zero-add i)))
+  tabulate-append (suc m) n f =
+      ap (λ (k : ℕ). tabulate k f) (suc-add m n)
+      ∙ ap (λ (l : List A). f 0 ∷ l)
+      (tabulate-append m n (λ i. f (suc i))
+      ∙ ap (λ (l : List A). tabulate m (λ i. f (suc i)) ++ l)
+      (tabulate-same n (λ i. f (suc (m + i))) (λ i. f (suc m + i)) (λ i h. ap f (sym (suc-add m i)))))
 
 pub length-part : (xs : List ℕ) (at n : ℕ) → at + n ≤ length xs → length (part xs at n) ≡ n
 length-part xs at n h = length-take-le n (drop at xs) (simp length-drop (omega arith))

@@ -2,26 +2,14 @@
 -- Assumes nothing.
 use mathlib.Core.Path.{_≡_, sym, ap, ap₂, _∙_}
 use mathlib.Core.List.{List, [], _∷_, _++_, append-assoc}
-use Prim.Native.Nat.{ℕ, zero, suc, _+_, _<_}
-use native.Mathlib.Nat.{zero-add, suc-add}
+use Prim.Native.Nat.{ℕ, _+_, _<_}
 use native.Mathlib.Numerals.{add-one}
 use lib.ListN.{length, take, set}
 use lib.Seq.{take-suc-set}
 use Rattle.spec.specs.Bytes.{tabulate}
-use Rattle.laws.proofs.Lists.{tabulate-same, tabulate-more}
+use Rattle.laws.proofs.Lists.{tabulate-same, tabulate-more, tabulate-append}
 
 module _ {A : Type 0} where
-  tabulate-add : (m n : ℕ) (f : ℕ → A) → tabulate (m + n) f ≡ tabulate m f ++ tabulate n (λ i. f (m + i))
-  unfolding tabulate
-  tabulate-add zero n f =
-      ap (λ (k : ℕ). tabulate k f) (zero-add n) ∙ tabulate-same n f (λ i. f (zero + i)) (λ i h. ap f (sym (zero-add i)))
-  tabulate-add (suc m) n f =
-      ap (λ (k : ℕ). tabulate k f) (suc-add m n)
-      ∙ ap (λ (l : List A). f 0 ∷ l)
-      (tabulate-add m n (λ i. f (suc i))
-      ∙ ap (λ (l : List A). tabulate m (λ i. f (suc i)) ++ l)
-      (tabulate-same n (λ i. f (suc (m + i))) (λ i. f (suc m + i)) (λ i h. ap f (sym (suc-add m i)))))
-
   -- after p, the elements f 0, f 1, .., and one more
   pub take-stored : (l : List A) (i : ℕ) (v : A) (p : List A) (n : ℕ) (f : ℕ → A) → i < length l → take i l ≡ p ++ tabulate n f → v ≡ f n
       → take (i + 1) (set l i v) ≡ p ++ tabulate (n + 1) f
@@ -35,4 +23,4 @@ module _ {A : Type 0} where
   -- n elements more
   pub tabulate-block : (m n : ℕ) (f g : ℕ → A) {p q : List A} → p ≡ tabulate m f → q ≡ p ++ tabulate n g → ((i : ℕ) → i < n → g i ≡ f (m + i)) → q ≡ tabulate (m + n) f
   tabulate-block m n f g e h s =
-      h ∙ ap₂ (λ (x y : List A). x ++ y) e (tabulate-same n g (λ i. f (m + i)) s) ∙ sym (tabulate-add m n f)
+      h ∙ ap₂ (λ (x y : List A). x ++ y) e (tabulate-same n g (λ i. f (m + i)) s) ∙ sym (tabulate-append m n f)

@@ -1,0 +1,21 @@
+-- `shake::h0` meets its contract: what `hash` ensures of the sponge that has absorbed the message. Assumes nothing.
+use mathlib.Core.List.{[]}
+use native.Mathlib.Omega.{arith}
+use borrow.Author.Needs.{needs}
+use denote.Ref.{now}
+use Rattle.spec.specs.Hashes.{hash0}
+use Rattle.shake.proofs.h0.Statement.{statement}
+use Rattle.shake.proofs.h0.Tie as tie
+
+returns : tie.Need-returns
+unfolding hash0
+returns c =
+    let start = c .before .before .before .before .before .before .before .before in
+    let none = c .before .before .before .before .before .new .ensures .0 168 (omega arith) in
+    c .before .before .hash .ensures (now (start .args .iv)) (c .before .before .before .before .absorb .ensures .holds [] none)
+
+pub h0-spec : {M : Type 1} → statement M
+h0-spec =
+    tie.close
+    (tie.spec
+    (λ c κs. search needs) (λ c κs. search needs) (λ c κs. search needs) (λ c. search needs) returns)
