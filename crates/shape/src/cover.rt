@@ -34,9 +34,9 @@ fn mark_parents(map: &mut [u8], inner: usize)
     }
 }
 
-// Marks the covered nodes in a map of zeros.
+// Marks the covered nodes in a map of zeros, a byte for each node.
 pub fn mark_covered(s: Shape, ch: &[u8], map: &mut [u8])
-    requires { ⌜ (shapeOk s ≡ true) × (length (now ch) ≡ 16) × (2 * leaves s ≤ length (now map) + 1) × ((x : ℕ) → getD (now map) x 0 ≡ 0) ⌝ }
+    requires { ⌜ (shapeOk s ≡ true) × (length (now ch) ≡ 16) × (length (now map) + 1 ≡ 2 * leaves s) × ((x : ℕ) → getD (now map) x 0 ≡ 0) ⌝ }
     ensures { λ r. ⌜ Marks (covered (hiddenLeaves s (now (ch .entry)))) 0 (2 * leaves s - 1) (now (map .exit)) ⌝ }
 {
     mark_leaves(s, ch, map);

@@ -113,7 +113,7 @@ module _ (P : Primitives) where
       → Sized ((length ch, challengeBytes s) ∷ (length opening, openingBytes s) ∷ (length (verifier .commitment), hashBytes s)
       ∷ (length (verifier .tree), treeBytes s) ∷ (length (verifier .leafCommitments), leafCommitmentsBytes s) ∷ (length (verifier .q), matrixBytes s (n / 8)) ∷ [])
       → grindingOk s ch ≡ true → plannedCount s ch ≤ s .t
-      → Accepted s (n / 8) ch (committed P s (n / 8) root iv) verifier′ opened checked
+      → Accepted s (n / 8) ch (committed P s (n / 8) root iv) opening′ verifier′ opened checked
   unfolding committed reconstructed
   told s n root iv ch opening opening′ signer verifier verifier′ opened checked sh ro cl on oc ob cn cc₂ cb z g t =
       let f = shape-laws s sh in
@@ -133,10 +133,11 @@ module _ (P : Primitives) where
       let cc₃ : verifier′ ≡ reconstructed P s b iv ch (corrections P s b iv tree) (openingOf s ch tree lcs) =
       cb ∙ written-zero (checked .number) (reconstructed P s b iv ch (corrections P s b iv tree) opening′) verifier c0
       ∙ ap (reconstructed P s b iv ch (corrections P s b iv tree)) oo in
-      subst (λ (x : Reconstructed). Accepted s b ch (committed P s b root iv) x opened checked) (sym cc₃)
+      subst (λ (x : Reconstructed). Accepted s b ch (committed P s b root iv) opening′ x opened checked) (sym cc₃)
       record {
         open-number = o0;
         open-count = oc ∙ count-zero (opened .number) (plannedCount s ch) o0;
+        open-bytes = oo;
         check-number = c0;
         check-count = cc₂ ∙ count-zero (checked .number) (plannedCount s ch) c0;
         commitment = commitment-same P s f root iv root-long ch;
@@ -154,7 +155,7 @@ module _ (P : Primitives) where
             let q = all3 (shapeOk (resolved s)) (rowOk n) (fits (commitLengths (resolved s) (n / 8) root iv signer)) (sym (c .number) ∙ m) in
             let e : signer′ ≡ committed P (resolved s) (n / 8) root iv = c .buffers ∙ written-zero (made .number) (committed P (resolved s) (n / 8) root iv) signer m in
             subst (λ (x : Committed). Open s ch (x .tree) (x .leafCommitments) opening opening′ opened → Reconstruct P s n iv ch (x .corrections) opening′ verifier verifier′ checked
-            → Accepted (resolved s) (n / 8) ch x verifier′ opened checked) (sym e)
+            → Accepted (resolved s) (n / 8) ch x opening′ verifier′ opened checked) (sym e)
             (λ o r.
             told (resolved s) n root iv ch opening opening′ signer verifier verifier′ opened checked (q .0) (q .1)
             (fits-sized (commitLengths (resolved s) (n / 8) root iv signer) (q .2)) (o .number) (o .count) (o .opening) (r .number) (r .count) (r .buffers) z g t) o r;
@@ -172,12 +173,12 @@ open-number-same s ch tree lcs before tree₂ lcs₂ before₂ a b c = rw (a, b,
 pub opening-depends : OpeningDepends
 opening-depends =
     record {
-      alike = λ s ch tree lcs before after tree₂ lcs₂ before₂ after₂ r r₂ o o₂ a b c f g.
+      alike = λ s ch tree lcs before after tree₂ lcs₂ before₂ after₂ r r₂ o o₂ a b c.
           let e : r .number ≡ r₂ .number = o .number ∙ open-number-same (resolved s) ch tree lcs before tree₂ lcs₂ before₂ a b c ∙ sym (o₂ .number) in
           record {
             number = e;
             count = o .count ∙ ap (λ (m : ℕ). countWith m (plannedCount (resolved s) ch)) e ∙ sym (o₂ .count);
-            bytes = λ z.
+            bytes = λ z f g.
                 o .opening ∙ written-zero (r .number) (openingOf (resolved s) ch tree lcs) before z
                 ∙ opening-same (resolved s) ch tree tree₂ lcs lcs₂ f g
                 ∙ sym (o₂ .opening ∙ written-zero (r₂ .number) (openingOf (resolved s) ch tree₂ lcs₂) before₂ (sym e ∙ z));

@@ -14,13 +14,15 @@ use Rattle.spec.specs.Bytes.{tabulate, concat}
 use Rattle.spec.specs.Polynomials.{product, remainder, fieldProduct}
 use Rattle.spec.specs.Gf256.{mul, squares, inverse}
 use Rattle.spec.specs.Sponge.{stateByte, absorbedAll, permuted, outputByte, sponge}
-use Rattle.spec.specs.Shapes.{level, fieldWidth, fieldPolynomial}
+use Rattle.spec.specs.Shapes.{level, fieldWidth, fieldPolynomial, leaves, hiddenLeaves, plannedCount}
 use Rattle.laws.proofs.Lists.{length-tabulate, is-tabulate}
 use Rattle.laws.proofs.Concat.{even-length, concat-byte}
 use Rattle.laws.proofs.Tables.{allBelow, at-below}
 use Rattle.laws.proofs.Polynomials.{product-lt, remainder-lt, remainder-multiple, remainder-unique}
 use Rattle.planning_laws.proofs.Count.{count-covered}
-use Rattle.theorems.specs.Standards.{SboxInverse, FieldProduct, Gf256Product, LeafHashProduct, SpongeBlocks, CountOfCovered}
+use Rattle.planning_laws.proofs.HiddenLeaves.{hidden-count, hidden-leaves, hidden-distinct}
+use Rattle.planning_laws.proofs.ShapeLaws.{shape-laws}
+use Rattle.theorems.specs.Standards.{SboxInverse, FieldProduct, Gf256Product, LeafHashProduct, SpongeBlocks, CountOfCovered, PlannedCount}
 
 -- ---- the inverse
 
@@ -77,3 +79,10 @@ sponge-blocks r suffix n blocks m hr h =
 
 pub count-of-covered : CountOfCovered
 count-of-covered = count-covered
+
+pub planned-count : PlannedCount
+unfolding plannedCount
+planned-count s ch e =
+    let n = hidden-count s ch in
+    ap (λ (m : ℕ). plannedCount s ch + 2 * m) (sym n)
+    ∙ count-covered (leaves s) (hiddenLeaves s ch) (hidden-leaves s ch) (hidden-distinct s ch) (let z = shape-laws s e .tau-pos in omega arith)

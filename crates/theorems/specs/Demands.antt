@@ -13,7 +13,7 @@ use Rattle.spec.specs.Tree.{covered}
 use Rattle.spec.specs.Shapes.{resolved, level, nodeBytes, challengeBytes, hashBytes, leaves, shapeOk, hiddenIndex, hiddenLeaves, grindingOk, planned, plannedCount, treeBytes, leafCommitmentsBytes, openingBytes, matrixBytes}
 use Rattle.spec.specs.Primitives.{Primitives}
 use Rattle.spec.specs.Leaves.{nodeAt}
-use Rattle.spec.specs.Signer.{leafCommitmentAt}
+use Rattle.spec.specs.Signer.{leafCommitmentAt, openingOf}
 use Rattle.spec.specs.Calls.{rowOk, Committed, Commit, openLengths, Open, Reconstructed, reconstructLengths, Reconstruct}
 
 -- each length is what it must be
@@ -26,10 +26,12 @@ pub record ColumnRule (n b : ℕ) (ch u v q : List ℕ) : Type 0 where
   pub at-0 : (c : ℕ) → c < n → bitAt ch c ≡ 0 → part q (b * c) b ≡ part v (b * c) b
   pub at-1 : (c : ℕ) → c < n → bitAt ch c ≡ 1 → part q (b * c) b ≡ xorBytes (part v (b * c) b) u
 
--- the opening is made and accepted: s is the resolved shape, b a row's bytes, `signer` what commit wrote, `verifier` what reconstruct wrote
-pub record Accepted (s : Shape) (b : ℕ) (ch : List ℕ) (signer : Committed) (verifier : Reconstructed) (opened checked : Answer) : Type 0 where
+-- the opening is made and accepted: s is the resolved shape, b a row's bytes, `signer` what commit wrote, `opening` what open wrote, `verifier` what
+-- reconstruct wrote
+pub record Accepted (s : Shape) (b : ℕ) (ch : List ℕ) (signer : Committed) (opening : List ℕ) (verifier : Reconstructed) (opened checked : Answer) : Type 0 where
   pub open-number : opened .number ≡ 0
   pub open-count : opened .count ≡ plannedCount s ch
+  pub open-bytes : opening ≡ openingOf s ch (signer .tree) (signer .leafCommitments)
   pub check-number : checked .number ≡ 0
   pub check-count : checked .count ≡ plannedCount s ch
   pub commitment : verifier .commitment ≡ signer .commitment
@@ -63,7 +65,7 @@ pub record Demand3 (P : Primitives) : Type 0 where
       ∷ [])
       → grindingOk (resolved s) ch ≡ true
       → plannedCount (resolved s) ch ≤ resolved s .t
-      → Accepted (resolved s) (n / 8) ch signer′ verifier′ opened checked
+      → Accepted (resolved s) (n / 8) ch signer′ opening′ verifier′ opened checked
   pub open-five :
       (s : Shape) (ch tree lcs opening opening′ : List ℕ) (r : Answer)
       → Open s ch tree lcs opening opening′ r
@@ -78,14 +80,18 @@ pub record Demand3 (P : Primitives) : Type 0 where
       → Sized (reconstructLengths (resolved s) (n / 8) iv ch corrections opening x)
       → Five (resolved s) ch r
 
--- two signers' openings
-pub record Alike (r r₂ : Answer) (opening opening₂ : List ℕ) : Type 0 where
+-- two signers' openings, from the trees and leaf commitments lent; s is the resolved shape
+pub record Alike (s : Shape) (ch tree lcs tree₂ lcs₂ opening opening₂ : List ℕ) (r r₂ : Answer) : Type 0 where
   pub number : r .number ≡ r₂ .number
   pub count : r .count ≡ r₂ .count
-  pub bytes : r .number ≡ 0 → opening ≡ opening₂
+  pub bytes :
+      r .number ≡ 0
+      → ((m : ℕ) → m < plannedCount s ch → nodeAt s tree (getD (planned s ch) m 0) ≡ nodeAt s tree₂ (getD (planned s ch) m 0))
+      → ((i : ℕ) → i < s .tau → leafCommitmentAt s lcs i (hiddenIndex s ch i) ≡ leafCommitmentAt s lcs₂ i (hiddenIndex s ch i))
+      → opening ≡ opening₂
 
--- two signers that agree on shape, challenge, buffer lengths, revealed nodes and hidden leaf commitments get the same number and count and, with answer 0,
--- the same opening, however their other keys differ
+-- two signers that agree on shape, challenge and buffer lengths get the same number and count; with answer 0, if they agree on the revealed nodes and the
+-- hidden leaf commitments too, they get the same opening, however their other keys differ
 pub record OpeningDepends : Type 0 where
   pub alike :
       (s : Shape) (ch tree lcs before after tree₂ lcs₂ before₂ after₂ : List ℕ) (r r₂ : Answer)
@@ -94,6 +100,4 @@ pub record OpeningDepends : Type 0 where
       → length tree ≡ length tree₂
       → length lcs ≡ length lcs₂
       → length before ≡ length before₂
-      → ((m : ℕ) → m < plannedCount (resolved s) ch → nodeAt (resolved s) tree (getD (planned (resolved s) ch) m 0) ≡ nodeAt (resolved s) tree₂ (getD (planned (resolved s) ch) m 0))
-      → ((i : ℕ) → i < resolved s .tau → leafCommitmentAt (resolved s) lcs i (hiddenIndex (resolved s) ch i) ≡ leafCommitmentAt (resolved s) lcs₂ i (hiddenIndex (resolved s) ch i))
-      → Alike r r₂ after after₂
+      → Alike (resolved s) ch tree lcs tree₂ lcs₂ after after₂ r r₂

@@ -2,6 +2,7 @@
 -- ../proofs/Standards.antt proves each.
 use Prim.Native.Nat.{ℕ, _+_, _*_, _^_, _≤_, _<_}
 use mathlib.Core.Path.{_≡_}
+use mathlib.Core.Bool.{true}
 use mathlib.Core.List.{List}
 use lib.Bits.{bitXor}
 use lib.ListN.{length, take}
@@ -11,7 +12,7 @@ use Rattle.spec.specs.Polynomials.{product, fieldProduct}
 use Rattle.spec.specs.Gf256.{mul, inverse}
 use Rattle.spec.specs.Sponge.{stateByte, absorbedAll, permuted, sponge}
 use Rattle.spec.specs.Tree.{nodeCount}
-use Rattle.spec.specs.Shapes.{fieldWidth, fieldPolynomial}
+use Rattle.spec.specs.Shapes.{fieldWidth, fieldPolynomial, leaves, shapeOk, hiddenLeaves, plannedCount}
 use Rattle.planning_laws.specs.Lists.{Leaves, WithoutDuplicates, coveredCount}
 
 -- FIPS 197, section 4.4: the inverse of a byte other than 0, times that byte, is 1
@@ -44,3 +45,7 @@ abbrev pub CountOfCovered : Type 0
 CountOfCovered =
     (L : ℕ) (hidden : List ℕ) → Leaves L hidden → WithoutDuplicates hidden → 0 < length hidden
     → nodeCount L hidden + 2 * length hidden ≡ coveredCount L hidden + 1
+
+-- the same of a shape and a challenge
+abbrev pub PlannedCount : Type 0
+PlannedCount = (s : Shape) (ch : List ℕ) → shapeOk s ≡ true → plannedCount s ch + 2 * s .tau ≡ coveredCount (leaves s) (hiddenLeaves s ch) + 1

@@ -21,7 +21,7 @@ returns c =
     λ x lo hi.
     subst (λ (L : ℕ). Marks (covered (hiddenLeaves s ch)) 0 (2 * (L - 1) + 1) (c .before .before .mark-parents .last .0)) (n .0)
     (c .before .before .mark-parents .ensures (covered (hiddenLeaves s ch)) (rw (n .0) (covered-by-children s ch))
-    (rw (n .0) (marks-leaves s ch (length (st .args .map .now)) (ml .last .1 .1 .0) (st .pre .2) (omega arith) (ml .ensures))))
+    (rw (n .0) (marks-leaves s ch (length (st .args .map .now)) (ml .last .1 .1 .0) (omega arith) (omega arith) (ml .ensures))))
     x lo (omega arith)
 
 pub mark-covered-spec : {M : Type 1} → statement M
