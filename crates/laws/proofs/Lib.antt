@@ -12,3 +12,5 @@ pub mod Prefixes
 pub mod Strings
 pub mod Filling
 pub mod Division
+pub mod Putting
+pub mod Lengths

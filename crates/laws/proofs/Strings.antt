@@ -9,7 +9,7 @@ use lib.Bits.{bitXor, xor-zero-l, xor-zero-r, xor-block}
 use lib.ListN.{length, getD, set, take, drop}
 use lib.Pow.{pow-pos}
 use lib.Seq.{take-nil, drop-nil}
-use Rattle.spec.specs.Bytes.{part, zeros, xorBytes, number}
+use Rattle.spec.specs.Bytes.{part, tabulate, zeros, xorBytes, number}
 use Rattle.laws.proofs.Numbers.{Digits}
 
 -- strings of zeros
@@ -18,6 +18,11 @@ unfolding zeros
 getD-zeros zero i = refl
 getD-zeros (suc n) zero = refl
 getD-zeros (suc n) (suc i) = getD-zeros n i
+
+pub zeros-tabulate : (n : ℕ) → zeros n ≡ tabulate n (λ i. 0)
+unfolding zeros tabulate
+zeros-tabulate zero = refl
+zeros-tabulate (suc n) = ap (λ (l : List ℕ). 0 ∷ l) (zeros-tabulate n)
 
 pub take-zeros : (k n : ℕ) → k ≤ n → take k (zeros n) ≡ zeros k
 unfolding zeros

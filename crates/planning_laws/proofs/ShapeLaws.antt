@@ -1,9 +1,10 @@
 -- What the laws of the two halves know of a shape: its vectors' bits, columns and entries follow one another, each entry has a leaf of its own, a hidden
 -- index is an entry. Nothing that cites this record looks into a shape. By the shape rules. Assumes nothing.
 use Prim.Native.Nat.{ℕ, zero, suc, _+_, _-_, _*_, _/_, _%_, _^_, _≤_, _<_}
-use mathlib.Core.Path.{_≡_, refl, sym, ap, _∙_}
+use mathlib.Core.Path.{_≡_, refl, sym, ap, _∙_, subst}
 use mathlib.Core.Bool.{Bool, true, false, _&&_, true≢false}
 use mathlib.Core.List.{List, [], _∷_}
+use native.Mathlib.Decide.{decLt}
 use native.Mathlib.Omega.{arith}
 use native.Mathlib.Nat.{mul-comm, zero-mul, suc-mul, pow-succ', div-one, div-div-eq-div-mul}
 use lib.Arith.{digits-div, digits-mod}
@@ -111,3 +112,15 @@ grinding-bit s ch j e h =
 pub hidden-at : (s : Shape) (ch : List ℕ) (i : ℕ) → i < s .tau → getD (hiddenLeaves s ch) i 0 ≡ leafOf s i (hiddenIndex s ch i)
 unfolding hiddenLeaves hiddenLeaf
 hidden-at s ch i h = getD-tabulate (s .tau) (λ i. leafOf s i (hiddenIndex s ch i)) i 0 h
+
+-- the entry after those of the vectors before i, and j more, is an entry
+entry-before : (s : Shape) → ShapeLaws s → (n i : ℕ) → i < n → firstEntry s i + entriesOf s i ≤ firstEntry s n
+entry-before s f zero i h = absurd (omega arith)
+entry-before s f (suc n) i h = go (decLt i n) (λ l. entry-before s f n i l)
+  where
+    go : Dec (i < n) → (i < n → firstEntry s i + entriesOf s i ≤ firstEntry s n) → firstEntry s i + entriesOf s i ≤ firstEntry s (suc n)
+    go (yes l) ih = (let a = ih l in let b = f .entry-next n in omega arith)
+    go (no l) ih = subst (λ (x : ℕ). firstEntry s i + entriesOf s i ≤ firstEntry s (suc x)) (let z : i ≡ n = omega arith in z) (let b = f .entry-next i in omega arith)
+
+pub entry-in : (s : Shape) → ShapeLaws s → (i j : ℕ) → i < s .tau → j < entriesOf s i → firstEntry s i + j < leaves s
+entry-in s f i j h l = (let a = entry-before s f (s .tau) i h in let b = f .entry-all in omega arith)

@@ -2,31 +2,33 @@
 -- t the resolved one, ch the challenge, xs the lent list, r the answer. Assumes nothing.
 use Prim.Native.Nat.{ℕ, _+_, _≤_, _<_}
 use mathlib.Core.Path.{_≡_, refl, sym, ap, _∙_}
-use mathlib.Core.Bool.{Bool, true, false, _&&_, true≢false}
+use mathlib.Core.Bool.{Bool, true, false}
 use mathlib.Core.List.{List, [], _∷_, _++_}
 use native.Mathlib.Omega.{arith}
 use lib.Dec.{eqb}
 use lib.ListN.{length, take, drop}
 use lib.Seq.{sets, sets-eq, take-at}
-use borrow.Author.Tests.{le-leb, lt-leb, eqb-true}
+use borrow.Author.Tests.{le-leb, lt-leb}
 use Rattle.spec.specs.declared.Shape.{Shape}
 use Rattle.spec.specs.declared.Answer.{Answer}
 use Rattle.spec.specs.Tree.{nodeCount}
 use Rattle.spec.specs.Shapes.{resolved, level, challengeBytes, shapeOk, hiddenIndices, grindingOk, planned, plannedCount}
+use Rattle.laws.proofs.Lengths.{fits-sized}
 use Rattle.spec.specs.Calls.{fits, countWith, nodesOk, decodeNumber, Decode, planNumber, Plan}
 
 -- two lengths that fit
 pub fit-both : (a x b y : ℕ) → fits ((a, x) ∷ (b, y) ∷ []) ≡ true → (a ≡ x) × (b ≡ y)
-fit-both a x b y h = (let q = both (eqb a x) (eqb b y) h in (eqb-true a x (q .0), eqb-true b y (q .1)))
-  where
-    both : (p q : Bool) → (p && (q && true)) ≡ true → (p ≡ true) × (q ≡ true)
-    both true true e = (refl, refl)
-    both true false e = absurd (true≢false (sym e))
-    both false q e = absurd (true≢false (sym e))
+fit-both a x b y h = (let q = fits-sized ((a, x) ∷ (b, y) ∷ []) h in (q .0, q .1 .0))
 
 pub planned-length : (s : Shape) (ch : List ℕ) → length (planned s ch) ≡ plannedCount s ch
 unfolding planned plannedCount nodeCount
 planned-length s ch = refl
+
+-- the planned nodes, stored at the front of a list that has room
+pub planned-front : (s : Shape) (ch list : List ℕ) (n : ℕ) → n ≡ plannedCount s ch → n ≤ length list → take n (sets list 0 (planned s ch)) ≡ planned s ch
+planned-front s ch list n c l =
+    let size : length (planned s ch) ≡ n = planned-length s ch ∙ sym c in
+    ap (take n) (sets-eq (planned s ch) list 0 (omega arith)) ∙ take-at (planned s ch) (drop (0 + length (planned s ch)) list) n size
 
 module _ (s t : Shape) (e : t ≡ resolved s) (ch xs : List ℕ) (r : Answer) where
   -- the lengths that a call compares: the challenge's, and the list's with n
@@ -86,11 +88,8 @@ module _ (s t : Shape) (e : t ≡ resolved s) (ch xs : List ℕ) (r : Answer) wh
   unfolding planNumber countWith nodesOk challengeBytes level
   plan-0 n list ys a b d c h l w q =
       let within : plannedCount t ch ≤ t .t = rw c at h in
-      let size : length (planned t ch) ≡ n = planned-length t ch ∙ sym c in
-      let front : take n (sets list 0 (planned t ch)) ≡ planned t ch =
-      ap (take n) (sets-eq (planned t ch) list 0 (omega arith)) ∙ take-at (planned t ch) (drop (0 + length (planned t ch)) list) n size in
       let new : ys ≡ planned t ch ++ drop (plannedCount t ch) xs =
-      w ∙ ap (λ (zs : List ℕ). zs ++ drop n xs) front ∙ ap (λ (m : ℕ). planned t ch ++ drop m xs) c in
+      w ∙ ap (λ (zs : List ℕ). zs ++ drop n xs) (planned-front t ch list n c l) ∙ ap (λ (m : ℕ). planned t ch ++ drop m xs) c in
       record {
         number = q .0 ∙ sym (rw (rw e at a, rw e at b, rw e at d, rw e at (le-leb (plannedCount t ch) (t .t) within)) refl);
         count = q .1 ∙ rw e at c ∙ sym (rw (q .0) refl);

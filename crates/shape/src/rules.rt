@@ -2,7 +2,7 @@
 ghost use mathlib.Core.Path.{_≡_};
 ghost use mathlib.Core.Bool.{true};
 ghost use Prim.Native.Nat.{_+_, _*_, _<_, _≤_};
-ghost use Rattle.spec.specs.Shapes.{resolved, shapeOk, entriesOf, leaves, leafOf};
+ghost use Rattle.spec.specs.Shapes.{resolved, shapeOk, entriesOf, firstEntry, leaves, leafOf};
 ghost use mathlib.Core.List.{[], _∷_};
 ghost use Rattle.spec.specs.Calls.{rowOk, fits};
 use spec::Shape;
@@ -73,6 +73,13 @@ pub fn fit2(a: usize, x: usize, b: usize, y: usize) -> bool
     (a == x) & ((b == y) & true)
 }
 
+// Whether four buffers have their lengths.
+pub fn fit4(a: usize, x: usize, b: usize, y: usize, c: usize, z: usize, d: usize, v: usize) -> bool
+    ensures { λ r. ⌜ r ≡ fits ((a, x) ∷ (b, y) ∷ (c, z) ∷ (d, v) ∷ []) ⌝ }
+{
+    (a == x) & ((b == y) & ((c == z) & ((d == v) & true)))
+}
+
 // L, the number of leaves.
 pub fn leaf_count(s: Shape) -> usize
     requires { ⌜ shapeOk s ≡ true ⌝ }
@@ -88,4 +95,13 @@ pub fn leaf_of(s: Shape, i: usize, j: usize) -> usize
     ensures { λ r. ⌜ (r ≡ leafOf s i j) × (leaves s ≤ r + 1) × (r + 1 < 2 * leaves s) × (r < 81920) ⌝ }
 {
     leaf_count(s) - 1 + s.tau * j + i
+}
+
+// The place of entry j of vector i among the entries of all vectors, one vector after another.
+pub fn entry_of(s: Shape, i: usize, j: usize) -> usize
+    requires { ⌜ (shapeOk s ≡ true) × (i < s .tau) × (j < entriesOf s i) ⌝ }
+    ensures { λ r. ⌜ (r ≡ firstEntry s i + j) × (r < leaves s) × (r < 40960) ⌝ }
+{
+    let k = s.k;
+    (i << k) + j
 }

@@ -20,19 +20,7 @@ use Rattle.spec.specs.Verifier.{hiddenLeafCommitment, slot, slotsOk}
 use Rattle.laws.proofs.Lists.{length-part, length-zeros}
 use Rattle.laws.proofs.Concat.{part-front, part-after, laid-length, laid-part, even-length, even-part, concat-same, mul-within}
 use Rattle.planning_laws.proofs.Revealed.{revealed-low}
-use Rattle.planning_laws.proofs.ShapeLaws.{ShapeLaws}
-
--- the entry after those of the vectors before i, and j more, is an entry
-pub entry-before : (s : Shape) → ShapeLaws s → (n i : ℕ) → i < n → firstEntry s i + entriesOf s i ≤ firstEntry s n
-entry-before s f zero i h = absurd (omega arith)
-entry-before s f (suc n) i h = go (decLt i n) (λ l. entry-before s f n i l)
-  where
-    go : Dec (i < n) → (i < n → firstEntry s i + entriesOf s i ≤ firstEntry s n) → firstEntry s i + entriesOf s i ≤ firstEntry s (suc n)
-    go (yes l) ih = (let a = ih l in let b = f .entry-next n in omega arith)
-    go (no l) ih = subst (λ (x : ℕ). firstEntry s i + entriesOf s i ≤ firstEntry s (suc x)) (let z : i ≡ n = omega arith in z) (let b = f .entry-next i in omega arith)
-
-pub entry-in : (s : Shape) → ShapeLaws s → (i j : ℕ) → i < s .tau → j < entriesOf s i → firstEntry s i + j < leaves s
-entry-in s f i j h l = (let a = entry-before s f (s .tau) i h in let b = f .entry-all in omega arith)
+use Rattle.planning_laws.proofs.ShapeLaws.{ShapeLaws, entry-in}
 
 -- ---- leaf commitments
 

@@ -17,23 +17,13 @@ use Rattle.spec.specs.Signer.{signerTree, signerLeafCommitment, corrections, op
 use Rattle.spec.specs.Verifier.{slotsOk}
 use Rattle.spec.specs.Calls.{firstRefusal, fits, countWith, written, rowOk, nodesOk, Committed, committed, commitLengths, commitNumber, Commit, openLengths, openNumber, Open, Reconstructed, reconstructed, reconstructLengths, reconstructNumber, Reconstruct}
 use Rattle.planning_laws.proofs.ShapeLaws.{shape-laws}
-use Rattle.theorems.specs.Demands.{Sized, Accepted, Five, Demand3, OpeningDepends}
+use Rattle.laws.specs.Lengths.{Sized}
+use Rattle.laws.proofs.Lengths.{sized-fits, fits-sized}
+use Rattle.theorems.specs.Demands.{Accepted, Five, Demand3, OpeningDepends}
 use Rattle.theorems.proofs.Buffers.{opening-length, opening-rest, opening-same}
 use Rattle.theorems.proofs.Reconstruction.{tree-length, signer-commitments-length, corrections-length, node-same, node-zero, commitment-same, leaf-commitments-same, column-rule}
 
 -- ---- tests
-
-and-true : (a b : Bool) → (a && b) ≡ true → (a ≡ true) × (b ≡ true)
-and-true true b e = (refl, e)
-and-true false b e = absurd (true≢false (sym e))
-
-sized-fits : (ps : List (ℕ × ℕ)) → Sized ps → fits ps ≡ true
-sized-fits [] h = refl
-sized-fits (p ∷ ps) h = ap₂ _&&_ (eq-eqb (p .0) (p .1) (h .0)) (sized-fits ps (h .1))
-
-fits-sized : (ps : List (ℕ × ℕ)) → fits ps ≡ true → Sized ps
-fits-sized [] h = tt
-fits-sized (p ∷ ps) h = (let q = and-true (eqb (p .0) (p .1)) (fits ps) h in (eqb-true (p .0) (p .1) (q .0), fits-sized ps (q .1)))
 
 all3 : (a b c : Bool) → firstRefusal ((a, 1) ∷ (b, 2) ∷ (c, 3) ∷ []) ≡ 0 → (a ≡ true) × (b ≡ true) × (c ≡ true)
 all3 false b c h = absurd (omega arith)

@@ -14,12 +14,8 @@ use Rattle.spec.specs.Shapes.{resolved, level, nodeBytes, challengeBytes, hashB
 use Rattle.spec.specs.Primitives.{Primitives}
 use Rattle.spec.specs.Leaves.{nodeAt}
 use Rattle.spec.specs.Signer.{leafCommitmentAt, openingOf}
+use Rattle.laws.specs.Lengths.{Sized}
 use Rattle.spec.specs.Calls.{rowOk, Committed, Commit, openLengths, Open, Reconstructed, reconstructLengths, Reconstruct}
-
--- each length is what it must be
-abbrev pub Sized : List (ℕ × ℕ) → Type 0
-Sized [] = Unit {0}
-Sized (p ∷ ps) = (p .0 ≡ p .1) × Sized ps
 
 -- each of n columns of q is that of v where the challenge bit is 0, and that of v xored with u where it is 1
 pub record ColumnRule (n b : ℕ) (ch u v q : List ℕ) : Type 0 where
