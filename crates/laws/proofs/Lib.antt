@@ -14,3 +14,4 @@ pub mod Filling
 pub mod Division
 pub mod Putting
 pub mod Lengths
+pub mod Digits

@@ -1,0 +1,16 @@
+-- `aes::next_key` meets its contract: each word is the sum that the definition has. Assumes nothing.
+use borrow.Author.Needs.{needs}
+use Rattle.aes.specs.RoundKeys.{nextRoundKey}
+use Rattle.aes.proofs.next_key.Statement.{statement}
+use Rattle.aes.proofs.next_key.Tie as tie
+
+returns : tie.Need-returns
+unfolding nextRoundKey
+returns c = cc
+
+pub next-key-spec : {M : Type 1} → statement M
+next-key-spec =
+    tie.close
+    (tie.spec
+    (λ c. search needs) (λ c κs. search needs) (λ c κs. search needs) (λ c. search needs) (λ c κs. search needs) (λ c κs. search needs)
+    (λ c. search needs) (λ c κs. search needs) (λ c. search needs) (λ c κs. search needs) (λ c. search needs) (λ c κs. search needs) returns)

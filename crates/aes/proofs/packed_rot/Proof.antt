@@ -1,0 +1,12 @@
+-- `aes::packed_rot` meets its contract: the rule of `PackedWords`. Assumes nothing.
+use borrow.Author.Needs.{needs}
+use Rattle.aes.proofs.PackedWords.{packed-rot}
+use Rattle.aes.proofs.packed_rot.Statement.{statement}
+use Rattle.aes.proofs.packed_rot.Tie as tie
+
+returns : tie.Need-returns
+returns c = packed-rot (c .args .w) (search needs)
+
+pub packed-rot-spec : {M : Type 1} → statement M
+packed-rot-spec =
+    tie.close (tie.spec returns)

@@ -1,0 +1,118 @@
+// The generator PRG of document 000, section 3.3, figure 3.6, for keys of 128 bits: AES in counter mode, with a tweak.
+ghost use mathlib.Core.Path.{_≡_};
+ghost use mathlib.Core.List.{List, [], _∷_};
+ghost use Prim.Native.Nat.{ℕ, _+_, _^_, _≤_, _<_, min};
+ghost use lib.ListN.{length};
+ghost use Rattle.spec.specs.Bytes.{tabulate};
+ghost use Rattle.spec.specs.Gf256.{SboxTable};
+ghost use Rattle.spec.specs.Generator.{addToWord, addToUpperWord, addToLowerWord, generatorBlock, generatorByte};
+ghost use Rattle.aes.specs.RoundKeys.{roundKeys};
+ghost use Rattle.generator.specs.Stored.{Stored};
+
+// An IV of 16 lent bytes.
+pub fn load_iv(s: &[u8]) -> [u8; 16]
+    requires { ⌜ length (now s) ≡ 16 ⌝ }
+    ensures { λ r. ⌜ r ≡ now (s .entry) ⌝ }
+{
+    aes::bytes_of(aes::load_state(s))
+}
+
+fn add_to_word(a: [u8; 4], v: u32) -> [u8; 4]
+    ensures { λ r. ⌜ r ≡ addToWord a v ⌝ }
+{
+    aes::unpack(std::num::wrapping_add_u32(aes::pack(a), v))
+}
+
+// What block n encrypts.
+fn counter(iv: [[u8; 4]; 4], tweak: u32, n: u32) -> [[u8; 4]; 4]
+    ensures { λ r. ⌜ r ≡ addToLowerWord (addToUpperWord iv tweak) n ⌝ }
+{
+    [
+        add_to_word(iv[0], n),
+        iv[1],
+        iv[2],
+        add_to_word(iv[3], tweak),
+    ]
+}
+
+// Block n, for the round keys of any key.
+pub fn block(t: &[u8; 256], keys: &[[[u8; 4]; 4]; 11], iv: [u8; 16], tweak: u32, n: u32) -> [u8; 16]
+    requires { ⌜ SboxTable (now t) ⌝ }
+    ensures { λ r. ⌜ ((key : List ℕ) → now (keys .entry) ≡ roundKeys 4 key → r ≡ generatorBlock 4 key iv tweak n) ⌝ }
+{
+    aes::bytes_of(aes::encrypt(t, keys, counter(aes::load_state(&iv), tweak, n)))
+}
+
+// Blocks n and n + 1: quicker than one after the other.
+pub fn block_pair(
+    t: &[u8; 256],
+    keys: &[[[u8; 4]; 4]; 11],
+    iv: [u8; 16],
+    tweak: u32,
+    n: u32,
+) -> [[u8; 16]; 2]
+    requires { ⌜ SboxTable (now t) ⌝ }
+    requires { ⌜ n + 1 < 2 ^ 32 ⌝ }
+    ensures { λ r. ⌜ ((key : List ℕ) → now (keys .entry) ≡ roundKeys 4 key → r ≡ generatorBlock 4 key iv tweak n ∷ generatorBlock 4 key iv tweak (n + 1) ∷ []) ⌝ }
+{
+    let s = aes::load_state(&iv);
+    let pair = aes::encrypt_pair(t, keys, counter(s, tweak, n), counter(s, tweak, n + 1));
+    [aes::bytes_of(pair[0]), aes::bytes_of(pair[1])]
+}
+
+fn least(a: usize, b: usize) -> usize
+    ensures { λ r. ⌜ r ≡ min a b ⌝ }
+{
+    if a < b { a } else { b }
+}
+
+// Stores a whole block at place p of out: a copy of 16 bytes, which is quicker where their number is a constant.
+fn store_whole(block: [u8; 16], p: usize, out: &mut [u8]) -> usize
+    requires { ⌜ p + 16 ≤ length (now out) ⌝ }
+    ensures { λ r. ⌜ Stored block 0 p r (now (out .entry)) (now (out .exit)) ⌝ }
+{
+    for k in 0..16 {
+        out[p + k] = block[k];
+    }
+    p + 16
+}
+
+// Stores the block's bytes from byte `from` on, as many as there is room for.
+fn store_part(block: [u8; 16], from: usize, p: usize, out: &mut [u8]) -> usize
+    requires { ⌜ (from < 16) × (p ≤ length (now out)) ⌝ }
+    ensures { λ r. ⌜ Stored block from p r (now (out .entry)) (now (out .exit)) ⌝ }
+{
+    let n = least(16 - from, out.len() - p);
+    for k in 0..n {
+        out[p + k] = block[from + k];
+    }
+    p + n
+}
+
+// Stores the block's bytes from byte `from` on at place p of out, and gives the place after them.
+fn store(block: [u8; 16], from: usize, p: usize, out: &mut [u8]) -> usize
+    requires { ⌜ (from < 16) × (p ≤ length (now out)) ⌝ }
+    ensures { λ r. ⌜ Stored block from p r (now (out .entry)) (now (out .exit)) ⌝ }
+{
+    if from == 0 {
+        if 16 <= out.len() - p {
+            return store_whole(block, p, out);
+        }
+    }
+    store_part(block, from, p, out)
+}
+
+// Fills out with the first bytes of the output: byte p is byte p % 16 of block p / 16.
+pub fn fill(t: &[u8; 256], key: &[u8], iv: [u8; 16], tweak: u32, out: &mut [u8])
+    requires { ⌜ SboxTable (now t) ⌝ }
+    requires { ⌜ (length (now key) ≡ 16) × (length (now out) < 2 ^ 32) ⌝ }
+    ensures { λ _. ⌜ now (out .exit) ≡ tabulate (length (now (out .entry))) (generatorByte 4 (now (key .entry)) iv tweak) ⌝ }
+{
+    let keys = aes::key_schedule(t, key);
+    let mut p = 0;
+    while p < out.len() {
+        let blocks = block_pair(t, &keys, iv, tweak, (p / 16) as u32);
+        let mid = store(blocks[0], p % 16, p, out);
+        p = store(blocks[1], 0, mid, out);
+    }
+}
