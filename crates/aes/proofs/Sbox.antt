@@ -1,14 +1,14 @@
--- The table is the S-box: one test, computed at each of the 256 entries. It also shows that `inverse` is the inverse. Assumes nothing.
+-- The table is the S-box: one test, computed at each of the 256 entries. Assumes nothing.
 use mathlib.Core.Path.{_≡_}
 use mathlib.Core.List.{List, [], _∷_}
 use mathlib.Core.Bool.{Bool}
-use Prim.Native.Nat.{ℕ, _<_, min}
+use Prim.Native.Nat.{ℕ, _<_}
 use lib.Dec.{eqb, eqb→eq, T}
 use lib.ListN.{getD}
 use Rattle.spec.specs.Bytes.{tabulate, number}
 use Rattle.spec.specs.Polynomials.{product, remainder, fieldProduct}
 use Rattle.spec.specs.Gf256.{mul, squares, inverse, affineBit, affine, sbox}
-use Rattle.laws.proofs.Tables.{both, both-left, both-right, at-entry}
+use Rattle.laws.proofs.Tables.{at-entry}
 
 -- the constant of the source
 abbrev entries : List ℕ
@@ -17,22 +17,10 @@ entries = 99 ∷ 124 ∷ 119 ∷ 123 ∷ 242 ∷ 107 ∷ 111 ∷ 197 ∷ 48 ∷ 
 substituted : ℕ → ℕ → Bool
 substituted k x = eqb x (sbox k)
 
--- k times its inverse is 1, and 0 where k is 0
-inverted : ℕ → Bool
-inverted k = eqb (mul k (inverse k)) (min k 1)
-
-test : ℕ → ℕ → Bool
-test k x = both (substituted k x) (inverted k)
-
-tested : (k : ℕ) → k < 256 → T (test k (getD entries k 0))
-unfolding test substituted inverted tabulate number product remainder fieldProduct mul squares inverse affineBit affine sbox
-tested k h = at-entry test entries tt k h
+tested : (k : ℕ) → k < 256 → T (substituted k (getD entries k 0))
+unfolding substituted tabulate number product remainder fieldProduct mul squares inverse affineBit affine sbox
+tested k h = at-entry substituted entries tt k h
 
 pub entry-is : (k : ℕ) → k < 256 → getD entries k 0 ≡ sbox k
-unfolding test substituted
-entry-is k h = eqb→eq (getD entries k 0) (sbox k) (both-left (substituted k (getD entries k 0)) (inverted k) (tested k h))
-
--- FIPS 197, section 4.4
-pub inverse-is : (k : ℕ) → k < 256 → mul k (inverse k) ≡ min k 1
-unfolding test inverted
-inverse-is k h = eqb→eq (mul k (inverse k)) (min k 1) (both-right (substituted k (getD entries k 0)) (inverted k) (tested k h))
+unfolding substituted
+entry-is k h = eqb→eq (getD entries k 0) (sbox k) (tested k h)
