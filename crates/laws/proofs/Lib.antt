@@ -15,3 +15,5 @@ pub mod Division
 pub mod Putting
 pub mod Lengths
 pub mod Digits
+pub mod Parts
+pub mod Conjunctions

@@ -1,0 +1,16 @@
+-- Tests joined by `&&`, and a test that cannot succeed. By the cases of the tests. Assumes nothing.
+use mathlib.Core.Path.{_≡_, refl, sym}
+use mathlib.Core.Bool.{Bool, true, false, _&&_, true≢false}
+
+pub both-true : (a b : Bool) → (a && b) ≡ true → (a ≡ true) × (b ≡ true)
+both-true true true e = (refl, refl)
+both-true true false e = absurd (true≢false (sym e))
+both-true false b e = absurd (true≢false (sym e))
+
+pub and-true : (b : Bool) → b ≡ (b && true)
+and-true true = refl
+and-true false = refl
+
+pub refuted : (b : Bool) → (b ≡ true → ⊥) → false ≡ b
+refuted false h = refl
+refuted true h = absurd (h refl)

@@ -1,0 +1,18 @@
+-- What is written is as long as the listing says. Assumes nothing.
+use mathlib.Core.Path.{sym}
+use lib.Seq.{length-take-le}
+use borrow.Author.Needs.{needs}
+use Rattle.list_nodes_runs.proofs.run.Statement.{statement}
+use Rattle.list_nodes_runs.proofs.run.Tie as tie
+
+pub run-spec : {M : Type 1} → statement M
+run-spec =
+    tie.close
+    (tie.spec
+    (λ c κs. search needs)
+    (λ c. search needs)
+    (λ c κs. search needs)
+    (λ c. search needs)
+    (λ c. sym (length-take-le _ _ (c .before .before .list .ensures .0)))
+    (λ c κs. search needs)
+    (λ c. search needs))
