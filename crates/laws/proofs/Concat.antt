@@ -2,13 +2,13 @@
 -- Assumes nothing.
 use Prim.Native.Nat.{ℕ, zero, suc, _+_, _-_, _*_, _/_, _%_, _≤_, _<_}
 use mathlib.Core.Path.{_≡_, refl, sym, ap, ap₂, _∙_, subst}
-use mathlib.Core.List.{List, [], _∷_, _++_}
+use mathlib.Core.List.{List, [], _∷_, _++_, append-nil, append-assoc}
 use native.Mathlib.Omega.{arith}
-use native.Mathlib.Nat.{mul-suc, mul-zero, mul-le-mul, le-refl}
+use native.Mathlib.Nat.{add-zero, add-suc, zero-mul, mul-suc, mul-zero, mul-le-mul, lt-of-mul-lt-mul-left, le-refl, mod-lt, div-add-mod}
 use native.Mathlib.Numerals.{add-one}
 use native.Mathlib.Decide.{decLt}
 use lib.ListN.{length, getD, take, drop, length-append, length-drop}
-use lib.Seq.{take-append-le, drop-append-le, drop-append-add, take-all}
+use lib.Seq.{take-append-le, drop-append-le, drop-append-add, take-all, ext-getD}
 use Rattle.spec.specs.Bytes.{part, tabulate, concat}
 use Rattle.laws.proofs.Lists.{length-tabulate, getD-tabulate, getD-part}
 
@@ -89,6 +89,36 @@ pub concat-same : (f g : ℕ → List ℕ) (n : ℕ) → ((i : ℕ) → i < n �
 unfolding concat
 concat-same f g zero h = refl
 concat-same f g (suc n) h = ap₂ _++_ (concat-same f g n (λ i l. h i (omega arith))) (h n (omega arith))
+
+pub concat-append : (f : ℕ → List ℕ) (m n : ℕ) → concat (m + n) f ≡ concat m f ++ concat n (λ i. f (m + i))
+unfolding concat
+concat-append f m zero = ap (λ (k : ℕ). concat k f) (add-zero m) ∙ sym (append-nil (concat m f))
+concat-append f m (suc n) =
+    ap (λ (k : ℕ). concat k f) (add-suc m n)
+    ∙ ap (λ (l : List ℕ). l ++ f (m + n)) (concat-append f m n)
+    ∙ append-assoc (concat m f) (concat n (λ i. f (m + i))) (f (m + n))
+
+-- a list of b * k bytes is the rule's strings where each byte is
+pub is-concat : (b k : ℕ) (f : ℕ → ℕ → ℕ) (l : List ℕ) → length l ≡ b * k → ((j p : ℕ) → j < k → p < b → getD l (b * j + p) 0 ≡ f j p)
+    → l ≡ concat k (λ j. tabulate b (f j))
+is-concat b k f l e h = ext-getD 0 l (concat k (λ j. tabulate b (f j))) (e ∙ sym long) (λ q lt. byte q (rw e at lt))
+  where
+    long : length (concat k (λ j. tabulate b (f j))) ≡ b * k
+    long = even-length (λ j. tabulate b (f j)) b k (λ j h. length-tabulate b (f j))
+
+    some : (q n : ℕ) → q < n * k → 0 < n
+    some q zero lt = absurd (let z = zero-mul k in omega arith)
+    some q (suc n) lt = omega arith
+
+    byte : (q : ℕ) → q < b * k → getD l q 0 ≡ getD (concat k (λ j. tabulate b (f j))) q 0
+    byte q lt =
+        let whole = div-add-mod q b in
+        let low : q % b < b = mod-lt q (some q b lt) in
+        let high : q / b < k = lt-of-mul-lt-mul-left b (omega arith) in
+        ap (λ (x : ℕ). getD l x 0) (sym whole)
+        ∙ h (q / b) (q % b) high low
+        ∙ sym (concat-byte b k f (q / b) (q % b) high low)
+        ∙ ap (λ (x : ℕ). getD (concat k (λ j. tabulate b (f j))) x 0) whole
 
 -- ---- products of a width and a number of blocks
 

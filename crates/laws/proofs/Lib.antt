@@ -1,4 +1,5 @@
 pub mod Xor
+pub mod Sums
 pub mod Tables
 pub mod Tests
 pub mod Lists

@@ -2,20 +2,12 @@
 ghost use mathlib.Core.Path.{_≡_};
 ghost use mathlib.Core.Bool.{true};
 ghost use mathlib.Core.List.{_++_};
-ghost use Prim.Native.Nat.{ℕ, _+_, _-_, _*_, _≤_, _<_};
-ghost use lib.ListN.{length, getD, take, drop};
-ghost use Rattle.spec.specs.Bytes.{part, concat, zeros};
+ghost use Prim.Native.Nat.{ℕ, _+_, _*_, _≤_, _<_};
+ghost use lib.ListN.{length, getD, take};
+ghost use Rattle.spec.specs.Bytes.{part, concat};
 ghost use Rattle.spec.specs.Shapes.{shapeOk, leaves, hiddenIndex, planned, plannedCount, treeBytes, leafCommitmentsBytes, openingBytes};
 ghost use Rattle.spec.specs.Signer.{leafCommitmentAt, openingOf};
 use spec::Shape;
-
-// Copies n bytes of src from byte `from` on to dst from byte `at` on.
-fn copy_part(src: &[u8], from: usize, n: usize, dst: &mut [u8], at: usize)
-    requires { ⌜ (from + n ≤ length (now src)) × (at + n ≤ length (now dst)) ⌝ }
-    ensures { λ _. ⌜ now (dst .exit) ≡ take at (now (dst .entry)) ++ (part (now (src .entry)) from n ++ drop (at + n) (now (dst .entry))) ⌝ }
-{
-    bytes::copy(&src[from..from + n], &mut dst[at..at + n]);
-}
 
 // The hidden leaf commitment of each vector, at the front.
 fn write_hidden(s: Shape, ch: &[u8], lcs: &[u8], out: &mut [u8])
@@ -26,7 +18,7 @@ fn write_hidden(s: Shape, ch: &[u8], lcs: &[u8], out: &mut [u8])
     let mut i = 0;
     while i < tau {
         let j = shape::challenge::hidden_index(s, ch, i);
-        copy_part(lcs, 48 * shape::rules::entry_of(s, i, j), 48, out, 48 * i);
+        buffers::copy_part(lcs, 48 * shape::rules::entry_of(s, i, j), 48, out, 48 * i);
         i += 1;
     }
 }
@@ -38,20 +30,8 @@ fn write_nodes(nodes: &[u32], n: usize, tree: &[u8], out: &mut [u8], at: usize)
 {
     let mut m = 0;
     while m < n {
-        copy_part(tree, 16 * (nodes[m] as usize), 16, out, at + 16 * m);
+        buffers::copy_part(tree, 16 * (nodes[m] as usize), 16, out, at + 16 * m);
         m += 1;
-    }
-}
-
-// Zeros from byte `at` on.
-fn clear_from(out: &mut [u8], at: usize)
-    requires { ⌜ at ≤ length (now out) ⌝ }
-    ensures { λ _. ⌜ now (out .exit) ≡ take at (now (out .entry)) ++ zeros (length (now (out .entry)) - at) ⌝ }
-{
-    let mut p = at;
-    while p < out.len() {
-        out[p] = 0;
-        p += 1;
     }
 }
 
@@ -71,5 +51,5 @@ pub fn write_opening(
 {
     write_hidden(s, ch, lcs, out);
     write_nodes(nodes, n, tree, out, 48 * s.tau);
-    clear_from(out, 48 * s.tau + 16 * n);
+    buffers::clear_from(out, 48 * s.tau + 16 * n);
 }

@@ -50,3 +50,12 @@ module _ (w : ℕ) (first : List ℕ) (children : ℕ → List ℕ → List ℕ)
       let p = mul-next w (2 * n + 1) in
       let g : w * (2 * n + 1 + 1) ≡ w * (2 * n + 2) = ap (λ (m : ℕ). w * m) (let z : 2 * n + 1 + 1 ≡ 2 * n + 2 = omega arith in z) in
       part-after (expandTree w first children n) (children n (part (expandTree w first children n) (w * n) w)) (w * (2 * n + 2)) w w (omega arith)
+
+-- rules for the children that agree give the same tree
+pub expand-same : (w : ℕ) (first : List ℕ) (f g : ℕ → List ℕ → List ℕ) (n : ℕ) → ((a : ℕ) → a < n → (x : List ℕ) → f a x ≡ g a x)
+    → expandTree w first f n ≡ expandTree w first g n
+unfolding expandTree
+expand-same w first f g zero h = refl
+expand-same w first f g (suc n) h =
+    ap (λ (t : List ℕ). t ++ f n (part t (w * n) w)) (expand-same w first f g n (λ a l. h a (omega arith)))
+    ∙ ap (λ (y : List ℕ). expandTree w first g n ++ y) (h n (omega arith) (part (expandTree w first g n) (w * n) w))

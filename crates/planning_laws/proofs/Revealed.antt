@@ -203,3 +203,54 @@ from-low c (suc n) m h =
 pub revealed-low : (L : ℕ) (hs : List ℕ) (m : ℕ) → 1 ≤ L → m < nodeCount L hs → getD (revealed L hs) m 0 < 2 * L - 1
 unfolding revealed nodeCount
 revealed-low L hs m p h = (let r = from-low (covered hs) (L - 1) m h in omega arith)
+
+-- ---- the place of a revealed node in the list
+
+sibling-longer : (p q : Bool) (a : ℕ) (l : List ℕ) → length l ≤ length (siblingToReveal p q a ++ l)
+unfolding siblingToReveal
+sibling-longer true true a l = omega arith
+sibling-longer true false a l = omega arith
+sibling-longer false true a l = omega arith
+sibling-longer false false a l = omega arith
+
+pub revealed-longer : (c : ℕ → Bool) (n m : ℕ) → n ≤ m → length (revealedFrom c n) ≤ length (revealedFrom c m)
+unfolding revealedFrom
+revealed-longer c n zero h = (let e = ap (λ (x : ℕ). length (revealedFrom c x)) (let z : n ≡ 0 = omega arith in z) in omega arith)
+revealed-longer c n (suc m) h = go (decLt m n) (λ l. revealed-longer c n m l)
+  where
+    go : Dec (m < n) → (n ≤ m → length (revealedFrom c n) ≤ length (revealedFrom c m)) → length (revealedFrom c n) ≤ length (revealedFrom c (suc m))
+    go (yes l) ih = (let e = ap (λ (x : ℕ). length (revealedFrom c x)) (let z : n ≡ suc m = omega arith in z) in omega arith)
+    go (no l) ih =
+        let a = ih (omega arith) in
+        let b = sibling-longer (c (2 * m + 1)) (c (2 * m + 2)) m (revealedFrom c m) in
+        omega arith
+
+-- what a later node m reveals stands before x
+sibling-before : (p q : Bool) (m x : ℕ) (l : List ℕ) → x < 2 * m + 1 → indexOf x (siblingToReveal p q m ++ l) + length l ≡ indexOf x l + length (siblingToReveal p q m ++ l)
+unfolding siblingToReveal indexOf
+sibling-before true true m x l h = refl
+sibling-before false false m x l h = refl
+sibling-before true false m x l h = rw (ne-eqb x (2 * m + 2) (λ e. omega arith)) (omega arith)
+sibling-before false true m x l h = rw (ne-eqb x (2 * m + 1) (λ e. omega arith)) (omega arith)
+
+-- the node x that node a reveals stands before those that the nodes below a reveal
+pub revealed-place : (c : ℕ → Bool) (n a x : ℕ) → a < n → siblingToReveal (c (2 * a + 1)) (c (2 * a + 2)) a ≡ x ∷ []
+    → indexOf x (revealedFrom c n) + length (revealedFrom c (suc a)) ≡ length (revealedFrom c n)
+unfolding indexOf revealedFrom
+revealed-place c zero a x h e = absurd (omega arith)
+revealed-place c (suc m) a x h e = go (decLt a m) (λ l. revealed-place c m a x l e)
+  where
+    go : Dec (a < m) → (a < m → indexOf x (revealedFrom c m) + length (revealedFrom c (suc a)) ≡ length (revealedFrom c m))
+        → indexOf x (revealedFrom c (suc m)) + length (revealedFrom c (suc a)) ≡ length (revealedFrom c (suc m))
+    go (yes l) ih =
+        let low : 0 < length (x ∷ []) → getD (x ∷ []) 0 0 < 2 * a + 3 = rw e at (sibling-low (c (2 * a + 1)) (c (2 * a + 2)) a 0) in
+        let below : x < 2 * a + 3 = low (omega arith) in
+        let p = sibling-before (c (2 * m + 1)) (c (2 * m + 2)) m x (revealedFrom c m) (omega arith) in
+        let q = ih l in
+        omega arith
+    go (no l) ih =
+        let z : a ≡ m = omega arith in
+        let first : indexOf x (siblingToReveal (c (2 * a + 1)) (c (2 * a + 2)) a ++ revealedFrom c a) ≡ 0 = rw (e, eq-eqb x x refl) refl in
+        let same = ap (λ (y : ℕ). indexOf x (revealedFrom c (suc y))) (sym z) ∙ first in
+        let long = ap (λ (y : ℕ). length (revealedFrom c (suc y))) z in
+        omega arith

@@ -14,7 +14,7 @@ fn least(a: usize, b: usize) -> usize
     if a < b { a } else { b }
 }
 
-// Adds the row of b bytes of a seed to `total`, and to each of k columns of b bytes whose bit the entry's number has set.
+// Adds the row of b bytes of a seed to `total`, which has one column or none, and to each of k columns of b bytes whose bit the entry's number has set.
 pub fn add_row(
     t: &[u8; 256],
     seed: &[u8],
@@ -23,12 +23,13 @@ pub fn add_row(
     b: usize,
     k: usize,
     number: usize,
+    totals: usize,
     total: &mut [u8],
     cols: &mut [u8],
 )
     requires { ⌜ SboxTable (now t) ⌝ }
-    requires { ⌜ (length (now seed) ≡ 16) × (b ≤ 8192) × (k ≤ 12) × (length (now total) ≡ b) × (length (now cols) ≡ b * k) ⌝ }
-    ensures { λ _. ⌜ Added b 1 (λ j p. generatorByte 4 (now (seed .entry)) iv tweak p) (now (total .entry)) (now (total .exit)) ⌝ }
+    requires { ⌜ (length (now seed) ≡ 16) × (b ≤ 8192) × (k ≤ 12) × (totals ≤ 1) × (length (now total) ≡ b * totals) × (length (now cols) ≡ b * k) ⌝ }
+    ensures { λ _. ⌜ Added b totals (λ j p. generatorByte 4 (now (seed .entry)) iv tweak p) (now (total .entry)) (now (total .exit)) ⌝ }
     ensures { λ _. ⌜ Added b k (λ j p. bit j number * generatorByte 4 (now (seed .entry)) iv tweak p) (now (cols .entry)) (now (cols .exit)) ⌝ }
 {
     let keys = aes::key_schedule(t, seed);
@@ -37,7 +38,7 @@ pub fn add_row(
         let block = generator::block(t, &keys, iv, tweak, (at / 16) as u32);
         // the last block is cut
         let n = least(16, b - at);
-        columns::add_block(total, b, 1, 1, at, n, block);
+        columns::add_block(total, b, totals, 1, at, n, block);
         columns::add_block(cols, b, k, number, at, n, block);
         at += n;
     }

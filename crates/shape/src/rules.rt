@@ -1,7 +1,7 @@
 // The shape rules of document 01, and the numbers that a shape gives.
 ghost use mathlib.Core.Path.{_≡_};
 ghost use mathlib.Core.Bool.{true};
-ghost use Prim.Native.Nat.{_+_, _*_, _<_, _≤_};
+ghost use Prim.Native.Nat.{_+_, _*_, _^_, _<_, _≤_};
 ghost use Rattle.spec.specs.Shapes.{resolved, shapeOk, entriesOf, firstEntry, leaves, leafOf};
 ghost use mathlib.Core.List.{[], _∷_};
 ghost use Rattle.spec.specs.Calls.{rowOk, fits};
@@ -80,6 +80,33 @@ pub fn fit4(a: usize, x: usize, b: usize, y: usize, c: usize, z: usize, d: usize
     (a == x) & ((b == y) & ((c == z) & ((d == v) & true)))
 }
 
+// Whether eight buffers have their lengths.
+pub fn fit8(
+    a: usize,
+    x: usize,
+    b: usize,
+    y: usize,
+    c: usize,
+    z: usize,
+    d: usize,
+    v: usize,
+    a2: usize,
+    x2: usize,
+    b2: usize,
+    y2: usize,
+    c2: usize,
+    z2: usize,
+    d2: usize,
+    v2: usize,
+) -> bool
+    ensures { λ r. ⌜ r ≡ fits ((a, x) ∷ (b, y) ∷ (c, z) ∷ (d, v) ∷ (a2, x2) ∷ (b2, y2) ∷ (c2, z2) ∷ (d2, v2) ∷ []) ⌝ }
+{
+    (a == x)
+        & ((b == y)
+            & ((c == z)
+                & ((d == v) & ((a2 == x2) & ((b2 == y2) & ((c2 == z2) & ((d2 == v2) & true)))))))
+}
+
 // L, the number of leaves.
 pub fn leaf_count(s: Shape) -> usize
     requires { ⌜ shapeOk s ≡ true ⌝ }
@@ -87,6 +114,15 @@ pub fn leaf_count(s: Shape) -> usize
 {
     let k = s.k;
     s.tau << k
+}
+
+// The number of entries of a vector.
+pub fn entry_count(s: Shape) -> usize
+    requires { ⌜ shapeOk s ≡ true ⌝ }
+    ensures { λ r. ⌜ (r ≡ 2 ^ s .k) × (1 ≤ r) × (r ≤ 4096) ⌝ }
+{
+    let k = s.k;
+    1usize << k
 }
 
 // The node of entry j of vector i.

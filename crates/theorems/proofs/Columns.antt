@@ -8,6 +8,7 @@ use native.Mathlib.Omega.{arith}
 use lib.Bits.{bitXor, differ, xor-self, xor-shr, xor-comm}
 use Rattle.spec.specs.Bytes.{bit, xorBelow}
 use Rattle.laws.proofs.Xor.{xor-assoc, xor-swap, xor-odd, xor-cancel-r, digit-xor, differ-mul}
+use Rattle.laws.proofs.Sums.{xor-same}
 
 bit-lt : (j n : ℕ) → bit j n < 2
 bit-lt j n = mod-lt (n / 2 ^ j) (omega arith)
@@ -19,11 +20,6 @@ bit-xor : (j m n : ℕ) → bit j (bitXor m n) ≡ differ (bit j m) (bit j n)
 bit-xor j m n = ap (λ (x : ℕ). x % 2) (xor-shr m n j) ∙ xor-odd (m / 2 ^ j) (n / 2 ^ j)
 
 -- ---- the xor of a run
-
-xor-same : (n : ℕ) (f g : ℕ → ℕ) → ((e : ℕ) → e < n → f e ≡ g e) → xorBelow n f ≡ xorBelow n g
-unfolding xorBelow
-xor-same zero f g h = refl
-xor-same (suc n) f g h = ap₂ bitXor (xor-same n f g (λ e l. h e (omega arith))) (h n (omega arith))
 
 xor-both : (n : ℕ) (f g : ℕ → ℕ) → xorBelow n (λ e. bitXor (f e) (g e)) ≡ bitXor (xorBelow n f) (xorBelow n g)
 unfolding xorBelow

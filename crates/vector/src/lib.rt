@@ -1,20 +1,20 @@
 // One vector: the leaf commitments of its entries, the xor of their rows, and its columns, from the bytes of a tree.
 ghost use mathlib.Core.Path.{_≡_};
 ghost use mathlib.Core.Bool.{true};
-ghost use Prim.Native.Nat.{_*_, _≤_, _<_};
+ghost use Prim.Native.Nat.{_+_, _*_, _≤_, _<_};
+ghost use lib.Bits.{bitXor};
 ghost use lib.ListN.{length};
-ghost use Rattle.spec.specs.Bytes.{bit, number};
+ghost use Rattle.spec.specs.Bytes.{bit, number, concat, xorBelow};
 ghost use Rattle.spec.specs.Gf256.{SboxTable};
 ghost use Rattle.spec.specs.Shapes.{shapeOk, entriesOf, treeBytes};
 ghost use Rattle.spec.specs.Primitives.{faest};
-ghost use Rattle.spec.specs.Leaves.{hashKey, leafKey, leafCommitment, vectorCommitments};
-ghost use Rattle.spec.specs.Rows.{rowByte, uByte, columnByte};
-ghost use Rattle.spec.specs.Signer.{signerLeafCommitment};
+ghost use Rattle.spec.specs.Leaves.{hashKey, leafKey, leafCommitment};
+ghost use Rattle.spec.specs.Rows.{rowByte};
 ghost use Rattle.field.specs.Field.{p384, Multiples};
 ghost use Rattle.columns.specs.Columns.{Added};
 use spec::Shape;
 
-// Entry e of vector i: writes its leaf commitment, and adds its row to the xor of all rows and, under the number x, to the columns.
+// Entry e of vector i: writes its leaf commitment, and adds its row to `total`, which has one column or none, and under the number x to the columns.
 pub fn add_entry(
     t: &[u8; 256],
     m: &[[u64; 6]; 16],
@@ -26,15 +26,16 @@ pub fn add_entry(
     iv: [u8; 16],
     tree: &[u8],
     commitment: &mut [u8],
+    totals: usize,
     total: &mut [u8],
     cols: &mut [u8],
 )
     requires { ⌜ SboxTable (now t) ⌝ }
     requires { ⌜ (shapeOk s ≡ true) × (i < s .tau) × (e < entriesOf s i) × (b ≤ 8192) × (length (now tree) ≡ treeBytes s) ⌝ }
-    requires { ⌜ (length (now commitment) ≡ 48) × (length (now total) ≡ b) × (length (now cols) ≡ b * s .k) ⌝ }
+    requires { ⌜ (length (now commitment) ≡ 48) × (totals ≤ 1) × (length (now total) ≡ b * totals) × (length (now cols) ≡ b * s .k) ⌝ }
     requires { ⌜ Multiples 384 p384 (number 8 (hashKey faest s iv i)) (now m) ⌝ }
     ensures { λ _. ⌜ now (commitment .exit) ≡ leafCommitment faest s iv i (leafKey s (now (tree .entry)) i e) ⌝ }
-    ensures { λ _. ⌜ Added b 1 (λ j p. rowByte faest s iv (now (tree .entry)) i e p) (now (total .entry)) (now (total .exit)) ⌝ }
+    ensures { λ _. ⌜ Added b totals (λ j p. rowByte faest s iv (now (tree .entry)) i e p) (now (total .entry)) (now (total .exit)) ⌝ }
     ensures { λ _. ⌜ Added b (s .k) (λ j p. bit j x * rowByte faest s iv (now (tree .entry)) i e p) (now (cols .entry)) (now (cols .exit)) ⌝ }
 {
     let a = 16 * shape::rules::leaf_of(s, i, e);
@@ -48,46 +49,50 @@ pub fn add_entry(
         b,
         s.k,
         x,
+        totals,
         total,
         cols,
     );
 }
 
-// All entries of vector i, each under its own number, as the signer counts them.
+// The n entries of vector i from entry `from` on, each under its own number xored with the mask.
 pub fn add_entries(
     t: &[u8; 256],
     m: &[[u64; 6]; 16],
     s: Shape,
     i: usize,
+    from: usize,
+    n: usize,
+    mask: usize,
     b: usize,
     iv: [u8; 16],
     tree: &[u8],
     commitments: &mut [u8],
+    totals: usize,
     total: &mut [u8],
     cols: &mut [u8],
 )
     requires { ⌜ SboxTable (now t) ⌝ }
-    requires { ⌜ (shapeOk s ≡ true) × (i < s .tau) × (b ≤ 8192) × (length (now tree) ≡ treeBytes s) ⌝ }
-    requires { ⌜ (length (now commitments) ≡ 48 * entriesOf s i) × (length (now total) ≡ b) × (length (now cols) ≡ b * s .k) ⌝ }
+    requires { ⌜ (shapeOk s ≡ true) × (i < s .tau) × (from + n ≤ entriesOf s i) × (b ≤ 8192) × (length (now tree) ≡ treeBytes s) ⌝ }
+    requires { ⌜ (length (now commitments) ≡ 48 * n) × (totals ≤ 1) × (length (now total) ≡ b * totals) × (length (now cols) ≡ b * s .k) ⌝ }
     requires { ⌜ Multiples 384 p384 (number 8 (hashKey faest s iv i)) (now m) ⌝ }
-    ensures { λ _. ⌜ now (commitments .exit) ≡ vectorCommitments s (signerLeafCommitment faest s iv (now (tree .entry))) i ⌝ }
-    ensures { λ _. ⌜ Added b 1 (λ j p. uByte faest s iv (now (tree .entry)) i p) (now (total .entry)) (now (total .exit)) ⌝ }
-    ensures { λ _. ⌜ Added b (s .k) (λ j p. columnByte faest s iv (now (tree .entry)) (λ e. e) i j p) (now (cols .entry)) (now (cols .exit)) ⌝ }
+    ensures { λ _. ⌜ now (commitments .exit) ≡ concat n (λ e. leafCommitment faest s iv i (leafKey s (now (tree .entry)) i (from + e))) ⌝ }
+    ensures { λ _. ⌜ Added b totals (λ j p. xorBelow n (λ e. rowByte faest s iv (now (tree .entry)) i (from + e) p)) (now (total .entry)) (now (total .exit)) ⌝ }
+    ensures { λ _. ⌜ Added b (s .k) (λ j p. xorBelow n (λ e. bit j (bitXor (from + e) mask) * rowByte faest s iv (now (tree .entry)) i (from + e) p)) (now (cols .entry)) (now (cols .exit)) ⌝ }
 {
-    let k = s.k;
-    let n = 1usize << k;
     for e in 0..n {
         add_entry(
             t,
             m,
             s,
             i,
-            e,
-            e,
+            from + e,
+            (from + e) ^ mask,
             b,
             iv,
             tree,
             &mut commitments[48 * e..48 * e + 48],
+            totals,
             total,
             cols,
         );

@@ -15,13 +15,13 @@ use Rattle.rows.proofs.add_row.Statement.{statement}
 use Rattle.rows.proofs.add_row.Tie as tie
 
 abbrev Inv-loop : tie.InvT-loop
-Inv-loop t seed iv tweak b k number total₀ cols₀ keys at₀ total cols at =
+Inv-loop t seed iv tweak b k number totals total₀ cols₀ keys at₀ total cols at =
     (at ≤ b) × (at < b → at % 16 ≡ 0)
-    × RowUpTo b 1 1 (generatorByte 4 seed iv tweak) total₀ at total
+    × RowUpTo b totals 1 (generatorByte 4 seed iv tweak) total₀ at total
     × RowUpTo b k number (generatorByte 4 seed iv tweak) cols₀ at cols
 
 abbrev μ-loop : tie.MeasureT-loop
-μ-loop t seed iv tweak b k number total₀ cols₀ keys at₀ total cols at = b - at
+μ-loop t seed iv tweak b k number totals total₀ cols₀ keys at₀ total cols at = b - at
 
 loop-holds : tie.Need-loop-holds Inv-loop μ-loop
 loop-holds c = (omega arith, (λ h. refl), row-none _ _ _ _ _, row-none _ _ _ _ _)
@@ -40,7 +40,7 @@ loop-again c =
     let long : n ≤ length (block .result) = search needs in (
       omega arith,
       (λ h. omega arith),
-      row-more (a .b) 1 1 row (a .total .now) (l .at) n (block .result) (l .total) _ long bytes (l .inv .2) (c .before .before .before .before .before .before .add-block .ensures),
+      row-more (a .b) (a .totals) 1 row (a .total .now) (l .at) n (block .result) (l .total) _ long bytes (l .inv .2) (c .before .before .before .before .before .before .add-block .ensures),
       row-more (a .b) (a .k) (a .number) row (a .cols .now) (l .at) n (block .result) (l .cols) _ long bytes (l .inv .3) (c .before .before .add-block2 .ensures),
     )
 
@@ -54,8 +54,8 @@ returns c =
     let l = c .before .loop in
     let row : ℕ → ℕ = generatorByte 4 (a .seed .now) (a .iv) (a .tweak) in
     let e : l .at ≡ a .b = omega arith in (
-      added-same (a .b) 1 (λ j p. bit j 1 * row p) (λ j p. row p) (a .total .now) (l .total) (λ j p hj hp. bit-one j (row p) hj)
-          (row-all (a .b) 1 1 row (a .total .now) (l .total) (subst (λ (x : ℕ). RowUpTo (a .b) 1 1 row (a .total .now) x (l .total)) e (l .inv .2))),
+      added-same (a .b) (a .totals) (λ j p. bit j 1 * row p) (λ j p. row p) (a .total .now) (l .total) (λ j p hj hp. bit-one j (row p) (omega arith))
+          (row-all (a .b) (a .totals) 1 row (a .total .now) (l .total) (subst (λ (x : ℕ). RowUpTo (a .b) (a .totals) 1 row (a .total .now) x (l .total)) e (l .inv .2))),
       row-all (a .b) (a .k) (a .number) row (a .cols .now) (l .cols) (subst (λ (x : ℕ). RowUpTo (a .b) (a .k) (a .number) row (a .cols .now) x (l .cols)) e (l .inv .3)),
     )
 

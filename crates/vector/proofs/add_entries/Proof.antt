@@ -5,15 +5,15 @@ use mathlib.Core.Path.{_≡_, refl, sym, ap, _∙_}
 use mathlib.Core.List.{List, [], _++_}
 use Prim.Native.Nat.{ℕ, _+_, _-_, _*_, _≤_}
 use native.Mathlib.Omega.{arith}
+use lib.Bits.{bitXor}
 use lib.ListN.{length, take, drop}
 use lib.Seq.{take-all}
 use Rattle.spec.specs.declared.Shape.{Shape}
 use Rattle.spec.specs.Bytes.{bit, concat, xorBelow}
-use Rattle.spec.specs.Shapes.{level, nodeBytes, leafCommitmentBytes, depthOf, entriesOf}
+use Rattle.spec.specs.Shapes.{level, nodeBytes, leafCommitmentBytes}
 use Rattle.spec.specs.Primitives.{faest}
-use Rattle.spec.specs.Leaves.{leafCommitment, vectorCommitments}
-use Rattle.spec.specs.Rows.{rowByte, uByte, columnByte}
-use Rattle.spec.specs.Signer.{signerLeafCommitment}
+use Rattle.spec.specs.Leaves.{leafKey, leafCommitment}
+use Rattle.spec.specs.Rows.{rowByte}
 use Rattle.laws.proofs.Lists.{length-part, length-tabulate}
 use Rattle.laws.proofs.Putting.{put-next}
 use Rattle.planning_laws.proofs.ShapeFacts.{shape-facts, entries-small}
@@ -22,47 +22,51 @@ use Rattle.columns.proofs.Adding.{added-none, added-more}
 use Rattle.vector.proofs.add_entries.Statement.{statement}
 use Rattle.vector.proofs.add_entries.Tie as tie
 
-module _ (s : Shape) (iv tree : List ℕ) (i : ℕ) where
+module _ (s : Shape) (iv tree : List ℕ) (i from mask : ℕ) where
   abbrev commitment : ℕ → List ℕ
-  commitment = signerLeafCommitment faest s iv tree i
+  commitment e = leafCommitment faest s iv i (leafKey s tree i (from + e))
 
-  -- what entry e adds to byte p of the xor of all rows, and of column j
+  -- what entry e from `from` on adds to byte p of the xor of all rows, and of column j
   abbrev toTotal : ℕ → ℕ → ℕ → ℕ
-  toTotal e j p = rowByte faest s iv tree i e p
+  toTotal e j p = rowByte faest s iv tree i (from + e) p
 
   abbrev toColumn : ℕ → ℕ → ℕ → ℕ
-  toColumn e j p = bit j e * rowByte faest s iv tree i e p
+  toColumn e j p = bit j (bitXor (from + e) mask) * rowByte faest s iv tree i (from + e) p
 
   length-commitment : (e : ℕ) → length (commitment e) ≡ 48
-  unfolding level nodeBytes leafCommitmentBytes leafCommitment signerLeafCommitment
+  unfolding level nodeBytes leafCommitmentBytes leafCommitment
   length-commitment e = rw length-tabulate
 
 abbrev Inv-loop : tie.InvT-loop
-Inv-loop t m s i b iv tree commitments₀ total₀ cols₀ k n e₀ commitments total cols e =
-    (e ≤ n) × (n ≡ entriesOf s i) × (length commitments ≡ 48 * n) × (take (48 * e) commitments ≡ concat e (commitment s iv tree i))
-    × Added b 1 (λ j p. xorBelow e (λ x. toTotal s iv tree i x j p)) total₀ total
-    × Added b (s .k) (λ j p. xorBelow e (λ x. toColumn s iv tree i x j p)) cols₀ cols
+Inv-loop t m s i from n mask b iv tree commitments₀ totals total₀ cols₀ e₀ commitments total cols e =
+    (e ≤ n) × (length commitments ≡ 48 * n) × (take (48 * e) commitments ≡ concat e (commitment s iv tree i from mask))
+    × Added b totals (λ j p. xorBelow e (λ x. toTotal s iv tree i from mask x j p)) total₀ total
+    × Added b (s .k) (λ j p. xorBelow e (λ x. toColumn s iv tree i from mask x j p)) cols₀ cols
 
 abbrev μ-loop : tie.MeasureT-loop
-μ-loop t m s i b iv tree commitments₀ total₀ cols₀ k n e₀ commitments total cols e = n - e
+μ-loop t m s i from n mask b iv tree commitments₀ totals total₀ cols₀ e₀ commitments total cols e = n - e
 
-shl-n : tie.Need-shl-n Inv-loop μ-loop
-shl-n c =
-    let start = c .before .before .before .before in
-    let f = shape-facts (start .args .s) (start .pre .1 .0 .0) in
+add-entry-of : tie.Need-add-add-entry Inv-loop μ-loop
+add-entry-of c =
+    let start = c .before .before .before .before .before .before in
+    let few = entries-small (start .args .s) (start .args .i) (shape-facts (start .args .s) (start .pre .1 .0 .0)) in
+    omega arith
+
+add-entry-of-2 : tie.Need-add-add-entry-2 Inv-loop μ-loop
+add-entry-of-2 c =
+    let start = c .before .before .before .before .before .before in
+    let few = entries-small (start .args .s) (start .args .i) (shape-facts (start .args .s) (start .pre .1 .0 .0)) in
     omega arith
 
 loop-holds : tie.Need-loop-holds Inv-loop μ-loop
-unfolding concat xorBelow depthOf entriesOf
+unfolding concat xorBelow
 loop-holds c =
     let start = c .before .before .before .before in
-    let g = start .args in
-    let few = entries-small (g .s) (g .i) (shape-facts (g .s) (start .pre .1 .0 .0)) in (
+    let g = start .args in (
       omega arith,
-      omega arith,
-      omega arith,
+      start .pre .1 .1 .0 .0,
       refl,
-      added-none (g .b) 1 (g .total .now) (λ j p. 0) (λ j p hj hp. refl),
+      added-none (g .b) (g .totals) (g .total .now) (λ j p. 0) (λ j p hj hp. refl),
       added-none (g .b) (g .s .k) (g .cols .now) (λ j p. 0) (λ j p hj hp. refl),
     )
 
@@ -73,12 +77,13 @@ add-entry-requires c κs =
     let one : 48 * l .e + 48 - 48 * l .e ≡ 48 = omega arith in (
       start .pre .0,
       (
-        (start .pre .1 .0 .0, start .pre .1 .0 .1, omega arith, start .pre .1 .0 .2, start .pre .1 .0 .3),
+        (start .pre .1 .0 .0, start .pre .1 .0 .1, omega arith, start .pre .1 .0 .3, start .pre .1 .0 .4),
         (
           (
             length-part (l .commitments) (48 * l .e) (48 * l .e + 48 - 48 * l .e) (omega arith) ∙ one,
-            l .inv .4 .size ∙ start .pre .1 .1 .0 .1,
-            l .inv .5 .size ∙ start .pre .1 .1 .0 .2,
+            start .pre .1 .1 .0 .1,
+            l .inv .3 .size ∙ start .pre .1 .1 .0 .2,
+            l .inv .4 .size ∙ start .pre .1 .1 .0 .3,
           ),
           start .pre .1 .1 .1,
         ),
@@ -86,7 +91,6 @@ add-entry-requires c κs =
     )
 
 loop-again : tie.Need-loop-again Inv-loop μ-loop
-unfolding signerLeafCommitment
 loop-again c =
     let start = c .before .before .before .before .before .before .before .before .before .before .before .before .before .before .before .before in
     let l = c .before .before .before .before .before .before .before .before .before .before .before .loop in
@@ -96,26 +100,24 @@ loop-again c =
     let at = 48 * l .e in
     let next : 48 * (l .e + 1) ≡ at + 48 = omega arith in
     let rest = drop (at + 48 - at) (drop at (l .commitments)) in
-    let f = commitment (g .s) (g .iv) x (g .i) in
-    let long = length-commitment (g .s) (g .iv) x (g .i) (l .e) in (
+    let f = commitment (g .s) (g .iv) x (g .i) (g .from) (g .mask) in
+    let long = length-commitment (g .s) (g .iv) x (g .i) (g .from) (g .mask) (l .e) in (
       omega arith,
-      l .inv .1,
       search needs,
-      rw (next, made .0) (put-next f [] 48 (l .e) at (l .commitments) (take at (l .commitments) ++ (f (l .e) ++ rest)) rest (omega arith) long (l .inv .3) refl),
-      added-more (g .b) 1 (l .e) (toTotal (g .s) (g .iv) x (g .i)) (g .total .now) (l .total) _ (l .inv .4) (made .1 .0),
-      added-more (g .b) (g .s .k) (l .e) (toColumn (g .s) (g .iv) x (g .i)) (g .cols .now) (l .cols) _ (l .inv .5) (made .1 .1),
+      rw (next, made .0) (put-next f [] 48 (l .e) at (l .commitments) (take at (l .commitments) ++ (f (l .e) ++ rest)) rest (omega arith) long (l .inv .2) refl),
+      added-more (g .b) (g .totals) (l .e) (toTotal (g .s) (g .iv) x (g .i) (g .from) (g .mask)) (g .total .now) (l .total) _ (l .inv .3) (made .1 .0),
+      added-more (g .b) (g .s .k) (l .e) (toColumn (g .s) (g .iv) x (g .i) (g .from) (g .mask)) (g .cols .now) (l .cols) _ (l .inv .4) (made .1 .1),
     )
 
 returns : tie.Need-returns Inv-loop μ-loop
-unfolding vectorCommitments uByte columnByte
 returns c =
     let start = c .before .before .before .before .before .before in
     let l = c .before .loop in
     let g = start .args in
     let x = g .tree .now in
-    let all : l .e ≡ entriesOf (g .s) (g .i) = omega arith in (
-      sym (take-all (48 * l .e) (l .commitments) (omega arith)) ∙ l .inv .3 ∙ ap (λ (n : ℕ). concat n (commitment (g .s) (g .iv) x (g .i))) all,
-      (rw all at (l .inv .4), rw all at (l .inv .5)),
+    let all : l .e ≡ g .n = omega arith in (
+      sym (take-all (48 * l .e) (l .commitments) (omega arith)) ∙ l .inv .2 ∙ ap (λ (n : ℕ). concat n (commitment (g .s) (g .iv) x (g .i) (g .from) (g .mask))) all,
+      (rw all at (l .inv .3), rw all at (l .inv .4)),
     )
 
 pub add-entries-spec : {M : Type 1} → statement M
@@ -124,8 +126,9 @@ add-entries-spec =
     (tie.spec
     Inv-loop
     μ-loop
-    shl-n
     loop-holds
+    add-entry-of
+    add-entry-of-2
     (λ c. search needs)
     (λ c. search needs)
     (λ c. search needs)
@@ -137,6 +140,6 @@ add-entries-spec =
     (λ c. search needs)
     loop-again
     (λ c. search needs)
+    (λ c. c .before .loop .inv .3 .size)
     (λ c. c .before .loop .inv .4 .size)
-    (λ c. c .before .loop .inv .5 .size)
     returns)

@@ -32,7 +32,7 @@ add-row-requires : tie.Need-add-row-requires
 add-row-requires c κs =
     let start = c .before .before .before .before .before .before .before .before .before .before .before .before .before .before .before in
     let f = shape-facts (start .args .s) (start .pre .1 .0 .0) in
-    (start .pre .0, (search needs, omega arith, f .k-max, omega arith, start .pre .1 .1 .0 .2))
+    (start .pre .0, (search needs, omega arith, f .k-max, start .pre .1 .1 .0 .1, start .pre .1 .1 .0 .2, start .pre .1 .1 .0 .3))
 
 returns : tie.Need-returns
 unfolding level nodeBytes keyWords faest nodeAt leafKey rowByte

@@ -10,8 +10,8 @@ use lib.Seq.{take-all}
 use Rattle.spec.specs.Bytes.{tabulate, zeros}
 use Rattle.laws.proofs.Prefixes.{take-stored}
 use Rattle.laws.proofs.Strings.{zeros-tabulate}
-use Rattle.opening.proofs.clear_from.Statement.{statement}
-use Rattle.opening.proofs.clear_from.Tie as tie
+use Rattle.buffers.proofs.clear_from.Statement.{statement}
+use Rattle.buffers.proofs.clear_from.Tie as tie
 
 abbrev Inv-loop : tie.InvT-loop
 Inv-loop out₀ at p₀ out p = (at ≤ p) × (p ≤ length out₀) × (length out ≡ length out₀) × (take p out ≡ take at out₀ ++ tabulate (p - at) (λ i. 0))

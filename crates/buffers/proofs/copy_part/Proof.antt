@@ -9,8 +9,8 @@ use lib.Seq.{take-length}
 use Rattle.spec.specs.Bytes.{part}
 use Rattle.laws.proofs.Lists.{length-part}
 use Rattle.laws.proofs.Putting.{behind}
-use Rattle.opening.proofs.copy_part.Statement.{statement}
-use Rattle.opening.proofs.copy_part.Tie as tie
+use Rattle.buffers.proofs.copy_part.Statement.{statement}
+use Rattle.buffers.proofs.copy_part.Tie as tie
 
 returns : tie.Need-returns
 returns c =

@@ -1,0 +1,199 @@
+// All vectors of the signing half: leaf commitments and the hashes of the vectors, u, corrections and the matrix, from the bytes of a tree.
+ghost use mathlib.Core.Path.{_≡_};
+ghost use mathlib.Core.Bool.{true};
+ghost use mathlib.Core.List.{List};
+ghost use Prim.Native.Nat.{ℕ, _+_, _-_, _*_, _^_, _≤_, _<_};
+ghost use lib.ListN.{length};
+ghost use Rattle.spec.specs.Bytes.{concat};
+ghost use Rattle.spec.specs.Gf256.{SboxTable};
+ghost use Rattle.spec.specs.Shapes.{shapeOk, treeBytes, leafCommitmentsBytes, matrixBytes, correctionsBytes};
+ghost use Rattle.spec.specs.Primitives.{faest};
+ghost use Rattle.spec.specs.Leaves.{leafCommitments, vectorHash};
+ghost use Rattle.spec.specs.Rows.{matrixOf};
+ghost use Rattle.spec.specs.Signer.{signerLeafCommitment, signerU, signerColumn};
+ghost use Rattle.spec.specs.Signer as signer;
+ghost use Rattle.signer_vectors.specs.Vectors.{Converted, UpTo};
+use spec::Shape;
+
+// Vector i: writes its leaf commitments, its columns and its hash, and adds the xor of its rows to `total`.
+fn convert(
+    t: &[u8; 256],
+    s: Shape,
+    i: usize,
+    b: usize,
+    iv: [u8; 16],
+    keys: &[u8],
+    tree: &[u8],
+    lcs: &mut [u8],
+    total: &mut [u8],
+    cols: &mut [u8],
+    hash: &mut [u8],
+)
+    requires { ⌜ SboxTable (now t) ⌝ }
+    requires { ⌜ (shapeOk s ≡ true) × (i < s .tau) × (b ≤ 8192) × (now keys ≡ faest .h0 s iv (48 * s .tau)) × (length (now tree) ≡ treeBytes s) ⌝ }
+    requires { ⌜ (length (now lcs) ≡ 48 * 2 ^ s .k) × (length (now total) ≡ b) × (length (now cols) ≡ b * s .k) × (length (now hash) ≡ 32) ⌝ }
+    ensures { λ _. ⌜ Converted s b iv (now (tree .entry)) i (now (total .entry)) (now (total .exit)) (now (lcs .exit)) (now (cols .exit)) (now (hash .exit)) ⌝ }
+{
+    let n = shape::rules::entry_count(s);
+    let m = field::multiples(&keys[48 * i..48 * i + 48]);
+    buffers::clear_from(cols, 0);
+    vector::add_entries(t, &m, s, i, 0, n, 0, b, iv, tree, lcs, 1, total, cols);
+    shake::h1(lcs, hash);
+}
+
+// Vector 0, whose rows make u.
+fn first_vector(
+    t: &[u8; 256],
+    s: Shape,
+    b: usize,
+    iv: [u8; 16],
+    keys: &[u8],
+    tree: &[u8],
+    lcs: &mut [u8],
+    u: &mut [u8],
+    v: &mut [u8],
+    hashes: &mut [u8],
+)
+    requires { ⌜ SboxTable (now t) ⌝ }
+    requires { ⌜ (shapeOk s ≡ true) × (b ≤ 8192) × (now keys ≡ faest .h0 s iv (48 * s .tau)) × (length (now tree) ≡ treeBytes s) ⌝ }
+    requires { ⌜ (48 * 2 ^ s .k ≤ length (now lcs)) × (length (now u) ≡ b) × (b * s .k ≤ length (now v)) × (32 ≤ length (now hashes)) ⌝ }
+    ensures { λ _. ⌜ now (u .exit) ≡ signerU faest s b iv (now (tree .entry)) ⌝ }
+    ensures { λ _. ⌜ ((c : List ℕ) → UpTo s b iv (now (tree .entry)) 0 (now (lcs .exit)) c (now (v .exit)) (now (hashes .exit))) ⌝ }
+{
+    let first = 0;
+    let w = 48 * shape::rules::entry_count(s);
+    let c = b * s.k;
+    buffers::clear_from(u, 0);
+    convert(
+        t,
+        s,
+        first,
+        b,
+        iv,
+        keys,
+        tree,
+        &mut lcs[0..w],
+        u,
+        &mut v[0..c],
+        &mut hashes[0..32],
+    );
+}
+
+// Vector i from 1 on, whose rows, added to u, make a correction.
+fn correct(
+    t: &[u8; 256],
+    s: Shape,
+    i: usize,
+    b: usize,
+    iv: [u8; 16],
+    keys: &[u8],
+    tree: &[u8],
+    u: &[u8],
+    lcs: &mut [u8],
+    correction: &mut [u8],
+    cols: &mut [u8],
+    hash: &mut [u8],
+)
+    requires { ⌜ SboxTable (now t) ⌝ }
+    requires { ⌜ (shapeOk s ≡ true) × (i < s .tau) × (b ≤ 8192) × (now keys ≡ faest .h0 s iv (48 * s .tau)) × (length (now tree) ≡ treeBytes s) ⌝ }
+    requires { ⌜ (length (now u) ≡ b) × (length (now lcs) ≡ 48 * 2 ^ s .k) × (length (now correction) ≡ b) × (length (now cols) ≡ b * s .k) × (length (now hash) ≡ 32) ⌝ }
+    ensures { λ _. ⌜ Converted s b iv (now (tree .entry)) i (now (u .entry)) (now (correction .exit)) (now (lcs .exit)) (now (cols .exit)) (now (hash .exit)) ⌝ }
+{
+    bytes::copy(u, correction);
+    convert(t, s, i, b, iv, keys, tree, lcs, correction, cols, hash);
+}
+
+// Vector j + 1, in its parts of the buffers.
+fn other_vector(
+    t: &[u8; 256],
+    s: Shape,
+    j: usize,
+    b: usize,
+    iv: [u8; 16],
+    keys: &[u8],
+    tree: &[u8],
+    u: &[u8],
+    lcs: &mut [u8],
+    corrections: &mut [u8],
+    v: &mut [u8],
+    hashes: &mut [u8],
+)
+    requires { ⌜ SboxTable (now t) ⌝ }
+    requires { ⌜ (shapeOk s ≡ true) × (j + 1 < s .tau) × (b ≤ 8192) × (now keys ≡ faest .h0 s iv (48 * s .tau)) × (length (now tree) ≡ treeBytes s) × (now u ≡ signerU faest s b iv (now tree)) ⌝ }
+    requires { ⌜ (48 * 2 ^ s .k * s .tau ≤ length (now lcs)) × (b * (s .tau - 1) ≤ length (now corrections)) × (b * s .k * s .tau ≤ length (now v)) × (32 * s .tau ≤ length (now hashes)) ⌝ }
+    ensures { λ _. ⌜ (UpTo s b iv (now (tree .entry)) j (now (lcs .entry)) (now (corrections .entry)) (now (v .entry)) (now (hashes .entry))
+        → UpTo s b iv (now (tree .entry)) (j + 1) (now (lcs .exit)) (now (corrections .exit)) (now (v .exit)) (now (hashes .exit))) ⌝ }
+{
+    let next = j + 1;
+    let w = 48 * shape::rules::entry_count(s);
+    let c = b * s.k;
+    correct(
+        t,
+        s,
+        next,
+        b,
+        iv,
+        keys,
+        tree,
+        u,
+        &mut lcs[w * next..w * next + w],
+        &mut corrections[b * j..b * j + b],
+        &mut v[c * next..c * next + c],
+        &mut hashes[32 * next..32 * next + 32],
+    );
+}
+
+// The vectors after vector 0.
+fn other_vectors(
+    t: &[u8; 256],
+    s: Shape,
+    b: usize,
+    iv: [u8; 16],
+    keys: &[u8],
+    tree: &[u8],
+    u: &[u8],
+    lcs: &mut [u8],
+    corrections: &mut [u8],
+    v: &mut [u8],
+    hashes: &mut [u8],
+)
+    requires { ⌜ SboxTable (now t) ⌝ }
+    requires { ⌜ (shapeOk s ≡ true) × (b ≤ 8192) × (now keys ≡ faest .h0 s iv (48 * s .tau)) × (length (now tree) ≡ treeBytes s) × (now u ≡ signerU faest s b iv (now tree)) ⌝ }
+    requires { ⌜ (48 * 2 ^ s .k * s .tau ≤ length (now lcs)) × (b * (s .tau - 1) ≤ length (now corrections)) × (b * s .k * s .tau ≤ length (now v)) × (32 * s .tau ≤ length (now hashes)) ⌝ }
+    ensures { λ _. ⌜ (UpTo s b iv (now (tree .entry)) 0 (now (lcs .entry)) (now (corrections .entry)) (now (v .entry)) (now (hashes .entry))
+        → UpTo s b iv (now (tree .entry)) (s .tau - 1) (now (lcs .exit)) (now (corrections .exit)) (now (v .exit)) (now (hashes .exit))) ⌝ }
+{
+    let n = s.tau - 1;
+    for j in 0..n {
+        other_vector(t, s, j, b, iv, keys, tree, u, lcs, corrections, v, hashes);
+    }
+}
+
+// All vectors. The last w columns are zeros.
+pub fn write_vectors(
+    t: &[u8; 256],
+    s: Shape,
+    b: usize,
+    iv: [u8; 16],
+    keys: &[u8],
+    tree: &[u8],
+    lcs: &mut [u8],
+    u: &mut [u8],
+    v: &mut [u8],
+    corrections: &mut [u8],
+    hashes: &mut [u8],
+)
+    requires { ⌜ SboxTable (now t) ⌝ }
+    requires { ⌜ (shapeOk s ≡ true) × (b ≤ 8192) × (now keys ≡ faest .h0 s iv (48 * s .tau)) × (length (now tree) ≡ treeBytes s) ⌝ }
+    requires { ⌜ (length (now lcs) ≡ leafCommitmentsBytes s) × (length (now u) ≡ b) × (length (now v) ≡ matrixBytes s b) × (length (now corrections) ≡ correctionsBytes s b) × (length (now hashes) ≡ 32 * s .tau) ⌝ }
+    ensures { λ _. ⌜ now (lcs .exit) ≡ leafCommitments s (signerLeafCommitment faest s iv (now (tree .entry))) ⌝ }
+    ensures { λ _. ⌜ now (u .exit) ≡ signerU faest s b iv (now (tree .entry)) ⌝ }
+    ensures { λ _. ⌜ now (v .exit) ≡ matrixOf s b (signerColumn faest s b iv (now (tree .entry))) ⌝ }
+    ensures { λ _. ⌜ now (corrections .exit) ≡ signer.corrections faest s b iv (now (tree .entry)) ⌝ }
+    ensures { λ _. ⌜ now (hashes .exit) ≡ concat (s .tau) (vectorHash faest s (signerLeafCommitment faest s iv (now (tree .entry)))) ⌝ }
+{
+    first_vector(t, s, b, iv, keys, tree, lcs, u, v, hashes);
+    other_vectors(t, s, b, iv, keys, tree, u, lcs, corrections, v, hashes);
+    let w = s.w;
+    buffers::clear_from(v, b * (128 - w));
+}

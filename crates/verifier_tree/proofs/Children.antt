@@ -1,0 +1,193 @@
+-- The two children of a node, written one after the other, and the slots that they take. Of a marked node one child at least is marked, so one slot at most is
+-- read. By cases on the marks. Assumes nothing.
+use Prim.Native.Nat.{ℕ, _+_, _-_, _*_, _≤_}
+use mathlib.Core.Path.{_≡_, refl, sym, ap, ap₂, _∙_}
+use mathlib.Core.Bool.{Bool, true, false, _||_, not, cond, true≢false}
+use mathlib.Core.List.{List, _++_, append-assoc}
+use native.Mathlib.Omega.{arith}
+use native.Mathlib.Numerals.{add-one}
+use lib.ListN.{length, getD, take, drop, length-append}
+use lib.Seq.{drop-at, drop-drop, length-take-le}
+use borrow.Author.Tests.{eq-eqb, ne-eqb}
+use Rattle.spec.specs.declared.Shape.{Shape}
+use Rattle.spec.specs.Bytes.{part, zeros}
+use Rattle.spec.specs.Tree.{siblingToReveal, revealedFrom}
+use Rattle.spec.specs.Primitives.{faest}
+use Rattle.spec.specs.Leaves.{children}
+use Rattle.laws.proofs.Lists.{length-zeros, length-part}
+use Rattle.laws.proofs.Putting.{behind, put-take}
+use Rattle.planning_laws.proofs.Revealed.{revealed-longer}
+use Rattle.tree.proofs.Growing.{length-children}
+use Rattle.verifier_tree.specs.ByMap.{marked, readBefore, readWith, nodeBy, childrenBy}
+
+contrary : {A : Type 0} {b : Bool} → b ≡ true → b ≡ false → A
+contrary p q = absurd (true≢false (sym p ∙ q))
+
+-- ---- parts of a buffer
+
+-- a part of w bytes that is lent and comes back as zeros
+pub put-zeros : (at w : ℕ) (d y : List ℕ) → at + w ≤ length d → y ≡ zeros (length (part d at (at + w - at)) - 0)
+    → take at d ++ (y ++ drop (at + w - at) (drop at d)) ≡ take at d ++ (zeros w ++ drop (at + w) d)
+put-zeros at w d y h e =
+    let m : at + w - at ≡ w = omega arith in
+    let l : length (part d at (at + w - at)) - 0 ≡ w = (let z = ap (λ (n : ℕ). length (part d at n)) m ∙ length-part d at w h in omega arith) in
+    ap₂ (λ (x z : List ℕ). take at d ++ (x ++ z)) (e ∙ ap zeros l) (behind at w d)
+
+-- two strings of w bytes put one after the other
+put-two : (at w : ℕ) (d y z : List ℕ) → at + w ≤ length d → length y ≡ w
+    → take (at + w) (take at d ++ (y ++ drop (at + w) d)) ++ (z ++ drop (at + w + w) (take at d ++ (y ++ drop (at + w) d))) ≡ take at d ++ ((y ++ z) ++ drop (at + w + w) d)
+put-two at w d y z h l =
+    let p = take at d in
+    let q = drop (at + w) d in
+    let long : length (p ++ y) ≡ at + w = length-append p y ∙ (let e = length-take-le at d (omega arith) in omega arith) in
+    let rest : drop (at + w + w) (p ++ (y ++ q)) ≡ drop (at + w + w) d =
+    ap (drop (at + w + w)) (sym (append-assoc p y q))
+    ∙ sym (drop-drop w (at + w) ((p ++ y) ++ q))
+    ∙ ap (drop w) (drop-at (p ++ y) q (at + w) long)
+    ∙ drop-drop w (at + w) d
+    in
+    ap₂ (λ (a b : List ℕ). a ++ (z ++ b)) (put-take at w d y q (omega arith) l) rest
+    ∙ append-assoc p y (z ++ drop (at + w + w) d)
+    ∙ ap (λ (a : List ℕ). p ++ a) (sym (append-assoc y z (drop (at + w + w) d)))
+
+-- ---- marks
+
+pub is-marked : (map : List ℕ) (x : ℕ) → (getD map x 0 ≡ 0 → ⊥) → marked map x ≡ true
+unfolding marked
+is-marked map x h = ap not (ne-eqb (getD map x 0) 0 h)
+
+pub not-marked : (map : List ℕ) (x : ℕ) → getD map x 0 ≡ 0 → marked map x ≡ false
+unfolding marked
+not-marked map x h = ap not (eq-eqb (getD map x 0) 0 h)
+
+module _ (map slots : List ℕ) (n read x : ℕ) where
+  pub marked-read : marked map x ≡ true → read ≡ readWith map x read
+  unfolding readWith
+  marked-read m = sym (ap (λ (b : Bool). cond b read (read + 1)) m)
+
+  pub other-read : marked map x ≡ false → read + 1 ≡ readWith map x read
+  unfolding readWith
+  other-read m = sym (ap (λ (b : Bool). cond b read (read + 1)) m)
+
+  pub marked-node : marked map x ≡ true → zeros 16 ≡ nodeBy map slots n read x
+  unfolding nodeBy
+  marked-node m = sym (ap (λ (b : Bool). cond b (zeros 16) (part slots (16 * (n - (read + 1))) 16)) m)
+
+  pub other-node : marked map x ≡ false → part slots (16 * (n - (read + 1))) 16 ≡ nodeBy map slots n read x
+  unfolding nodeBy
+  other-node m = sym (ap (λ (b : Bool). cond b (zeros 16) (part slots (16 * (n - (read + 1))) 16)) m)
+
+  length-node : readWith map x read ≤ n → 16 * n ≤ length slots → length (nodeBy map slots n read x) ≡ 16
+  unfolding nodeBy readWith
+  length-node h l = go (marked map x) h
+    where
+      go : (b : Bool) → cond b read (read + 1) ≤ n → length (cond b (zeros 16) (part slots (16 * (n - (read + 1))) 16)) ≡ 16
+      go true h = length-zeros 16
+      go false h = length-part slots (16 * (n - (read + 1))) 16 (omega arith)
+
+pub read-longer : (map : List ℕ) (a l : ℕ) → a ≤ l → readBefore map a ≤ readBefore map l
+unfolding readBefore
+read-longer map a l h = revealed-longer (marked map) a l h
+
+-- the slots of two children are there where those of both together are
+both-within : (map : List ℕ) (x y read n : ℕ) → readWith map y (readWith map x read) ≤ n → (readWith map x read ≤ n) × (readWith map y read ≤ n)
+unfolding readWith
+both-within map x y read n h = go (marked map x) (marked map y) h
+  where
+    go : (p q : Bool) → cond q (cond p read (read + 1)) (cond p read (read + 1) + 1) ≤ n → (cond p read (read + 1) ≤ n) × (cond q read (read + 1) ≤ n)
+    go true true h = (omega arith, omega arith)
+    go true false h = (omega arith, omega arith)
+    go false true h = (omega arith, omega arith)
+    go false false h = (omega arith, omega arith)
+
+-- ---- node a
+
+module _ (map slots : List ℕ) (n a : ℕ) (by : marked map a ≡ (marked map (2 * a + 1) || marked map (2 * a + 2))) (within : readBefore map (a + 1) ≤ n) where
+  -- any node but a marked one reveals nothing, and has the children that the generator gives
+  pub other-reads : marked map a ≡ false → readBefore map a ≡ readBefore map (a + 1)
+  unfolding readBefore siblingToReveal revealedFrom
+  other-reads e =
+      sym
+      (ap (λ (n : ℕ). length (revealedFrom (marked map) n)) (add-one a) ∙ count (marked map (2 * a + 1)) (marked map (2 * a + 2)) (revealedFrom (marked map) a) (sym by ∙ e))
+    where
+      count : (p q : Bool) (l : List ℕ) → (p || q) ≡ false → length (siblingToReveal p q a ++ l) ≡ length l
+      count true q l h = contrary refl h
+      count false true l h = contrary refl h
+      count false false l h = refl
+
+  pub other-children : (s : Shape) (iv x : List ℕ) → marked map a ≡ false → children faest s iv a x ≡ childrenBy map slots n s iv a x
+  unfolding childrenBy
+  other-children s iv x e =
+      sym
+      (ap
+      (λ (b : Bool). cond b (nodeBy map slots n (readBefore map a) (2 * a + 1) ++ nodeBy map slots n (readBefore map a) (2 * a + 2)) (children faest s iv a x)) e)
+
+  -- a marked node reads as many slots as it reveals
+  pub marked-reads : marked map a ≡ true → readWith map (2 * a + 2) (readWith map (2 * a + 1) (readBefore map a)) ≡ readBefore map (a + 1)
+  unfolding readBefore readWith siblingToReveal revealedFrom
+  marked-reads e =
+      sym
+      (ap (λ (n : ℕ). length (revealedFrom (marked map) n)) (add-one a) ∙ count (marked map (2 * a + 1)) (marked map (2 * a + 2)) (revealedFrom (marked map) a) (sym by ∙ e))
+    where
+      count : (p q : Bool) (l : List ℕ) → (p || q) ≡ true → length (siblingToReveal p q a ++ l) ≡ cond q (cond p (length l) (length l + 1)) (cond p (length l) (length l + 1) + 1)
+      count true true l h = refl
+      count true false l h = omega arith
+      count false true l h = omega arith
+      count false false l h = contrary h refl
+
+  pub right-within : (read left : ℕ) → marked map a ≡ true → read ≡ readBefore map a → left ≡ readWith map (2 * a + 1) read → readWith map (2 * a + 2) left ≤ n
+  right-within read left e r l =
+      let z = ap (readWith map (2 * a + 2)) (l ∙ ap (readWith map (2 * a + 1)) r) ∙ marked-reads e in
+      omega arith
+
+  pub left-within : (read : ℕ) → marked map a ≡ true → read ≡ readBefore map a → readWith map (2 * a + 1) read ≤ n
+  left-within read e r = both-within map (2 * a + 1) (2 * a + 2) read n (right-within read (readWith map (2 * a + 1) read) e r refl) .0
+
+  -- where the right child takes a slot the left child took none
+  right-slot : (read : ℕ) → marked map a ≡ true → nodeBy map slots n (readWith map (2 * a + 1) read) (2 * a + 2) ≡ nodeBy map slots n read (2 * a + 2)
+  unfolding nodeBy readWith
+  right-slot read e = go (marked map (2 * a + 1)) (marked map (2 * a + 2)) (sym by ∙ e)
+    where
+      go : (p q : Bool) → (p || q) ≡ true
+          → cond q (zeros 16) (part slots (16 * (n - (cond p read (read + 1) + 1))) 16) ≡ cond q (zeros 16) (part slots (16 * (n - (read + 1))) 16)
+      go p true h = refl
+      go true false h = refl
+      go false false h = contrary h refl
+
+  pub length-by : (s : Shape) (iv x : List ℕ) → 16 * n ≤ length slots → length (childrenBy map slots n s iv a x) ≡ 32
+  unfolding childrenBy
+  length-by s iv x l = go (marked map a) refl
+    where
+      go : (b : Bool) → marked map a ≡ b
+          → length (cond b (nodeBy map slots n (readBefore map a) (2 * a + 1) ++ nodeBy map slots n (readBefore map a) (2 * a + 2)) (children faest s iv a x)) ≡ 32
+      go true e =
+          let w = both-within map (2 * a + 1) (2 * a + 2) (readBefore map a) n (let z = marked-reads e in omega arith) in
+          let p = length-node map slots n (readBefore map a) (2 * a + 1) (w .0) l in
+          let q = length-node map slots n (readBefore map a) (2 * a + 2) (w .1) l in
+          simp length-append (omega arith)
+      go false e = length-children s iv a x
+
+  -- both children written
+  pub marked-children : (s : Shape) (iv x : List ℕ) (read left : ℕ) (d e f : List ℕ) → marked map a ≡ true → read ≡ readBefore map a → left ≡ readWith map (2 * a + 1) read
+      → 16 * n ≤ length slots → 32 * a + 48 ≤ length d
+      → e ≡ take (16 * (2 * a + 1)) d ++ (nodeBy map slots n read (2 * a + 1) ++ drop (16 * (2 * a + 1) + 16) d)
+      → f ≡ take (16 * (2 * a + 2)) e ++ (nodeBy map slots n left (2 * a + 2) ++ drop (16 * (2 * a + 2) + 16) e)
+      → f ≡ take (32 * a + 16) d ++ (childrenBy map slots n s iv a x ++ drop (32 * a + 48) d)
+  unfolding childrenBy
+  marked-children s iv x read left d e f m r l room long p q =
+      let y = nodeBy map slots n read (2 * a + 1) in
+      let z = nodeBy map slots n read (2 * a + 2) in
+      let one : 16 * (2 * a + 1) ≡ 32 * a + 16 = omega arith in
+      let two : 16 * (2 * a + 2) ≡ 32 * a + 16 + 16 = omega arith in
+      let end : 32 * a + 16 + 16 + 16 ≡ 32 * a + 48 = omega arith in
+      let e′ : e ≡ take (32 * a + 16) d ++ (y ++ drop (32 * a + 16 + 16) d) = p ∙ ap (λ (k : ℕ). take k d ++ (y ++ drop (k + 16) d)) one in
+      let w : nodeBy map slots n left (2 * a + 2) ≡ z = ap (λ (k : ℕ). nodeBy map slots n k (2 * a + 2)) l ∙ right-slot read m in
+      q
+      ∙ ap (λ (k : ℕ). take k e ++ (nodeBy map slots n left (2 * a + 2) ++ drop (k + 16) e)) two
+      ∙ ap₂ (λ (k v : List ℕ). take (32 * a + 16 + 16) k ++ (v ++ drop (32 * a + 16 + 16 + 16) k)) e′ w
+      ∙ put-two (32 * a + 16) 16 d y z (omega arith) (length-node map slots n read (2 * a + 1) (left-within read m r) room)
+      ∙ ap₂ (λ (k : ℕ) (u : List ℕ). take (32 * a + 16) d ++ (u ++ drop k d)) end
+      (ap (λ (k : ℕ). nodeBy map slots n k (2 * a + 1) ++ nodeBy map slots n k (2 * a + 2)) r
+      ∙ sym
+      (ap
+      (λ (b : Bool). cond b (nodeBy map slots n (readBefore map a) (2 * a + 1) ++ nodeBy map slots n (readBefore map a) (2 * a + 2)) (children faest s iv a x)) m))
