@@ -1,7 +1,7 @@
 // Blocks of a row, xored straight into the columns of a vector that is lent. No row is ever held.
 ghost use mathlib.Core.Path.{_≡_};
 ghost use Prim.Native.Nat.{_+_, _*_, _≤_, _<_};
-ghost use lib.ListN.{length, take};
+ghost use lib.ListN.{length, getD, take};
 ghost use Rattle.spec.specs.Bytes.{bit};
 ghost use Rattle.columns.specs.Columns.{placed, Xored, Added};
 
@@ -51,5 +51,26 @@ pub fn add_block(
 {
     for j in 0..k {
         xor_block(cols, b * j + at, n, ((number >> j) % 2) as u8, block);
+    }
+}
+
+// Xors the digit's multiple of a string into d from byte `at` on.
+fn xor_bytes(d: &mut [u8], at: usize, digit: u8, bytes: &[u8])
+    requires { ⌜ (at + length (now bytes) ≤ length (now d)) × (digit < 2) ⌝ }
+    ensures { λ _. ⌜ Xored (λ p. digit * placed at (now (bytes .entry)) p) (now (d .entry)) (now (d .exit)) ⌝ }
+{
+    let n = bytes.len();
+    for i in 0..n {
+        d[at + i] = d[at + i] ^ (digit * bytes[i]);
+    }
+}
+
+// Xors a string of b bytes into each of k columns of b bytes whose bit the number has set.
+pub fn add_bytes(cols: &mut [u8], b: usize, k: usize, number: usize, bytes: &[u8])
+    requires { ⌜ (k ≤ 12) × (length (now bytes) ≡ b) × (length (now cols) ≡ b * k) ⌝ }
+    ensures { λ _. ⌜ Added b k (λ j p. bit j number * getD (now (bytes .entry)) p 0) (now (cols .entry)) (now (cols .exit)) ⌝ }
+{
+    for j in 0..k {
+        xor_bytes(cols, b * j, ((number >> j) % 2) as u8, bytes);
     }
 }

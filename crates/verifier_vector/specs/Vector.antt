@@ -1,0 +1,18 @@
+-- What one vector leaves in its parts of the buffers of the checking half, before its correction. b is the length of a row in bytes.
+use Prim.Native.Nat.{ℕ}
+use mathlib.Core.Path.{_≡_}
+use mathlib.Core.List.{List}
+use lib.Bits.{bitXor}
+use Rattle.spec.specs.declared.Shape.{Shape}
+use Rattle.spec.specs.Bytes.{tabulate, concat}
+use Rattle.spec.specs.Shapes.{depthOf, hiddenIndex}
+use Rattle.spec.specs.Primitives.{faest}
+use Rattle.spec.specs.Leaves.{vectorCommitments, vectorHash}
+use Rattle.spec.specs.Rows.{columnByte}
+use Rattle.spec.specs.Verifier.{verifierLeafCommitment}
+
+-- vector i: its leaf commitments, its columns without the correction, its hash
+pub record Converted (s : Shape) (b : ℕ) (iv ch opening tree : List ℕ) (i : ℕ) (lcs cols hash : List ℕ) : Type 0 where
+  pub leaves : lcs ≡ vectorCommitments s (verifierLeafCommitment faest s iv ch opening tree) i
+  pub columns : cols ≡ concat (depthOf s i) (λ j. tabulate b (columnByte faest s iv tree (λ e. bitXor e (hiddenIndex s ch i)) i j))
+  pub digest : hash ≡ vectorHash faest s (verifierLeafCommitment faest s iv ch opening tree) i

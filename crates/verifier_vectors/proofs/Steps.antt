@@ -1,0 +1,137 @@
+-- The correction of a vector, its columns with the correction, and a vector put behind those before it. By the laws of columns and of strings laid one after
+-- another. Assumes nothing.
+use mathlib.Core.Path.{_≡_, refl, sym, ap, ap₂, _∙_}
+use mathlib.Core.List.{List, [], _++_}
+use Prim.Native.Nat.{ℕ, zero, suc, _+_, _-_, _*_, _^_, _≤_, _<_}
+use native.Mathlib.Nat.{mul-add, mul-assoc, mul-comm, mul-le-mul, mul-zero}
+use native.Mathlib.Omega.{arith}
+use mathlib.Core.Bool.{true}
+use lib.Bits.{bitXor}
+use lib.ListN.{length, getD, take}
+use lib.Seq.{take-all}
+use Rattle.spec.specs.declared.Shape.{Shape}
+use Rattle.spec.specs.Bytes.{bit, part, tabulate, concat}
+use Rattle.spec.specs.Shapes.{shapeOk, depthOf, hiddenIndex}
+use Rattle.spec.specs.Primitives.{faest}
+use Rattle.spec.specs.Leaves.{vectorCommitments, vectorHash}
+use Rattle.spec.specs.Rows.{columnByte}
+use Rattle.spec.specs.Verifier.{verifierLeafCommitment, correctionByte, verifierColumn}
+use Rattle.laws.proofs.Lists.{length-part, getD-part}
+use Rattle.laws.proofs.Putting.{put-next}
+use Rattle.laws.proofs.Concat.{concat-byte, is-concat, mul-next, mul-within}
+use Rattle.planning_laws.proofs.ShapeFacts.{shape-facts}
+use Rattle.planning_laws.proofs.ShapeLaws.{hidden-bit}
+use Rattle.columns.specs.Columns.{Added}
+use Rattle.columns.proofs.Adding.{added-none, added-same}
+use Rattle.verifier_vectors.specs.Vectors.{Reconstructed, Before}
+
+-- ---- the correction
+
+module _ (s : Shape) (b : ℕ) (ch corrections : List ℕ) where
+  -- vector 0 has none
+  pub corrected-none : (i : ℕ) (old : List ℕ) → i ≡ 0 → Added b (s .k) (correctionByte s b ch corrections i) old old
+  unfolding correctionByte
+  corrected-none zero old e = added-none b (s .k) old (λ j p. 0) (λ j p hj hp. refl)
+  corrected-none (suc i) old e = absurd (omega arith)
+
+  -- another vector has its part, under the number that the challenge hides
+  correction-byte : (i d j p : ℕ) → 0 < i → d ≡ hiddenIndex s ch i → j < s .k → p < b
+      → bit j d * getD (part corrections (b * (i - 1)) b) p 0 ≡ correctionByte s b ch corrections i j p
+  unfolding depthOf correctionByte
+  correction-byte zero d j p h hd hj hp = absurd (omega arith)
+  correction-byte (suc i) d j p h hd hj hp =
+      let e : suc i - 1 ≡ i = omega arith in
+      ap₂ (λ (x y : ℕ). x * y) (ap (bit j) hd ∙ hidden-bit s ch (suc i) j hj)
+      (getD-part corrections (b * (suc i - 1)) b p hp ∙ ap (λ (n : ℕ). getD corrections (b * n + p) 0) e)
+
+  pub corrected : (i d : ℕ) (old new : List ℕ) → 0 < i → d ≡ hiddenIndex s ch i
+      → Added b (s .k) (λ j p. bit j d * getD (part corrections (b * (i - 1)) b) p 0) old new → Added b (s .k) (correctionByte s b ch corrections i) old new
+  corrected i d old new h hd x =
+      added-same b (s .k) (λ j p. bit j d * getD (part corrections (b * (i - 1)) b) p 0) (correctionByte s b ch corrections i) old new
+      (λ j p hj hp. correction-byte i d j p h hd hj hp) x
+
+  -- the columns of a vector with its correction
+  pub corrected-columns : (iv tree : List ℕ) (i : ℕ) (old new : List ℕ) → length old ≡ b * s .k
+      → old ≡ concat (depthOf s i) (λ j. tabulate b (columnByte faest s iv tree (λ e. bitXor e (hiddenIndex s ch i)) i j))
+      → Added b (s .k) (correctionByte s b ch corrections i) old new → new ≡ concat (depthOf s i) (verifierColumn faest s b iv ch corrections tree i)
+  unfolding depthOf verifierColumn
+  corrected-columns iv tree i old new l e x =
+      let own : ℕ → ℕ → ℕ = columnByte faest s iv tree (λ e. bitXor e (hiddenIndex s ch i)) i in
+      is-concat b (s .k) (λ j p. bitXor (own j p) (correctionByte s b ch corrections i j p)) new (x .size ∙ l)
+      (λ j p hj hp.
+      x .known j p hj hp
+      ∙ ap (λ (y : ℕ). bitXor y (correctionByte s b ch corrections i j p)) (ap (λ (y : List ℕ). getD y (b * j + p) 0) e ∙ concat-byte b (s .k) own j p hj hp))
+
+-- ---- string i, of w bytes, put behind the i before it, in a part lent as v, which is w
+
+pub put-block : (f : ℕ → List ℕ) (v w i : ℕ) (d y z : List ℕ) → v ≡ w → w * i + w ≤ length d → length y ≡ w → y ≡ f i → take (w * i) d ≡ concat i f
+    → take (w * (i + 1)) (take (v * i) d ++ (y ++ z)) ≡ concat (i + 1) f
+put-block f v w i d y z ev hd hy e q =
+    let a : take (v * i) d ++ (y ++ z) ≡ take (w * i) d ++ (f i ++ z) = ap₂ (λ (n : ℕ) (x : List ℕ). take (n * i) d ++ (x ++ z)) ev e in
+    ap (λ (n : ℕ). take n (take (v * i) d ++ (y ++ z))) (mul-next w i)
+    ∙ put-next f [] w i (w * i) d (take (v * i) d ++ (y ++ z)) z (omega arith) (sym (ap length e) ∙ hy) q a
+
+-- all of them
+pub put-all : (f : ℕ → List ℕ) (w n : ℕ) (d : List ℕ) → length d ≡ w * n → take (w * n) d ≡ concat n f → d ≡ concat n f
+put-all f w n d l e = sym (take-all (w * n) d (omega arith)) ∙ e
+
+-- ---- places and sizes
+
+pub lent : (at n : ℕ) (l : List ℕ) → at + n ≤ length l → length (part l at (at + n - at)) ≡ n
+lent at n l h =
+    let e : at + n - at ≡ n = omega arith in
+    ap (λ (m : ℕ). length (part l at m)) e ∙ length-part l at n h
+
+-- string i of n ends within a buffer that has room for all, in a part lent as v, which is w
+block-end : (v w i n d : ℕ) → v ≡ w → i < n → w * n ≤ d → v * i + v ≤ d
+block-end v w i n d e h l = rw e (let m = mul-within w i n h in omega arith)
+
+pub commitments-end : (s : Shape) (n i d : ℕ) → n ≡ 2 ^ s .k → i < s .tau → 48 * 2 ^ s .k * s .tau ≤ d → 48 * n * i + 48 * n ≤ d
+commitments-end s n i d e h l = block-end (48 * n) (48 * 2 ^ s .k) i (s .tau) d (ap (λ (m : ℕ). 48 * m) e) h l
+
+pub columns-end : (s : Shape) (b i d : ℕ) → i < s .tau → b * s .k * s .tau ≤ d → b * s .k * i + b * s .k ≤ d
+columns-end s b i d h l = block-end (b * s .k) (b * s .k) i (s .tau) d refl h l
+
+module _ (s : Shape) (e : shapeOk s ≡ true) where
+  pub columns-width : (b : ℕ) → b ≤ 8192 → b * s .k ≤ 98304
+  columns-width b h = mul-le-mul h (shape-facts s e .k-max)
+
+  -- the leaf commitments of all vectors, and their columns, to which the last w are added
+  pub all-commitments : 48 * 2 ^ s .k * s .tau ≡ 48 * (s .tau * 2 ^ s .k)
+  all-commitments = mul-assoc 48 (2 ^ s .k) (s .tau) ∙ ap (λ (n : ℕ). 48 * n) (mul-comm (2 ^ s .k) (s .tau))
+
+  pub all-columns : (b : ℕ) → b * s .k * s .tau ≡ b * (s .tau * s .k)
+  all-columns b = mul-assoc b (s .k) (s .tau) ∙ ap (λ (n : ℕ). b * n) (mul-comm (s .k) (s .tau))
+
+  pub rest-columns : (b : ℕ) → b * (s .tau * s .k) + b * s .w ≡ b * 128
+  rest-columns b = sym (mul-add b (s .tau * s .k) (s .w)) ∙ ap (λ (n : ℕ). b * n) (shape-facts s e .total)
+
+-- ---- all vectors
+
+module _ (s : Shape) (b : ℕ) (iv ch corrections opening tree : List ℕ) where
+  pub before-none : (lcs q hashes : List ℕ) → Before s b iv ch corrections opening tree 0 lcs q hashes
+  unfolding concat
+  before-none lcs q hashes =
+      record {
+        leaves = ap (λ (n : ℕ). take n lcs) (mul-zero (48 * 2 ^ s .k));
+        columns = ap (λ (n : ℕ). take n q) (mul-zero (b * s .k));
+        digests = refl;
+      }
+
+  -- one vector more, in parts that come back from it
+  pub before-more : (v i : ℕ) (lcs q hashes x y z x′ y′ z′ : List ℕ) → v ≡ 48 * 2 ^ s .k → i < s .tau
+      → 48 * 2 ^ s .k * s .tau ≤ length lcs → b * s .k * s .tau ≤ length q → 32 * s .tau ≤ length hashes
+      → length x ≡ 48 * 2 ^ s .k → length y ≡ b * s .k → length z ≡ 32
+      → Reconstructed s b iv ch corrections opening tree i x y z → Before s b iv ch corrections opening tree i lcs q hashes
+      → Before s b iv ch corrections opening tree (i + 1) (take (v * i) lcs ++ (x ++ x′)) (take (b * s .k * i) q ++ (y ++ y′)) (take (32 * i) hashes ++ (z ++ z′))
+  before-more v i lcs q hashes x y z x′ y′ z′ e h hl hq hh lx ly lz r f =
+      let w = 48 * 2 ^ s .k in
+      let n = b * s .k in
+      let lc : ℕ → ℕ → List ℕ = verifierLeafCommitment faest s iv ch opening tree in
+      let one = mul-within w i (s .tau) h in
+      let two = mul-within n i (s .tau) h in
+      record {
+        leaves = put-block (vectorCommitments s lc) v w i lcs x x′ e (omega arith) lx (r .leaves) (f .leaves);
+        columns = put-block (λ i. concat (depthOf s i) (verifierColumn faest s b iv ch corrections tree i)) n n i q y y′ refl (omega arith) ly (r .columns) (f .columns);
+        digests = put-block (vectorHash faest s lc) 32 32 i hashes z z′ refl (omega arith) lz (r .digest) (f .digests);
+      }

@@ -1,0 +1,176 @@
+// All vectors of the checking half: leaf commitments and the hashes of the vectors, and the matrix, from the bytes of a tree, an opening, corrections and
+// a challenge.
+ghost use mathlib.Core.Path.{_≡_};
+ghost use mathlib.Core.Bool.{true};
+ghost use mathlib.Core.List.{List};
+ghost use Prim.Native.Nat.{ℕ, _+_, _-_, _*_, _^_, _≤_, _<_};
+ghost use lib.ListN.{length};
+ghost use Rattle.spec.specs.Bytes.{concat};
+ghost use Rattle.spec.specs.Gf256.{SboxTable};
+ghost use Rattle.spec.specs.Shapes.{shapeOk, hiddenIndex, treeBytes, leafCommitmentsBytes, openingBytes, matrixBytes, correctionsBytes};
+ghost use Rattle.spec.specs.Primitives.{faest};
+ghost use Rattle.spec.specs.Leaves.{leafCommitments, vectorHash};
+ghost use Rattle.spec.specs.Rows.{matrixOf};
+ghost use Rattle.spec.specs.Verifier.{hiddenLeafCommitment, verifierLeafCommitment, correctionByte, verifierColumn};
+ghost use Rattle.columns.specs.Columns.{Added};
+ghost use Rattle.verifier_vectors.specs.Vectors.{Reconstructed, Before};
+use spec::Shape;
+
+// Adds the correction of vector i to its columns: nothing in vector 0, or where the bit of the hidden index d is 0.
+fn correct(s: Shape, i: usize, d: usize, b: usize, corrections: &[u8], cols: &mut [u8])
+    requires { ⌜ (shapeOk s ≡ true) × (i < s .tau) × (b ≤ 8192) × (length (now corrections) ≡ b * (s .tau - 1)) × (length (now cols) ≡ b * s .k) ⌝ }
+    ensures { λ _. ⌜ ((ch : List ℕ) → d ≡ hiddenIndex s ch i → Added b (s .k) (correctionByte s b ch (now (corrections .entry)) i) (now (cols .entry)) (now (cols .exit))) ⌝ }
+{
+    if 0 < i {
+        let at = b * (i - 1);
+        columns::add_bytes(cols, b, s.k, d, &corrections[at..at + b]);
+    }
+}
+
+// Vector i with its correction, in its parts of the buffers.
+fn corrected_vector(
+    t: &[u8; 256],
+    s: Shape,
+    i: usize,
+    b: usize,
+    iv: [u8; 16],
+    keys: &[u8],
+    ch: &[u8],
+    tree: &[u8],
+    corrections: &[u8],
+    hidden: &[u8],
+    lcs: &mut [u8],
+    cols: &mut [u8],
+    hash: &mut [u8],
+)
+    requires { ⌜ SboxTable (now t) ⌝ }
+    requires { ⌜ (shapeOk s ≡ true) × (i < s .tau) × (b ≤ 8192) × (now keys ≡ faest .h0 s iv (48 * s .tau)) × (length (now ch) ≡ 16) × (length (now tree) ≡ treeBytes s) × (length (now corrections) ≡ b * (s .tau - 1)) ⌝ }
+    requires { ⌜ (length (now hidden) ≡ 48) × (length (now lcs) ≡ 48 * 2 ^ s .k) × (length (now cols) ≡ b * s .k) × (length (now hash) ≡ 32) ⌝ }
+    ensures { λ _. ⌜ ((opening : List ℕ) → now (hidden .entry) ≡ hiddenLeafCommitment s opening i
+        → Reconstructed s b iv (now (ch .entry)) (now (corrections .entry)) opening (now (tree .entry)) i (now (lcs .exit)) (now (cols .exit)) (now (hash .exit))) ⌝ }
+{
+    let d = shape::challenge::hidden_index(s, ch, i);
+    verifier_vector::convert(t, s, i, d, b, iv, keys, tree, hidden, lcs, cols, hash);
+    correct(s, i, d, b, corrections, cols);
+}
+
+// Vector i, behind those before it.
+fn next_vector(
+    t: &[u8; 256],
+    s: Shape,
+    i: usize,
+    b: usize,
+    iv: [u8; 16],
+    keys: &[u8],
+    ch: &[u8],
+    tree: &[u8],
+    corrections: &[u8],
+    opening: &[u8],
+    lcs: &mut [u8],
+    q: &mut [u8],
+    hashes: &mut [u8],
+)
+    requires { ⌜ SboxTable (now t) ⌝ }
+    requires { ⌜ (shapeOk s ≡ true) × (i < s .tau) × (b ≤ 8192) × (now keys ≡ faest .h0 s iv (48 * s .tau)) × (length (now ch) ≡ 16) × (length (now tree) ≡ treeBytes s) × (length (now corrections) ≡ b * (s .tau - 1)) × (48 * s .tau ≤ length (now opening)) ⌝ }
+    requires { ⌜ (48 * 2 ^ s .k * s .tau ≤ length (now lcs)) × (b * s .k * s .tau ≤ length (now q)) × (32 * s .tau ≤ length (now hashes)) ⌝ }
+    ensures { λ _. ⌜ (Before s b iv (now (ch .entry)) (now (corrections .entry)) (now (opening .entry)) (now (tree .entry)) i (now (lcs .entry)) (now (q .entry)) (now (hashes .entry))
+        → Before s b iv (now (ch .entry)) (now (corrections .entry)) (now (opening .entry)) (now (tree .entry)) (i + 1) (now (lcs .exit)) (now (q .exit)) (now (hashes .exit))) ⌝ }
+{
+    let w = 48 * shape::rules::entry_count(s);
+    let c = b * s.k;
+    corrected_vector(
+        t,
+        s,
+        i,
+        b,
+        iv,
+        keys,
+        ch,
+        tree,
+        corrections,
+        &opening[48 * i..48 * i + 48],
+        &mut lcs[w * i..w * i + w],
+        &mut q[c * i..c * i + c],
+        &mut hashes[32 * i..32 * i + 32],
+    );
+}
+
+// The vectors, one behind another.
+fn each_vector(
+    t: &[u8; 256],
+    s: Shape,
+    b: usize,
+    iv: [u8; 16],
+    keys: &[u8],
+    ch: &[u8],
+    tree: &[u8],
+    corrections: &[u8],
+    opening: &[u8],
+    lcs: &mut [u8],
+    q: &mut [u8],
+    hashes: &mut [u8],
+)
+    requires { ⌜ SboxTable (now t) ⌝ }
+    requires { ⌜ (shapeOk s ≡ true) × (b ≤ 8192) × (now keys ≡ faest .h0 s iv (48 * s .tau)) × (length (now ch) ≡ 16) × (length (now tree) ≡ treeBytes s) × (length (now corrections) ≡ b * (s .tau - 1)) × (48 * s .tau ≤ length (now opening)) ⌝ }
+    requires { ⌜ (48 * 2 ^ s .k * s .tau ≤ length (now lcs)) × (b * s .k * s .tau ≤ length (now q)) × (32 * s .tau ≤ length (now hashes)) ⌝ }
+    ensures { λ _. ⌜ Before s b iv (now (ch .entry)) (now (corrections .entry)) (now (opening .entry)) (now (tree .entry)) (s .tau) (now (lcs .exit)) (now (q .exit)) (now (hashes .exit)) ⌝ }
+{
+    let n = s.tau;
+    for i in 0..n {
+        next_vector(
+            t,
+            s,
+            i,
+            b,
+            iv,
+            keys,
+            ch,
+            tree,
+            corrections,
+            opening,
+            lcs,
+            q,
+            hashes,
+        );
+    }
+}
+
+// All vectors. The last w columns are zeros.
+pub fn write_vectors(
+    t: &[u8; 256],
+    s: Shape,
+    b: usize,
+    iv: [u8; 16],
+    keys: &[u8],
+    ch: &[u8],
+    tree: &[u8],
+    corrections: &[u8],
+    opening: &[u8],
+    lcs: &mut [u8],
+    q: &mut [u8],
+    hashes: &mut [u8],
+)
+    requires { ⌜ SboxTable (now t) ⌝ }
+    requires { ⌜ (shapeOk s ≡ true) × (b ≤ 8192) × (now keys ≡ faest .h0 s iv (48 * s .tau)) × (length (now ch) ≡ 16) × (length (now tree) ≡ treeBytes s) × (length (now corrections) ≡ correctionsBytes s b) × (length (now opening) ≡ openingBytes s) ⌝ }
+    requires { ⌜ (length (now lcs) ≡ leafCommitmentsBytes s) × (length (now q) ≡ matrixBytes s b) × (length (now hashes) ≡ 32 * s .tau) ⌝ }
+    ensures { λ _. ⌜ now (lcs .exit) ≡ leafCommitments s (verifierLeafCommitment faest s iv (now (ch .entry)) (now (opening .entry)) (now (tree .entry))) ⌝ }
+    ensures { λ _. ⌜ now (q .exit) ≡ matrixOf s b (verifierColumn faest s b iv (now (ch .entry)) (now (corrections .entry)) (now (tree .entry))) ⌝ }
+    ensures { λ _. ⌜ now (hashes .exit) ≡ concat (s .tau) (vectorHash faest s (verifierLeafCommitment faest s iv (now (ch .entry)) (now (opening .entry)) (now (tree .entry)))) ⌝ }
+{
+    each_vector(
+        t,
+        s,
+        b,
+        iv,
+        keys,
+        ch,
+        tree,
+        corrections,
+        opening,
+        lcs,
+        q,
+        hashes,
+    );
+    let used = s.tau * s.k;
+    buffers::clear_from(q, b * used);
+}
