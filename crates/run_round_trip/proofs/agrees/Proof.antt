@@ -1,0 +1,33 @@
+-- The index stays within the slice. Assumes nothing.
+use borrow.Author.Needs.{needs}
+use Prim.Native.Nat.{ℕ, _+_, _-_, _≤_}
+use mathlib.Core.Path.{_≡_}
+use native.Mathlib.Omega.{arith}
+use lib.ListN.{length}
+use Rattle.run_round_trip.proofs.agrees.Statement.{statement}
+use Rattle.run_round_trip.proofs.agrees.Tie as tie
+
+abbrev Inv-loop : tie.InvT-loop
+Inv-loop bit u v q p₀ p = p ≤ length u
+
+abbrev μ-loop : tie.MeasureT-loop
+μ-loop bit u v q p₀ p = length u - p
+
+pub agrees-spec : {M : Type 1} → statement M
+agrees-spec =
+    tie.close
+    (tie.spec
+    Inv-loop
+    μ-loop
+    (λ c. search needs)
+    (λ c. search needs)
+    (λ c. search needs)
+    (λ c. search needs)
+    (λ c. search needs)
+    (λ c. search needs)
+    (λ c. search needs)
+    (λ c. search needs)
+    (λ c. search needs)
+    (λ c. search needs)
+    (λ c. search needs)
+    (λ c. search needs))
