@@ -105,15 +105,22 @@ static void add_to_word(uint8_t a[4], uint32_t v)
         a[i] = (uint8_t)(x >> (8 * i));
 }
 
+/* block n of the generator */
+void c_block(const uint8_t w[176], const uint8_t iv[16], uint32_t tweak, uint32_t n, uint8_t out[16])
+{
+    uint8_t s[16];
+    memcpy(s, iv, 16);
+    add_to_word(s + 12, tweak);
+    add_to_word(s, n);
+    c_encrypt(w, s, out);
+}
+
 void c_fill(const uint8_t key[16], const uint8_t iv[16], uint32_t tweak, uint8_t *out, size_t length)
 {
-    uint8_t w[176], s[16], b[16];
+    uint8_t w[176], b[16];
     c_key_schedule(key, w);
     for (size_t p = 0; p < length; p += 16) {
-        memcpy(s, iv, 16);
-        add_to_word(s + 12, tweak);
-        add_to_word(s, (uint32_t)(p / 16));
-        c_encrypt(w, s, b);
+        c_block(w, iv, tweak, (uint32_t)(p / 16), b);
         memcpy(out + p, b, length - p < 16 ? length - p : 16);
     }
 }

@@ -4,14 +4,30 @@
 #include <string.h>
 #include <time.h>
 
-static uint8_t table[256], key[16], iv[16], message[98304], stretched[64], challenge[16], clear[16];
+/* the default shape, with rows of 1,680 bits */
+enum { TAU = 11, DEPTH = 11, ALLOWED = 102, LEAVES = TAU << DEPTH, BITS = 1680, ROW = BITS / 8 };
+static const size_t shape[4] = {TAU, DEPTH, 128 - TAU * DEPTH, ALLOWED};
+
+static uint8_t table[256], key[16], iv[16], message[98304], challenge[16], clear[16], accepted[16];
 static uint64_t multiples[16][6];
-static size_t shape[4] = {11, 11, 7, 102};
 /* what each side worked on last: index 0 the C, index 1 the Rattle */
-static uint8_t block[2][16], node[2][32], row[2][224], hash[2][32], keys[2][528], leaf[48];
+static uint8_t block[2][16], node[2][32], row[2][224], hash[2][32], keys[2][528], only_tree[2][32 * LEAVES - 16];
 static uint64_t state[2][25];
-static uint32_t nodes[2][102], few[2][102];
-static size_t count[2], few_count[2];
+static uint32_t nodes[2][ALLOWED], few[2][ALLOWED];
+static size_t count[2], few_count[2], opened[2], reconstructed[2], number[2];
+static struct {
+    uint8_t stretched[64], commitment[48];
+} leaf[2];
+static struct {
+    uint8_t total[ROW], columns[DEPTH * ROW];
+} added[2];
+static struct {
+    uint8_t commitment[32], tree[32 * LEAVES - 16], leaf_commitments[48 * LEAVES], u[ROW], v[128 * ROW], corrections[(TAU - 1) * ROW];
+} made[2];
+static uint8_t opening[2][48 * TAU + 16 * ALLOWED];
+static struct {
+    uint8_t commitment[32], tree[32 * LEAVES - 16], leaf_commitments[48 * LEAVES], q[128 * ROW];
+} again[2];
 
 static void block_c(void) { uint8_t k[16]; memcpy(k, block[0], 16); c_schedule_and_block(k, block[0]); }
 static void block_rattle(void) { uint8_t k[16]; memcpy(k, block[1], 16); rattle_schedule_and_block(table, k, block[1]); }
@@ -26,42 +42,135 @@ static void h0_rattle(void) { rattle_h0(iv, 16, keys[1], 528); }
 static void h1_c(void) { c_shake(message, sizeof message, 1, hash[0], 32); }
 static void h1_rattle(void) { rattle_h1(message, sizeof message, hash[1], 32); }
 static void plan_c(void) { count[0] = c_plan(shape, challenge, nodes[0]); }
-static void plan_rattle(void) { count[1] = rattle_plan(challenge, 16, nodes[1], 102); }
+static void plan_rattle(void) { count[1] = rattle_plan(challenge, 16, nodes[1], ALLOWED); }
 static void few_c(void) { few_count[0] = c_plan(shape, clear, few[0]); }
-static void few_rattle(void) { few_count[1] = rattle_plan(clear, 16, few[1], 102); }
-static void leaf_rattle(void) { rattle_leaf_hash(multiples, stretched, leaf); stretched[0] ^= leaf[3]; stretched[17] ^= leaf[5]; }
+static void few_rattle(void) { few_count[1] = rattle_plan(clear, 16, few[1], ALLOWED); }
 
-static double nanoseconds(void (*work)(void), int times)
+/* the next leaf to be hashed depends on this one */
+static void next_leaf(int side)
+{
+    leaf[side].stretched[0] ^= leaf[side].commitment[3];
+    leaf[side].stretched[17] ^= leaf[side].commitment[5];
+}
+static void leaf_c(void) { c_leaf_hash(multiples, leaf[0].stretched, leaf[0].commitment); next_leaf(0); }
+static void leaf_rattle(void) { rattle_leaf_hash(multiples, leaf[1].stretched, leaf[1].commitment); next_leaf(1); }
+
+/* each row has its own seed and number */
+static const uint8_t *next_seed(int side)
+{
+    number[side] = (number[side] + 1) % 2048;
+    return message + 16 * number[side];
+}
+static void add_c(void) { const uint8_t *seed = next_seed(0); c_add_row(seed, iv, 5, ROW, DEPTH, number[0], added[0].total, added[0].columns); }
+static void add_rattle(void)
+{
+    const uint8_t *seed = next_seed(1);
+    rattle_add_row(table, seed, 16, iv, 5, ROW, DEPTH, number[1], added[1].total, ROW, added[1].columns, DEPTH * ROW);
+}
+
+static void tree_c(void) { c_grow(shape, key, iv, only_tree[0]); }
+static void tree_rattle(void) { rattle_grow(table, key, 16, iv, LEAVES, only_tree[1], sizeof only_tree[1]); }
+static void commit_c(void)
+{
+    c_commit(shape, ROW, key, iv, made[0].commitment, made[0].tree, made[0].leaf_commitments, made[0].u, made[0].v, made[0].corrections);
+}
+static void commit_rattle(void)
+{
+    rattle_commit(0, 0, 0, 0, BITS, key, 16, iv, 16, made[1].commitment, sizeof made[1].commitment, made[1].tree, sizeof made[1].tree,
+                  made[1].leaf_commitments, sizeof made[1].leaf_commitments, made[1].u, sizeof made[1].u, made[1].v, sizeof made[1].v,
+                  made[1].corrections, sizeof made[1].corrections);
+}
+static void open_c(void) { opened[0] = c_open(shape, accepted, made[0].tree, made[0].leaf_commitments, opening[0]); }
+static void open_rattle(void)
+{
+    opened[1] = rattle_open(accepted, 16, made[1].tree, sizeof made[1].tree, made[1].leaf_commitments, sizeof made[1].leaf_commitments, opening[1],
+                            sizeof opening[1]);
+}
+static void reconstruct_c(void)
+{
+    reconstructed[0] = c_reconstruct(shape, ROW, iv, accepted, made[0].corrections, opening[0], again[0].commitment, again[0].tree,
+                                     again[0].leaf_commitments, again[0].q);
+}
+static void reconstruct_rattle(void)
+{
+    reconstructed[1] = rattle_reconstruct(BITS, iv, 16, accepted, 16, made[1].corrections, sizeof made[1].corrections, opening[1], sizeof opening[1],
+                                          again[1].commitment, sizeof again[1].commitment, again[1].tree, sizeof again[1].tree,
+                                          again[1].leaf_commitments, sizeof again[1].leaf_commitments, again[1].q, sizeof again[1].q);
+}
+
+static const struct work {
+    const char *name;
+    void (*c)(void), (*rattle)(void);
+    int times;
+    const void *result[2];
+    size_t length;
+    const char *aim;
+} parts[] = {
+    {"AES key schedule and one block", block_c, block_rattle, 100, {block[0], block[1]}, 16, "0.6"},
+    {"one key, 32 bytes (a node)", node_c, node_rattle, 100, {node[0], node[1]}, 32, "0.6"},
+    {"one key, 224 bytes", row_c, row_rattle, 20, {row[0], row[1]}, 224, "0.6"},
+    {"a row into u and 11 columns", add_c, add_rattle, 20, {&added[0], &added[1]}, sizeof added[0], ""},
+    {"leaf hash, multiples lent", leaf_c, leaf_rattle, 100, {&leaf[0], &leaf[1]}, sizeof leaf[0], "150 ns"},
+    {"Keccak-f[1600]", keccak_c, keccak_rattle, 100, {state[0], state[1]}, 200, "1.05"},
+    {"H0, 16 to 528 bytes", h0_c, h0_rattle, 20, {keys[0], keys[1]}, 528, ""},
+    {"H1, 98,304 to 32 bytes", h1_c, h1_rattle, 1, {hash[0], hash[1]}, 32, ""},
+    {"plan, refused with 5", plan_c, plan_rattle, 20, {nodes[0], nodes[1]}, sizeof nodes[0], "1.5"},
+    {"plan, all hidden indices 0", few_c, few_rattle, 20, {few[0], few[1]}, sizeof few[0], "1.5"},
+}, calls[] = {
+    {"the tree", tree_c, tree_rattle, 1, {only_tree[0], only_tree[1]}, sizeof only_tree[0], ""},
+    {"commit", commit_c, commit_rattle, 1, {&made[0], &made[1]}, sizeof made[0], "0.65"},
+    {"open", open_c, open_rattle, 20, {opening[0], opening[1]}, sizeof opening[0], "100 us"},
+    {"reconstruct", reconstruct_c, reconstruct_rattle, 1, {&again[0], &again[1]}, sizeof again[0], "0.65"},
+};
+
+static double nanoseconds(clockid_t clock, void (*work)(void), int times)
 {
     struct timespec from, to;
-    clock_gettime(CLOCK_MONOTONIC, &from);
+    clock_gettime(clock, &from);
     for (int i = 0; i < times; i++)
         work();
-    clock_gettime(CLOCK_MONOTONIC, &to);
+    clock_gettime(clock, &to);
     return ((double)(to.tv_sec - from.tv_sec) * 1e9 + (double)(to.tv_nsec - from.tv_nsec)) / times;
+}
+
+static void show(const char *side, double time)
+{
+    if (time < 1e4)
+        printf("  %s %7.1f ns", side, time);
+    else if (time < 1e6)
+        printf("  %s %7.1f us", side, time / 1e3);
+    else
+        printf("  %s %7.2f ms", side, time / 1e6);
+}
+
+/* whether a result differs */
+static int measure(clockid_t clock, const struct work *all, int n, int runs)
+{
+    double best[16][2];
+    int wrong = 0;
+    for (int r = 0; r < runs; r++)
+        for (int k = 0; k < n; k++) {
+            double c = nanoseconds(clock, all[k].c, all[k].times), rattle = nanoseconds(clock, all[k].rattle, all[k].times);
+            if (r == 0 || c < best[k][0])
+                best[k][0] = c;
+            if (r == 0 || rattle < best[k][1])
+                best[k][1] = rattle;
+        }
+    for (int k = 0; k < n; k++) {
+        int same = !memcmp(all[k].result[0], all[k].result[1], all[k].length);
+        wrong |= !same;
+        printf("%-32s", all[k].name);
+        show("C", best[k][0]);
+        show("Rattle", best[k][1]);
+        printf("  ratio %.2f  aim %-6s  %s\n", best[k][1] / best[k][0], all[k].aim, same ? "same results" : "RESULTS DIFFER");
+    }
+    return wrong;
 }
 
 int main(void)
 {
-    static const struct {
-        const char *name;
-        void (*c)(void), (*rattle)(void);
-        int times;
-        const void *result[2];
-        size_t length;
-    } all[] = {
-        {"AES key schedule and one block", block_c, block_rattle, 100, {block[0], block[1]}, 16},
-        {"one key, 32 bytes (a node)", node_c, node_rattle, 100, {node[0], node[1]}, 32},
-        {"one key, 224 bytes (a row)", row_c, row_rattle, 20, {row[0], row[1]}, 224},
-        {"Keccak-f[1600]", keccak_c, keccak_rattle, 100, {state[0], state[1]}, 200},
-        {"H0, 16 to 528 bytes", h0_c, h0_rattle, 20, {keys[0], keys[1]}, 528},
-        {"H1, 98,304 to 32 bytes", h1_c, h1_rattle, 1, {hash[0], hash[1]}, 32},
-        {"plan, refused with 5", plan_c, plan_rattle, 20, {nodes[0], nodes[1]}, sizeof nodes[0]},
-        {"plan, all hidden indices 0", few_c, few_rattle, 20, {few[0], few[1]}, sizeof few[0]},
-    };
-    enum { ROWS = sizeof all / sizeof all[0], RUNS = 3000 };
-    double best[ROWS][2], one = 1e18;
-    int wrong = 0;
+    uint32_t list[ALLOWED];
+    int wrong;
     for (size_t i = 0; i < sizeof message; i++)
         message[i] = (uint8_t)(i * 7 + i / 251);
     for (int i = 0; i < 16; i++) {
@@ -72,28 +181,26 @@ int main(void)
             block[side][i] = node[side][i] = row[side][i] = key[i];
     }
     for (int i = 0; i < 64; i++)
-        stretched[i] = (uint8_t)(37 * i + 1);
+        leaf[0].stretched[i] = leaf[1].stretched[i] = (uint8_t)(37 * i + 1);
+    /* the two sides begin with other bytes */
+    memset(&made[0], 0x55, sizeof made[0]);
+    memset(opening[0], 0x55, sizeof opening[0]);
+    memset(&again[0], 0x55, sizeof again[0]);
     rattle_table(table);
     rattle_multiples(message + 100, multiples);
-    for (int r = 0; r < RUNS; r++) {
-        for (int k = 0; k < ROWS; k++) {
-            double c = nanoseconds(all[k].c, all[k].times), rattle = nanoseconds(all[k].rattle, all[k].times);
-            if (r == 0 || c < best[k][0])
-                best[k][0] = c;
-            if (r == 0 || rattle < best[k][1])
-                best[k][1] = rattle;
-        }
-        double l = nanoseconds(leaf_rattle, 100);
-        if (l < one)
-            one = l;
+    /* the first challenge of a list that is accepted: parts of the message, the grinding bits cleared */
+    for (size_t n = 0, c = ALLOWED + 1; c > ALLOWED; n++) {
+        memcpy(accepted, message + 1009 * n, 16);
+        accepted[15] &= 1;
+        c = c_plan(shape, accepted, list);
     }
-    for (int k = 0; k < ROWS; k++) {
-        int same = !memcmp(all[k].result[0], all[k].result[1], all[k].length) && count[0] == count[1] && few_count[0] == few_count[1];
-        wrong |= !same;
-        printf("%-32s C %9.1f ns  Rattle %9.1f ns  ratio %.2f  %s\n", all[k].name, best[k][0], best[k][1], best[k][1] / best[k][0],
-               same ? "same results" : "RESULTS DIFFER");
-    }
-    printf("%-32s                 Rattle %9.1f ns\n", "leaf hash, multiples lent", one);
-    printf("nodes planned: %zu and %zu\n", count[0], few_count[0]);
-    return wrong;
+    /* a call is longer than what the system gives a process at a time: its time is that of the processor */
+    wrong = measure(CLOCK_MONOTONIC, parts, sizeof parts / sizeof parts[0], 3000);
+    wrong |= measure(CLOCK_PROCESS_CPUTIME_ID, calls, sizeof calls / sizeof calls[0], 25);
+    if (count[0] != count[1] || few_count[0] != few_count[1] || opened[0] != opened[1] || reconstructed[0] != reconstructed[1])
+        wrong = printf("COUNTS DIFFER\n");
+    if (memcmp(made[1].commitment, again[1].commitment, 32))
+        wrong = printf("THE RECONSTRUCTED COMMITMENT IS ANOTHER\n");
+    printf("nodes planned: %zu and %zu; nodes opened: %zu\n", count[0], few_count[0], opened[0]);
+    return wrong != 0;
 }

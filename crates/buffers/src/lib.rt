@@ -1,4 +1,4 @@
-// Parts of lent buffers: copied from one to another, and filled with zeros.
+// Parts of lent buffers: copied from one to another, filled with zeros, and tested for zeros.
 ghost use mathlib.Core.Path.{_≡_};
 ghost use mathlib.Core.List.{_++_};
 ghost use Prim.Native.Nat.{_+_, _-_, _≤_};

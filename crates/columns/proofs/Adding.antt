@@ -13,9 +13,9 @@ use lib.Dec.{ltb}
 use lib.ListN.{length, getD, take, set, length-take, length-set, List·getD-eq-default}
 use lib.Seq.{getD-take, length-take-le, getD-set-same, getD-set-other}
 use borrow.Author.Tests.{lt-ltb, le-ltb}
-use Rattle.spec.specs.Bytes.{bit, tabulate, concat, xorBelow}
+use Rattle.spec.specs.Bytes.{bit, xorBelow}
 use Rattle.laws.proofs.Xor.{xor-assoc, digit-xor}
-use Rattle.laws.proofs.Concat.{is-concat, mul-within}
+use Rattle.laws.proofs.Concat.{mul-within}
 use Rattle.columns.specs.Columns.{placed, Xored, Added}
 
 -- ---- a block among zeros
@@ -151,11 +151,6 @@ pub added-more : (b k n : ℕ) (f : ℕ → ℕ → ℕ → ℕ) (old mid new : 
     → Added b k (λ j p. xorBelow n (λ e. f e j p)) old mid → Added b k (f n) mid new → Added b k (λ j p. xorBelow (n + 1) (λ e. f e j p)) old new
 unfolding xorBelow
 added-more b k n f old mid new r s = rw add-one (added-then b k (λ j p. xorBelow n (λ e. f e j p)) (f n) old mid new r s)
-
--- what was added to k columns, as k strings one after another
-pub added-whole : (b k : ℕ) (f : ℕ → ℕ → ℕ) (old new : List ℕ) → length old ≡ b * k → Added b k f old new
-    → new ≡ concat k (λ j. tabulate b (λ p. bitXor (getD old (b * j + p) 0) (f j p)))
-added-whole b k f old new l r = is-concat b k (λ j p. bitXor (getD old (b * j + p) 0) (f j p)) new (r .size ∙ l) (r .known)
 
 bit-lt : (j n : ℕ) → bit j n < 2
 bit-lt j n = mod-lt (n / 2 ^ j) (omega arith)

@@ -1,4 +1,4 @@
-// Blocks of a row, xored straight into the columns of a vector that is lent. No row is ever held.
+// Blocks of a row, and whole strings, xored straight into the columns of a vector that is lent. No row is ever held.
 ghost use mathlib.Core.Path.{_≡_};
 ghost use Prim.Native.Nat.{_+_, _*_, _≤_, _<_};
 ghost use lib.ListN.{length, getD, take};

@@ -1,4 +1,4 @@
-// Demand 3 over the three calls: commit, open and reconstruct made one after another on lent buffers, each lent what the one before it wrote.
+// Demand 3 over the three calls: commit, open and reconstruct made one after another on lent buffers, each lent what the calls before it wrote.
 ghost use Rattle.round_trip.specs.RoundTrip.{RoundTrip};
 use spec::Answer;
 use spec::Shape;

@@ -1,4 +1,4 @@
-// The public calls decode and plan, and what open and reconstruct share with them: the shape rules, the bits of a challenge, the revealed nodes, and which
+// The public calls decode and plan, and what the other three calls share with them: the shape rules, the bits of a challenge, the revealed nodes, and which
 // nodes are covered.
 ghost use mathlib.Core.Path.{_≡_};
 ghost use mathlib.Core.Bool.{true};

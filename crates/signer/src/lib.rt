@@ -70,7 +70,7 @@ fn write_all(
     let t = aes::table();
     let x = generator::load_iv(iv);
     shake::h0(iv, keys);
-    tree::grow(&t, root, x, shape::rules::leaf_count(s), tree);
+    signer_tree::grow(&t, root, x, shape::rules::leaf_count(s), tree);
     signer_vectors::write_vectors(&t, s, b, x, keys, tree, lcs, u, v, corrections, hashes);
     shake::h1(hashes, commitment);
 }

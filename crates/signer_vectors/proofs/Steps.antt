@@ -2,37 +2,30 @@
 -- By the laws of strings put one behind another. Assumes nothing.
 use Prim.Native.Nat.{ℕ, _+_, _-_, _*_, _^_, _≤_}
 use mathlib.Core.Path.{_≡_, refl, sym, ap, ap₂, _∙_, subst}
-use mathlib.Core.List.{List, [], _++_, append-nil}
+use mathlib.Core.Bool.{true}
+use mathlib.Core.List.{List, _++_, append-nil}
 use native.Mathlib.Omega.{arith}
-use native.Mathlib.Nat.{zero-add, mul-zero, mul-add, mul-comm, mul-assoc}
+use native.Mathlib.Nat.{zero-add, mul-zero}
 use lib.Bits.{bitXor, xor-zero-l, xor-zero-r}
 use lib.ListN.{length, getD, take, drop, drop-of-length-le}
-use lib.Seq.{take-all, take-length}
+use lib.Seq.{take-length}
 use Rattle.spec.specs.declared.Shape.{Shape}
 use Rattle.spec.specs.Bytes.{bit, tabulate, concat, zeros, xorBelow}
 use Rattle.spec.specs.Sponge.{sponge, shake}
 use Rattle.spec.specs.Hashes.{hash1}
-use Rattle.spec.specs.Shapes.{level, nodeBytes, leafCommitmentBytes, hashBytes, rate, depthOf, entriesOf, leaves, leafCommitmentsBytes, matrixBytes}
+use Rattle.spec.specs.Shapes.{level, nodeBytes, leafCommitmentBytes, hashBytes, rate, depthOf, entriesOf, leaves, shapeOk, leafCommitmentsBytes, matrixBytes}
 use Rattle.spec.specs.Primitives.{faest}
 use Rattle.spec.specs.Leaves.{leafKey, leafCommitment, vectorCommitments, vectorHash}
 use Rattle.spec.specs.Rows.{rowByte, uByte, columnByte}
 use Rattle.spec.specs.Signer.{signerLeafCommitment, signerU, signerColumn, correction}
 use Rattle.laws.proofs.Lists.{length-tabulate, getD-tabulate, tabulate-same, is-tabulate, length-zeros}
 use Rattle.laws.proofs.Sums.{xor-same}
-use Rattle.laws.proofs.Concat.{concat-same, even-length, mul-next}
-use Rattle.laws.proofs.Putting.{put-next}
+use Rattle.laws.proofs.Concat.{concat-same, even-length}
 use Rattle.laws.proofs.Strings.{getD-zeros}
+use Rattle.planning_laws.proofs.ShapeFacts.{shape-facts}
 use Rattle.columns.specs.Columns.{Added}
-use Rattle.columns.proofs.Adding.{added-whole}
+use Rattle.vector.proofs.Buffers.{put-block, put-all, all-commitments, all-columns, rest-columns, cleared-columns}
 use Rattle.signer_vectors.specs.Vectors.{Converted, UpTo}
-
--- columns that were zeros
-columns-of : (b k n : ℕ) (f g : ℕ → ℕ → ℕ) (new : List ℕ) → n ≡ b * k → Added b k f (zeros n) new → ((j p : ℕ) → f j p ≡ g j p) → new ≡ concat k (λ j. tabulate b (g j))
-columns-of b k n f g new e r h =
-    added-whole b k f (zeros n) new (length-zeros n ∙ e) r
-    ∙ concat-same (λ j. tabulate b (λ p. bitXor (getD (zeros n) (b * j + p) 0) (f j p))) (λ j. tabulate b (g j)) k
-    (λ j hj. tabulate-same b (λ p. bitXor (getD (zeros n) (b * j + p) 0) (f j p)) (g j)
-    (λ p hp. ap (λ (x : ℕ). bitXor x (f j p)) (getD-zeros n (b * j + p)) ∙ xor-zero-l (f j p) ∙ h j p))
 
 -- the one column of a total
 sum-of : (b : ℕ) (f g : ℕ → ℕ) (old new : List ℕ) → length old ≡ b → Added b 1 (λ j p. f p) old new → ((p : ℕ) → f p ≡ g p) → new ≡ tabulate b (λ p. bitXor (getD old p 0) (g p))
@@ -59,10 +52,13 @@ module _ (s : Shape) (b : ℕ) (iv tree : List ℕ) where
         sum = sum-of b (λ p. xorBelow n (λ e. rowByte faest s iv tree i (0 + e) p)) (uByte faest s iv tree i) total total′ et t
             (λ p. xor-same n (λ e. rowByte faest s iv tree i (0 + e) p) (λ e. rowByte faest s iv tree i e p) (λ e k. ap (λ (x : ℕ). rowByte faest s iv tree i x p) (own e))
             ∙ ap (λ (x : ℕ). xorBelow x (λ e. rowByte faest s iv tree i e p)) en);
-        columns = columns-of b (s .k) m (λ j p. xorBelow n (λ e. bit j (bitXor (0 + e) 0) * rowByte faest s iv tree i (0 + e) p)) (columnByte faest s iv tree (λ e. e) i) cols em c
-            (λ j p. xor-same n (λ e. bit j (bitXor (0 + e) 0) * rowByte faest s iv tree i (0 + e) p) (λ e. bit j e * rowByte faest s iv tree i e p)
+        columns =
+            cleared-columns b (s .k) m (λ j p. xorBelow n (λ e. bit j (bitXor (0 + e) 0) * rowByte faest s iv tree i (0 + e) p)) (zeros m) cols (length-zeros m ∙ em) refl c
+            ∙ concat-same (λ j. tabulate b (λ p. xorBelow n (λ e. bit j (bitXor (0 + e) 0) * rowByte faest s iv tree i (0 + e) p))) (λ j. tabulate b (columnByte faest s iv tree (λ e. e) i j)) (s .k)
+            (λ j hj. tabulate-same b (λ p. xorBelow n (λ e. bit j (bitXor (0 + e) 0) * rowByte faest s iv tree i (0 + e) p)) (columnByte faest s iv tree (λ e. e) i j)
+            (λ p hp. xor-same n (λ e. bit j (bitXor (0 + e) 0) * rowByte faest s iv tree i (0 + e) p) (λ e. bit j e * rowByte faest s iv tree i e p)
             (λ e k. ap₂ (λ (x y : ℕ). bit j x * rowByte faest s iv tree i y p) (xor-zero-r (0 + e) ∙ own e) (own e))
-            ∙ ap (λ (x : ℕ). xorBelow x (λ e. bit j e * rowByte faest s iv tree i e p)) en);
+            ∙ ap (λ (x : ℕ). xorBelow x (λ e. bit j e * rowByte faest s iv tree i e p)) en));
         digest = h ∙ ap₂ (λ (x : List ℕ) (y : ℕ). hash1 168 x y) leaves eh;
       }
 
@@ -97,20 +93,13 @@ module _ (s : Shape) (b : ℕ) (iv tree : List ℕ) where
 
   -- ---- buffers
 
-  -- string i of w bytes behind the i before it
-  next : (f : ℕ → List ℕ) (w i : ℕ) (d y z : List ℕ) → w * i ≤ length d → length (f i) ≡ w → take (w * i) d ≡ concat i f → y ≡ f i
-      → take (w * (i + 1)) (take (w * i) d ++ (y ++ z)) ≡ concat (i + 1) f
-  next f w i d y z h l q e =
-      ap (λ (m : ℕ). take m (take (w * i) d ++ (y ++ z))) (mul-next w i)
-      ∙ put-next f [] w i (w * i) d (take (w * i) d ++ (y ++ z)) z h l q (ap (λ (x : List ℕ). take (w * i) d ++ (x ++ z)) e)
-
   -- string 0
-  start : (f : ℕ → List ℕ) (w : ℕ) (d y z : List ℕ) → length (f 0) ≡ w → y ≡ f 0 → take (w * (0 + 1)) (take 0 d ++ (y ++ z)) ≡ concat (0 + 1) f
+  start : (f : ℕ → List ℕ) (w : ℕ) (d y z : List ℕ) → w ≤ length d → length (f 0) ≡ w → y ≡ f 0 → take (w * (0 + 1)) (take 0 d ++ (y ++ z)) ≡ concat (0 + 1) f
   unfolding concat
-  start f w d y z l e =
+  start f w d y z h l e =
       let m = mul-zero w in
       let z0 : take (w * 0) d ≡ take 0 d = ap (λ (n : ℕ). take n d) m in
-      ap (λ (x : List ℕ). take (w * (0 + 1)) (x ++ (y ++ z))) (sym z0) ∙ next f w 0 d y z (omega arith) l z0 e
+      ap (λ (x : List ℕ). take (w * (0 + 1)) (x ++ (y ++ z))) (sym z0) ∙ put-block f w w 0 d y z refl (omega arith) (ap length e ∙ l) e z0
 
   abbrev Leaves : ℕ → List ℕ
   Leaves = vectorCommitments s (signerLeafCommitment faest s iv tree)
@@ -124,31 +113,29 @@ module _ (s : Shape) (b : ℕ) (iv tree : List ℕ) where
   abbrev Correction : ℕ → List ℕ
   Correction i = correction faest s b iv tree (i + 1)
 
-  pub up-start : (total sum lcs v hs ls cols hash zl zv zh cs : List ℕ) → Converted s b iv tree 0 total sum ls cols hash
-      → UpTo s b iv tree 0 (take 0 lcs ++ (ls ++ zl)) cs (take 0 v ++ (cols ++ zv)) (take 0 hs ++ (hash ++ zh))
+  pub up-start : (total sum lcs v hs ls cols hash zl zv zh cs : List ℕ) → 48 * 2 ^ s .k ≤ length lcs → b * s .k ≤ length v → 32 ≤ length hs
+      → Converted s b iv tree 0 total sum ls cols hash → UpTo s b iv tree 0 (take 0 lcs ++ (ls ++ zl)) cs (take 0 v ++ (cols ++ zv)) (take 0 hs ++ (hash ++ zh))
   unfolding concat
-  up-start total sum lcs v hs ls cols hash zl zv zh cs r =
+  up-start total sum lcs v hs ls cols hash zl zv zh cs hl hv hh r =
       record {
-        leaves = start Leaves (48 * 2 ^ s .k) lcs ls zl (leaves-length 0) (r .leaves);
+        leaves = start Leaves (48 * 2 ^ s .k) lcs ls zl hl (leaves-length 0) (r .leaves);
         sums = ap (λ (m : ℕ). take m cs) (mul-zero b);
-        columns = start Columns (b * s .k) v cols zv (columns-length 0) (r .columns);
-        digests = start Digest 32 hs hash zh (digest-length 0) (r .digest);
+        columns = start Columns (b * s .k) v cols zv hv (columns-length 0) (r .columns);
+        digests = start Digest 32 hs hash zh hh (digest-length 0) (r .digest);
       }
 
   pub up-more : (j n : ℕ) (u sum lcs cs v hs ls cols hash zl zc zv zh : List ℕ) → n ≡ 2 ^ s .k → u ≡ signerU faest s b iv tree
-      → 48 * n * (j + 1) ≤ length lcs → b * j ≤ length cs → b * s .k * (j + 1) ≤ length v → 32 * (j + 1) ≤ length hs
+      → 48 * 2 ^ s .k * (j + 1) + 48 * 2 ^ s .k ≤ length lcs → b * j + b ≤ length cs → b * s .k * (j + 1) + b * s .k ≤ length v → 32 * (j + 1) + 32 ≤ length hs
       → Converted s b iv tree (j + 1) u sum ls cols hash → UpTo s b iv tree j lcs cs v hs
       → UpTo s b iv tree (j + 1) (take (48 * n * (j + 1)) lcs ++ (ls ++ zl)) (take (b * j) cs ++ (sum ++ zc)) (take (b * s .k * (j + 1)) v ++ (cols ++ zv)) (take (32 * (j + 1)) hs ++ (hash ++ zh))
   up-more j n u sum lcs cs v hs ls cols hash zl zc zv zh en eu hl hc hv hh x r =
-      let w : 48 * n ≡ 48 * 2 ^ s .k = ap (λ (x : ℕ). 48 * x) en in
       let same = correction-of (j + 1) u sum eu (x .sum) in
-      let long = sym (ap length same) ∙ ap length (x .sum) ∙ length-tabulate b (λ p. bitXor (getD u p 0) (uByte faest s iv tree (j + 1) p)) in
+      let long = ap length (x .sum) ∙ length-tabulate b (λ p. bitXor (getD u p 0) (uByte faest s iv tree (j + 1) p)) in
       record {
-        leaves = subst (λ (m : ℕ). take (48 * 2 ^ s .k * (j + 1 + 1)) (take (m * (j + 1)) lcs ++ (ls ++ zl)) ≡ concat (j + 1 + 1) Leaves) (sym w)
-            (next Leaves (48 * 2 ^ s .k) (j + 1) lcs ls zl (subst (λ (m : ℕ). m * (j + 1) ≤ length lcs) w hl) (leaves-length (j + 1)) (r .leaves) (x .leaves));
-        sums = next Correction b j cs sum zc hc long (r .sums) same;
-        columns = next Columns (b * s .k) (j + 1) v cols zv hv (columns-length (j + 1)) (r .columns) (x .columns);
-        digests = next Digest 32 (j + 1) hs hash zh hh (digest-length (j + 1)) (r .digests) (x .digest);
+        leaves = put-block Leaves (48 * n) (48 * 2 ^ s .k) (j + 1) lcs ls zl (ap (λ (x : ℕ). 48 * x) en) hl (ap length (x .leaves) ∙ leaves-length (j + 1)) (x .leaves) (r .leaves);
+        sums = put-block Correction b b j cs sum zc refl hc long same (r .sums);
+        columns = put-block Columns (b * s .k) (b * s .k) (j + 1) v cols zv refl hv (ap length (x .columns) ∙ columns-length (j + 1)) (x .columns) (r .columns);
+        digests = put-block Digest 32 32 (j + 1) hs hash zh refl hh (ap length (x .digest) ∙ digest-length (j + 1)) (x .digest) (r .digests);
       }
 
 -- a buffer that was filled from another of its length
@@ -157,25 +144,22 @@ copied u d e = ap₂ (λ (x y : List ℕ). x ++ y) (take-length u) (drop-of-leng
 
 -- ---- whole buffers
 
-pub leaf-room : (s : Shape) → 48 * 2 ^ s .k * s .tau ≡ leafCommitmentsBytes s
-unfolding level nodeBytes leafCommitmentBytes leaves leafCommitmentsBytes
-leaf-room s = mul-assoc 48 (2 ^ s .k) (s .tau) ∙ ap (λ (n : ℕ). 48 * n) (mul-comm (2 ^ s .k) (s .tau))
+module _ (s : Shape) (ok : shapeOk s ≡ true) where
+  pub leaf-room : 48 * 2 ^ s .k * s .tau ≡ leafCommitmentsBytes s
+  unfolding level nodeBytes leafCommitmentBytes leaves leafCommitmentsBytes
+  leaf-room = all-commitments s ok
 
-pub column-room : (s : Shape) (b : ℕ) → s .tau * s .k + s .w ≡ 128 → b * s .k * s .tau + b * s .w ≡ matrixBytes s b
-unfolding level matrixBytes
-column-room s b e =
-    ap (λ (n : ℕ). n + b * s .w) (mul-assoc b (s .k) (s .tau) ∙ ap (λ (n : ℕ). b * n) (mul-comm (s .k) (s .tau)))
-    ∙ sym (mul-add b (s .tau * s .k) (s .w))
-    ∙ ap (λ (n : ℕ). b * n) e
+  pub column-room : (b : ℕ) → b * s .k * s .tau + b * s .w ≡ matrixBytes s b
+  unfolding level matrixBytes
+  column-room b = ap (λ (n : ℕ). n + b * s .w) (all-columns s ok b) ∙ rest-columns s ok b
 
--- the columns of the vectors are all but the last w
-pub columns-used : (s : Shape) (b : ℕ) → s .tau * s .k + s .w ≡ 128 → b * (128 - s .w) ≡ b * s .k * s .tau
-columns-used s b e =
-    ap (λ (n : ℕ). b * n) (let z : 128 - s .w ≡ s .tau * s .k = omega arith in z) ∙ ap (λ (n : ℕ). b * n) (mul-comm (s .tau) (s .k)) ∙ sym (mul-assoc b (s .k) (s .tau))
+  -- the columns of the vectors are all but the last w
+  pub columns-used : (b : ℕ) → b * (128 - s .w) ≡ b * s .k * s .tau
+  columns-used b = (let f = shape-facts s ok in ap (λ (n : ℕ). b * n) (let z : 128 - s .w ≡ s .tau * s .k = omega (arith, f .total) in z) ∙ sym (all-columns s ok b))
 
 -- n strings of w bytes, told by the number of the last
 pub told : (f : ℕ → List ℕ) (w n : ℕ) (l : List ℕ) → 1 ≤ n → take (w * (n - 1 + 1)) l ≡ concat (n - 1 + 1) f → take (w * n) l ≡ concat n f
 told f w n l h q = (let m : n - 1 + 1 ≡ n = omega arith in subst (λ (x : ℕ). take (w * x) l ≡ concat x f) m q)
 
 pub whole : (f : ℕ → List ℕ) (w n : ℕ) (l : List ℕ) → 1 ≤ n → length l ≡ w * n → take (w * (n - 1 + 1)) l ≡ concat (n - 1 + 1) f → l ≡ concat n f
-whole f w n l h e q = sym (take-all (w * n) l (omega arith)) ∙ told f w n l h q
+whole f w n l h e q = put-all f w n l e (told f w n l h q)

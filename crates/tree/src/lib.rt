@@ -1,15 +1,13 @@
-// The tree of document 000, figure 5.4: node 0 is the root, and a node is the generator's key of its two children.
+// One step of the tree of document 000, figure 5.4: a node is the generator's key of its two children. Both halves use it.
 ghost use mathlib.Core.Path.{_≡_};
 ghost use mathlib.Core.List.{_++_};
-ghost use Prim.Native.Nat.{ℕ, _+_, _*_, _^_, _≤_, _<_};
+ghost use Prim.Native.Nat.{_+_, _*_, _^_, _≤_, _<_};
 ghost use lib.ListN.{length, take, drop};
 ghost use Rattle.spec.specs.declared.Shape.{Shape};
 ghost use Rattle.spec.specs.Bytes.{part};
 ghost use Rattle.spec.specs.Gf256.{SboxTable};
-ghost use Rattle.spec.specs.Shapes.{leaves};
 ghost use Rattle.spec.specs.Primitives.{faest};
 ghost use Rattle.spec.specs.Leaves.{children};
-ghost use Rattle.spec.specs.Signer.{signerTree};
 
 // Writes the two children of node a, whose bytes stand in the tree.
 pub fn expand_node(t: &[u8; 256], iv: [u8; 16], a: usize, tree: &mut [u8])
@@ -19,16 +17,4 @@ pub fn expand_node(t: &[u8; 256], iv: [u8; 16], a: usize, tree: &mut [u8])
 {
     let key = generator::load_iv(&tree[16 * a..16 * a + 16]);
     generator::fill(t, &key, iv, a as u32, &mut tree[32 * a + 16..32 * a + 48]);
-}
-
-// Writes the tree of a root, for l leaves.
-pub fn grow(t: &[u8; 256], root: &[u8], iv: [u8; 16], l: usize, tree: &mut [u8])
-    requires { ⌜ SboxTable (now t) ⌝ }
-    requires { ⌜ (length (now root) ≡ 16) × (1 ≤ l) × (length (now tree) + 16 ≡ 32 * l) × (length (now tree) < 2 ^ 32) ⌝ }
-    ensures { λ _. ⌜ ((s : Shape) → leaves s ≡ l → now (tree .exit) ≡ signerTree faest s (now (root .entry)) iv) ⌝ }
-{
-    bytes::copy(root, tree);
-    for a in 0..l - 1 {
-        expand_node(t, iv, a, tree);
-    }
 }

@@ -13,10 +13,13 @@ use Rattle.spec.specs.Primitives.{faest}
 use Rattle.spec.specs.Leaves.{hashKey}
 use Rattle.laws.proofs.Lists.{length-tabulate}
 
+pub h0-length : (s : Shape) (iv : List ℕ) (n : ℕ) → length (faest .h0 s iv n) ≡ n
+unfolding faest hash0 shake sponge
+h0-length s iv n = length-tabulate n _
+
 module _ (s : Shape) (iv keys : List ℕ) (e : keys ≡ faest .h0 s iv (48 * s .tau)) where
   pub keys-length : length keys ≡ 48 * s .tau
-  unfolding faest hash0 shake sponge
-  keys-length = ap length e ∙ rw length-tabulate
+  keys-length = ap length e ∙ h0-length s iv (48 * s .tau)
 
   pub key-of : (i : ℕ) → part keys (48 * i) (48 * i + 48 - 48 * i) ≡ hashKey faest s iv i
   unfolding level nodeBytes leafCommitmentBytes hashKey

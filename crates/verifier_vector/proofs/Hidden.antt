@@ -115,7 +115,7 @@ module _ (s : Shape) (iv ch opening tree : List ℕ) (i d : ℕ) (hd : d ≡ hid
       (ap₂ (λ (x y : List ℕ). x ++ y) at-hidden
       (concat-same (λ e. given (d + 1 + e)) (λ e. own (d + 1 + e)) r (λ e l. elsewhere (d + 1 + e) (λ z. omega arith)))))
 
--- ---- the run of a vector's own leaf commitments, and its hash keys
+-- ---- the run of a vector's own leaf commitments
 
 pub own-run : (s : Shape) (iv tree : List ℕ) (i from n : ℕ) → length (concat n (λ e. leafCommitment faest s iv i (leafKey s tree i (from + e)))) ≡ 48 * n
 unfolding level nodeBytes leafCommitmentBytes leafCommitment
@@ -126,17 +126,6 @@ pub from-zero : (s : Shape) (iv tree : List ℕ) (i n : ℕ)
 from-zero s iv tree i n =
     concat-same (λ e. leafCommitment faest s iv i (leafKey s tree i (0 + e))) (λ e. leafCommitment faest s iv i (leafKey s tree i e)) n
     (λ e l. ap (λ (x : ℕ). leafCommitment faest s iv i (leafKey s tree i x)) (zero-add e))
-
-pub keys-length : (s : Shape) (iv : List ℕ) (n : ℕ) → length (faest .h0 s iv n) ≡ n
-unfolding faest hash0 shake sponge
-keys-length s iv n = length-tabulate n _
-
--- ---- columns that were cleared
-
-pub cleared-columns : (b k n : ℕ) (f : ℕ → ℕ → ℕ) (old new : List ℕ) → length old ≡ b * k → old ≡ zeros n → Added b k f old new → new ≡ concat k (λ j. tabulate b (f j))
-cleared-columns b k n f old new l z a =
-    is-concat b k f new (a .size ∙ l)
-    (λ j p hj hp. a .known j p hj hp ∙ ap (λ (x : ℕ). bitXor x (f j p)) (ap (λ (x : List ℕ). getD x (b * j + p) 0) z ∙ getD-zeros n (b * j + p)) ∙ xor-zero-l (f j p))
 
 -- what is hashed: the buffer itself, where the hidden commitment stands at its place
 pub hashed-whole : (a b : ℕ) (x y z : List ℕ) → length x ≡ a → length y ≡ b → take a (x ++ (y ++ z)) ++ (y ++ drop (a + b) (x ++ (y ++ z))) ≡ x ++ (y ++ z)

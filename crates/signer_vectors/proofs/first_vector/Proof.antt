@@ -36,7 +36,7 @@ returns c =
     let made = c .before .before .before .before .before .before .before .before .convert .ensures in
     let cleared = c .before .before .before .before .before .before .before .before .before .before .before .before .before .before .before .clear-from .ensures in (
       u-of (g .s) (g .b) (g .iv) (g .tree .now) (length (g .u .now) - 0) _ (rw cleared at (made .sum)),
-      λ cs. up-start (g .s) (g .b) (g .iv) (g .tree .now) _ _ (g .lcs .now) (g .v .now) (g .hashes .now) _ _ _ _ _ _ cs made,
+      λ cs. up-start (g .s) (g .b) (g .iv) (g .tree .now) _ _ (g .lcs .now) (g .v .now) (g .hashes .now) _ _ _ _ _ _ cs (start .pre .1 .1 .0) (start .pre .1 .1 .2) (start .pre .1 .1 .3) made,
     )
 
 pub first-vector-spec : {M : Type 1} → statement M

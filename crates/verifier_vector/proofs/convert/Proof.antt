@@ -14,7 +14,9 @@ use Rattle.spec.specs.Leaves.{hashKey, leafKey, leafCommitment, vectorHash}
 use Rattle.spec.specs.Rows.{columnByte}
 use Rattle.planning_laws.proofs.ShapeFacts.{shape-facts}
 use Rattle.field.specs.Field.{p384, Multiples}
-use Rattle.verifier_vector.proofs.Hidden.{given-commitments, hashed-whole, keys-length, own-run, from-zero, cleared-columns}
+use Rattle.vector.proofs.HashKeys.{h0-length}
+use Rattle.vector.proofs.Buffers.{cleared-columns}
+use Rattle.verifier_vector.proofs.Hidden.{given-commitments, hashed-whole, own-run, from-zero}
 use Rattle.verifier_vector.proofs.convert.Statement.{statement}
 use Rattle.verifier_vector.proofs.convert.Tie as tie
 
@@ -30,7 +32,7 @@ add-multiples c = (let f = shape-facts (c .before .before .before .before .befor
 part-multiples-end : tie.Need-part-multiples-end
 part-multiples-end c =
     let g = c .before .before .before .before .before .before .args in
-    let long : length (g .keys .now) ≡ 48 * g .s .tau = ap length (c .before .before .before .before .before .before .pre .1 .0 .4) ∙ keys-length (g .s) (g .iv) (48 * g .s .tau) in
+    let long : length (g .keys .now) ≡ 48 * g .s .tau = ap length (c .before .before .before .before .before .before .pre .1 .0 .4) ∙ h0-length (g .s) (g .iv) (48 * g .s .tau) in
     omega arith
 
 add-visible-requires : tie.Need-add-visible-requires

@@ -8,7 +8,8 @@ use Rattle.spec.specs.Bytes.{bit, part}
 use Rattle.laws.proofs.Concat.{mul-within}
 use Rattle.planning_laws.proofs.ShapeFacts.{shape-facts}
 use Rattle.columns.specs.Columns.{Added}
-use Rattle.verifier_vectors.proofs.Steps.{lent, corrected, corrected-none}
+use Rattle.vector.proofs.Buffers.{lent}
+use Rattle.verifier_vectors.proofs.Steps.{corrected, corrected-none}
 use Rattle.verifier_vectors.proofs.correct.Statement.{statement}
 use Rattle.verifier_vectors.proofs.correct.Tie as tie
 

@@ -7,7 +7,8 @@ use lib.ListN.{length-take, length-drop}
 use Rattle.spec.specs.Bytes.{part}
 use Rattle.spec.specs.Shapes.{level, nodeBytes, leafCommitmentBytes}
 use Rattle.spec.specs.Verifier.{hiddenLeafCommitment}
-use Rattle.verifier_vectors.proofs.Steps.{lent, columns-width, commitments-end, columns-end, before-more}
+use Rattle.vector.proofs.Buffers.{lent, columns-width, commitments-end, columns-end}
+use Rattle.verifier_vectors.proofs.Steps.{before-more}
 use Rattle.verifier_vectors.proofs.next_vector.Statement.{statement}
 use Rattle.verifier_vectors.proofs.next_vector.Tie as tie
 

@@ -12,7 +12,7 @@ use Rattle.spec.specs.Leaves.{vectorCommitments, leafCommitments, vectorHash}
 use Rattle.spec.specs.Rows.{matrixOf}
 use Rattle.spec.specs.Verifier.{verifierLeafCommitment}
 use Rattle.planning_laws.proofs.ShapeFacts.{shape-facts}
-use Rattle.verifier_vectors.proofs.Steps.{all-commitments, all-columns, rest-columns, put-all}
+use Rattle.vector.proofs.Buffers.{all-commitments, all-columns, rest-columns, put-all}
 use Rattle.verifier_vectors.proofs.write_vectors.Statement.{statement}
 use Rattle.verifier_vectors.proofs.write_vectors.Tie as tie
 

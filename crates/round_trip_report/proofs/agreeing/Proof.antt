@@ -4,8 +4,8 @@ use Prim.Native.Nat.{ℕ, _+_, _-_, _≤_}
 use mathlib.Core.Path.{_≡_}
 use native.Mathlib.Omega.{arith}
 use lib.ListN.{length}
-use Rattle.run_round_trip.proofs.agreeing.Statement.{statement}
-use Rattle.run_round_trip.proofs.agreeing.Tie as tie
+use Rattle.round_trip_report.proofs.agreeing.Statement.{statement}
+use Rattle.round_trip_report.proofs.agreeing.Tie as tie
 
 abbrev Inv-loop : tie.InvT-loop
 Inv-loop challenge u v q n₀ at₀ c₀ n at c = (at ≤ length v) × (n ≤ c) × (c ≤ 128)

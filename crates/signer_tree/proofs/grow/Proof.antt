@@ -13,9 +13,9 @@ use Rattle.spec.specs.Shapes.{level, nodeBytes, leaves}
 use Rattle.spec.specs.Primitives.{faest}
 use Rattle.spec.specs.Leaves.{children}
 use Rattle.spec.specs.Signer.{signerTree}
 use Rattle.tree.proofs.Growing.{length-children, grown-more}
-use Rattle.tree.proofs.grow.Statement.{statement}
-use Rattle.tree.proofs.grow.Tie as tie
+use Rattle.signer_tree.proofs.grow.Statement.{statement}
+use Rattle.signer_tree.proofs.grow.Tie as tie
 
 abbrev Inv-loop : tie.InvT-loop
 Inv-loop t root iv l tree₀ a₀ a-end tree a =

@@ -4,27 +4,30 @@ use Prim.Native.Nat.{ℕ, _+_, _-_, _≤_}
 use mathlib.Core.Path.{_≡_}
 use native.Mathlib.Omega.{arith}
 use lib.ListN.{length}
-use Rattle.run_round_trip.proofs.say_hex.Statement.{statement}
-use Rattle.run_round_trip.proofs.say_hex.Tie as tie
+use Rattle.round_trip_report.proofs.agrees.Statement.{statement}
+use Rattle.round_trip_report.proofs.agrees.Tie as tie
 
 abbrev Inv-loop : tie.InvT-loop
-Inv-loop bytes i₀ t i = i ≤ length bytes
+Inv-loop bit u v q p₀ p = p ≤ length u
 
 abbrev μ-loop : tie.MeasureT-loop
-μ-loop bytes i₀ t i = length bytes - i
+μ-loop bit u v q p₀ p = length u - p
 
-pub say-hex-spec : {M : Type 1} → statement M
-say-hex-spec =
+pub agrees-spec : {M : Type 1} → statement M
+agrees-spec =
     tie.close
     (tie.spec
     Inv-loop
     μ-loop
     (λ c. search needs)
     (λ c. search needs)
-    (λ c κs. search needs)
     (λ c. search needs)
     (λ c. search needs)
     (λ c. search needs)
     (λ c. search needs)
-    (λ c κs. search needs)
+    (λ c. search needs)
+    (λ c. search needs)
+    (λ c. search needs)
+    (λ c. search needs)
+    (λ c. search needs)
     (λ c. search needs))

@@ -4,17 +4,17 @@ use Prim.Native.Nat.{ℕ, _+_, _-_, _≤_}
 use mathlib.Core.Path.{_≡_}
 use native.Mathlib.Omega.{arith}
 use lib.ListN.{length}
-use Rattle.run_round_trip.proofs.agrees.Statement.{statement}
-use Rattle.run_round_trip.proofs.agrees.Tie as tie
+use Rattle.round_trip_report.proofs.say_list.Statement.{statement}
+use Rattle.round_trip_report.proofs.say_list.Tie as tie
 
 abbrev Inv-loop : tie.InvT-loop
-Inv-loop bit u v q p₀ p = p ≤ length u
+Inv-loop numbers i₀ t i = i ≤ length numbers
 
 abbrev μ-loop : tie.MeasureT-loop
-μ-loop bit u v q p₀ p = length u - p
+μ-loop numbers i₀ t i = length numbers - i
 
-pub agrees-spec : {M : Type 1} → statement M
-agrees-spec =
+pub say-list-spec : {M : Type 1} → statement M
+say-list-spec =
     tie.close
     (tie.spec
     Inv-loop
@@ -22,12 +22,10 @@ agrees-spec =
     (λ c. search needs)
     (λ c. search needs)
     (λ c. search needs)
+    (λ c κs. search needs)
     (λ c. search needs)
     (λ c. search needs)
     (λ c. search needs)
     (λ c. search needs)
-    (λ c. search needs)
-    (λ c. search needs)
-    (λ c. search needs)
-    (λ c. search needs)
+    (λ c κs. search needs)
     (λ c. search needs))

@@ -1,0 +1,216 @@
+/* commit, open and reconstruct in portable C, by the methods of the proved crates. The shape is good, and every buffer has its length. */
+#include "portable.h"
+#include <string.h>
+
+static unsigned bit(const uint8_t *ch, size_t b)
+{
+    return ch[b / 8] >> (b % 8) & 1;
+}
+
+static size_t hidden_index(const size_t shape[4], const uint8_t *ch, size_t i)
+{
+    size_t j = 0;
+    for (size_t b = 0; b < shape[1]; b++)
+        j |= (size_t)bit(ch, i * shape[1] + b) << b;
+    return j;
+}
+
+/* ---- the leaf hash: six limbs of 64 bits, windows of 4 bits */
+
+static uint64_t load(const uint8_t *p)
+{
+    uint64_t x = 0;
+    for (int i = 0; i < 8; i++)
+        x |= (uint64_t)p[i] << (8 * i);
+    return x;
+}
+
+static void store(uint8_t *p, uint64_t x)
+{
+    for (int i = 0; i < 8; i++)
+        p[i] = (uint8_t)(x >> (8 * i));
+}
+
+/* alpha^n times r, plus x */
+static void shift_and_add(uint64_t r[6], int n, const uint64_t x[6])
+{
+    uint64_t c = r[5] >> (64 - n);
+    for (int i = 5; i > 0; i--)
+        r[i] = (r[i] << n | r[i - 1] >> (64 - n)) ^ x[i];
+    r[0] = r[0] << n ^ x[0] ^ c ^ c << 2 ^ c << 3 ^ c << 12;
+}
+
+void c_multiples(const uint8_t key[48], uint64_t m[16][6])
+{
+    for (int i = 0; i < 6; i++) {
+        m[0][i] = 0;
+        m[1][i] = load(key + 8 * i);
+    }
+    for (int d = 2; d < 16; d++) {
+        memcpy(m[d], m[d / 2], sizeof m[d]);
+        shift_and_add(m[d], 1, m[d % 2]);
+    }
+}
+
+void c_leaf_hash(const uint64_t m[16][6], const uint8_t stretched[64], uint8_t out[48])
+{
+    uint64_t r[6] = {0};
+    for (int j = 15; j >= 0; j--) {
+        shift_and_add(r, 4, m[stretched[j] >> 4]);
+        shift_and_add(r, 4, m[stretched[j] & 15]);
+    }
+    for (int i = 0; i < 6; i++)
+        store(out + 8 * i, r[i] ^ load(stretched + 16 + 8 * i));
+}
+
+/* ---- one vector */
+
+static void xor_bytes(uint8_t *restrict d, const uint8_t *restrict s, size_t n)
+{
+    for (size_t i = 0; i < n; i++)
+        d[i] ^= s[i];
+}
+
+/* a whole block, in two words */
+static void xor_block(uint8_t *d, const uint8_t s[16])
+{
+    uint64_t x[2], y[2];
+    memcpy(x, d, 16);
+    memcpy(y, s, 16);
+    x[0] ^= y[0];
+    x[1] ^= y[1];
+    memcpy(d, x, 16);
+}
+
+/* adds the row of a seed to `total`, if there is one, and to the columns whose bit the number has set; no other column is touched */
+void c_add_row(const uint8_t seed[16], const uint8_t iv[16], uint32_t tweak, size_t b, size_t k, size_t number, uint8_t *total, uint8_t *cols)
+{
+    uint8_t w[176], block[16], *touched[13];
+    size_t count = 0, at = 0;
+    if (total)
+        touched[count++] = total;
+    for (size_t j = 0; j < k; j++)
+        if (number >> j & 1)
+            touched[count++] = cols + b * j;
+    c_key_schedule(seed, w);
+    for (; at + 16 <= b; at += 16) {
+        c_block(w, iv, tweak, (uint32_t)(at / 16), block);
+        for (size_t j = 0; j < count; j++)
+            xor_block(touched[j] + at, block);
+    }
+    if (at < b) {
+        c_block(w, iv, tweak, (uint32_t)(at / 16), block);
+        for (size_t j = 0; j < count; j++)
+            xor_bytes(touched[j] + at, block, b - at);
+    }
+}
+
+/* the entries of vector i but the hidden one, if there is one: leaf commitments, total and columns, each entry under its number xored with the mask */
+static void add_entries(const size_t shape[4], size_t i, size_t hidden, size_t mask, size_t b, const uint8_t iv[16], const uint8_t key[48],
+                        const uint8_t *tree, uint8_t *lcs, uint8_t *total, uint8_t *cols)
+{
+    const size_t tau = shape[0], entries = (size_t)1 << shape[1], leaves = tau * entries;
+    uint64_t m[16][6];
+    c_multiples(key, m);
+    for (size_t e = 0; e < entries; e++) {
+        uint8_t stretched[64];
+        if (e == hidden)
+            continue;
+        c_fill(tree + 16 * (leaves - 1 + tau * e + i), iv, (uint32_t)(i + leaves - 1), stretched, 64);
+        c_leaf_hash(m, stretched, lcs + 48 * e);
+        c_add_row(stretched, iv, (uint32_t)i + 0x80000000u, b, shape[1], e ^ mask, total, cols);
+    }
+}
+
+/* ---- the calls */
+
+void c_grow(const size_t shape[4], const uint8_t root[16], const uint8_t iv[16], uint8_t *tree)
+{
+    const size_t leaves = shape[0] << shape[1];
+    memcpy(tree, root, 16);
+    for (size_t a = 0; a < leaves - 1; a++)
+        c_fill(tree + 16 * a, iv, (uint32_t)a, tree + 32 * a + 16, 32);
+}
+
+void c_commit(const size_t shape[4], size_t b, const uint8_t root[16], const uint8_t iv[16], uint8_t commitment[32], uint8_t *tree, uint8_t *lcs,
+              uint8_t *u, uint8_t *v, uint8_t *corrections)
+{
+    const size_t tau = shape[0], k = shape[1], entries = (size_t)1 << k;
+    uint8_t keys[32 * 48], hashes[32 * 32];
+    c_shake(iv, 16, 0, keys, 48 * tau);
+    c_grow(shape, root, iv, tree);
+    memset(u, 0, b);
+    memset(v, 0, 128 * b);
+    for (size_t i = 0; i < tau; i++) {
+        uint8_t *total = i == 0 ? u : corrections + b * (i - 1);
+        if (i > 0)
+            memcpy(total, u, b);
+        add_entries(shape, i, entries, 0, b, iv, keys + 48 * i, tree, lcs + 48 * entries * i, total, v + b * k * i);
+        c_shake(lcs + 48 * entries * i, 48 * entries, 1, hashes + 32 * i, 32);
+    }
+    c_shake(hashes, 32 * tau, 1, commitment, 32);
+}
+
+/* the node count, or 0 where a grinding bit is set; with 0, or more than the shape allows, nothing is written */
+size_t c_open(const size_t shape[4], const uint8_t ch[16], const uint8_t *tree, const uint8_t *lcs, uint8_t *opening)
+{
+    const size_t tau = shape[0], entries = (size_t)1 << shape[1];
+    uint32_t nodes[512];
+    size_t n = c_plan(shape, ch, nodes);
+    if (n == 0 || n > shape[3])
+        return n;
+    for (size_t i = 0; i < tau; i++)
+        memcpy(opening + 48 * i, lcs + 48 * (entries * i + hidden_index(shape, ch, i)), 48);
+    opening += 48 * tau;
+    for (size_t m = 0; m < n; m++)
+        memcpy(opening + 16 * m, tree + 16 * nodes[m], 16);
+    memset(opening + 16 * n, 0, 16 * (shape[3] - n));
+    return n;
+}
+
+/* the same count; 0 also where an unused slot holds a byte other than 0 */
+size_t c_reconstruct(const size_t shape[4], size_t b, const uint8_t iv[16], const uint8_t ch[16], const uint8_t *corrections, const uint8_t *opening,
+                     uint8_t commitment[32], uint8_t *tree, uint8_t *lcs, uint8_t *q)
+{
+    const size_t tau = shape[0], k = shape[1], entries = (size_t)1 << k, leaves = tau << k;
+    const uint8_t *slots = opening + 48 * tau;
+    uint8_t keys[32 * 48], hashes[32 * 32], covered[2 * 10 * 4096] = {0};
+    uint32_t nodes[512];
+    const size_t n = c_plan(shape, ch, nodes);
+    if (n == 0 || n > shape[3])
+        return n;
+    for (size_t p = 16 * n; p < 16 * shape[3]; p++)
+        if (slots[p])
+            return 0;
+    c_shake(iv, 16, 0, keys, 48 * tau);
+    for (size_t i = 0; i < tau; i++)
+        covered[leaves - 1 + tau * hidden_index(shape, ch, i) + i] = 1;
+    for (size_t a = leaves - 1; a-- > 0;)
+        covered[a] = covered[2 * a + 1] | covered[2 * a + 2];
+    memset(tree, 0, 16);
+    for (size_t a = 0, m = n; a < leaves - 1; a++) {
+        uint8_t *children = tree + 32 * a + 16;
+        if (!covered[a]) {
+            c_fill(tree + 16 * a, iv, (uint32_t)a, children, 32);
+            continue;
+        }
+        memset(children, 0, 32);
+        if (!covered[2 * a + 1])
+            memcpy(children, slots + 16 * --m, 16);
+        if (!covered[2 * a + 2])
+            memcpy(children + 16, slots + 16 * --m, 16);
+    }
+    memset(q, 0, 128 * b);
+    for (size_t i = 0; i < tau; i++) {
+        const size_t hidden = hidden_index(shape, ch, i);
+        uint8_t *own = lcs + 48 * entries * i, *cols = q + b * k * i;
+        memcpy(own + 48 * hidden, opening + 48 * i, 48);
+        add_entries(shape, i, hidden, hidden, b, iv, keys + 48 * i, tree, own, NULL, cols);
+        for (size_t j = 0; i > 0 && j < k; j++)
+            if (bit(ch, i * k + j))
+                xor_bytes(cols + b * j, corrections + b * (i - 1), b);
+        c_shake(own, 48 * entries, 1, hashes + 32 * i, 32);
+    }
+    c_shake(hashes, 32 * tau, 1, commitment, 32);
+    return n;
+}
