@@ -13,8 +13,11 @@ usage: reference decode      TAU K W T CHALLENGE
        reference plan        TAU K W T CHALLENGE
        reference commit      TAU K W T ROWBITS ROOT IV
        reference open        TAU K W T ROWBITS ROOT IV CHALLENGE
-       reference reconstruct TAU K W T ROWBITS ROOT IV CHALLENGE
+       reference reconstruct TAU K W T ROWBITS ROOT IV CHALLENGE [FLIP]
        reference roundtrip   TAU K W T ROWBITS ROOT IV CHALLENGE
+       reference probe_commit      TAU K W T ROWBITS WHICH MORE
+       reference probe_open        TAU K W T BYTE WHICH MORE
+       reference probe_reconstruct TAU K W T ROWBITS BYTE WHICH MORE SET
        reference list        (its line on standard input)
 Numbers are decimal; ROOT, IV and CHALLENGE are hexadecimal, byte 0 first.
 ";
@@ -157,6 +160,14 @@ impl Arguments<'_> {
         self.0.next()?.parse().ok()
     }
 
+    /// The number that may stand at the end: nothing where it cannot be read.
+    fn optional_number(&mut self) -> Option<Option<usize>> {
+        match self.0.as_slice() {
+            [] => Some(None),
+            _ => Some(Some(self.number()?)),
+        }
+    }
+
     fn bytes(&mut self) -> Option<Vec<u8>> {
         from_hex(self.0.next()?)
     }
@@ -217,12 +228,19 @@ fn bytes_command(command: &str, mut rest: Arguments) -> Option<Outcome> {
         "commit" => Vec::new(),
         _ => rest.bytes()?,
     };
+    let flip = match command {
+        "reconstruct" => rest.optional_number()?,
+        _ => None,
+    };
     rest.end()?;
 
     let mut run = Run::new(shape, row_bits);
     run.commit(shape, row_bits, &root, &iv);
     if command != "commit" {
         run.open(shape, &challenge);
+    }
+    if let Some(byte) = flip.and_then(|at| run.opening.get_mut(at)) {
+        *byte ^= 1;
     }
     if command == "reconstruct" || command == "roundtrip" {
         run.reconstruct(shape, row_bits, &iv, &challenge);
@@ -263,6 +281,119 @@ fn bytes_command(command: &str, mut rest: Arguments) -> Option<Outcome> {
     ))
 }
 
+/// The byte that a probe fills the outputs with.
+const PATTERN: u8 = 0xa5;
+
+/// `probe_commit`, `probe_open` and `probe_reconstruct`: one call, on buffers of
+/// which the one numbered WHICH, in the order of the call, is a byte shorter than
+/// the exact length, or longer where MORE is not 0.
+fn probe_command(command: &str, mut rest: Arguments) -> Option<Outcome> {
+    let shape = rest.shape()?;
+    let row_bits = match command {
+        "probe_open" => 8,
+        _ => rest.number()?,
+    };
+    let first_byte = match command {
+        "probe_commit" => 0,
+        _ => u8::try_from(rest.number()?).ok()?,
+    };
+    let (which, more) = (rest.number()?, rest.number()?);
+    let set = match command {
+        "probe_reconstruct" => rest.optional_number()??,
+        _ => usize::MAX,
+    };
+    rest.end()?;
+
+    let exact = Run::new(shape, row_bits);
+    let buffer = |place: usize, exact: usize, content: u8| {
+        let length = match (place == which, more) {
+            (false, _) => exact,
+            (true, 0) => exact.saturating_sub(1),
+            (true, _) => exact + 1,
+        };
+        vec![content; length]
+    };
+    let challenge = |place: usize| {
+        let mut challenge = buffer(place, 16, 0);
+        challenge[0] = first_byte;
+        challenge
+    };
+    let mut outputs;
+    let answer = match command {
+        "probe_commit" => {
+            let (root, iv) = (buffer(0, 16, 0), buffer(1, 16, 0));
+            outputs = vec![
+                buffer(2, 32, PATTERN),
+                buffer(3, exact.tree.len(), PATTERN),
+                buffer(4, exact.leaf_commitments.len(), PATTERN),
+                buffer(5, exact.u.len(), PATTERN),
+                buffer(6, exact.v.len(), PATTERN),
+                buffer(7, exact.corrections.len(), PATTERN),
+            ];
+            let [commitment, tree, leaf_commitments, u, v, corrections] = &mut outputs[..] else {
+                return None;
+            };
+            commit(
+                shape,
+                row_bits,
+                &root,
+                &iv,
+                commitment,
+                tree,
+                leaf_commitments,
+                u,
+                v,
+                corrections,
+            )
+        }
+        "probe_open" => {
+            let tree = buffer(1, exact.tree.len(), 0);
+            let leaf_commitments = buffer(2, exact.leaf_commitments.len(), 0);
+            outputs = vec![buffer(3, exact.opening.len(), PATTERN)];
+            open(
+                shape,
+                &challenge(0),
+                &tree,
+                &leaf_commitments,
+                &mut outputs[0],
+            )
+        }
+        _ => {
+            let iv = buffer(0, 16, 0);
+            let corrections = buffer(2, exact.corrections.len(), 0);
+            let mut opening = buffer(3, exact.opening.len(), 0);
+            if let Some(byte) = opening.get_mut(set) {
+                *byte = 1;
+            }
+            outputs = vec![
+                buffer(4, 32, PATTERN),
+                buffer(5, exact.tree.len(), PATTERN),
+                buffer(6, exact.leaf_commitments.len(), PATTERN),
+                buffer(7, exact.q.len(), PATTERN),
+            ];
+            let [commitment, tree, leaf_commitments, q] = &mut outputs[..] else {
+                return None;
+            };
+            reconstruct(
+                shape,
+                row_bits,
+                &iv,
+                &challenge(1),
+                &corrections,
+                &opening,
+                commitment,
+                tree,
+                leaf_commitments,
+                q,
+            )
+        }
+    };
+    let kept = outputs.concat().iter().all(|byte| *byte == PATTERN);
+    let word = if kept { "kept" } else { "written" };
+    let text = format!("{}outputs {word}\n", answer_lines(answer));
+    Some((text.into_bytes(), true))
+}
+
 /// Carries out a command; nothing where the arguments cannot be read.
 pub fn run(args: &[String], input: &mut impl Read) -> Option<Outcome> {
     let (command, rest) = args.split_first()?;
@@ -271,6 +402,7 @@ pub fn run(args: &[String], input: &mut impl Read) -> Option<Outcome> {
         "list" => list_command(rest, input),
         "decode" | "plan" => numbers_command(command, rest),
         "commit" | "open" | "reconstruct" | "roundtrip" => bytes_command(command, rest),
+        "probe_commit" | "probe_open" | "probe_reconstruct" => probe_command(command, rest),
         _ => None,
     }
 }

@@ -20,6 +20,7 @@ fn program(args: &str, input: &str) -> (i32, String) {
 }
 
 const ROOT: &str = "000102030405060708090a0b0c0d0e0f";
+const CHALLENGE_ZERO: &str = "00000000000000000000000000000000";
 const CHALLENGE_0C: &str = "0c000000000000000000000000000000";
 const CHALLENGE_10: &str = "10000000000000000000000000000000";
 
@@ -91,6 +92,46 @@ fn refusals() {
 }
 
 #[test]
+fn a_flipped_byte_of_the_opening() {
+    let args = format!("reconstruct 2 2 124 4 200 {ROOT} {ROOT} {CHALLENGE_ZERO}");
+    let (_, straight) = program(&args, "");
+    // Two nodes are revealed: bytes 96 to 127 are used, the slots behind them are not.
+    for at in [0, 95, 96, 127] {
+        let (status, flipped) = program(&format!("{args} {at}"), "");
+        assert_eq!((status, &flipped[..17]), (0, "number 0\ncount 2\n"));
+        assert_ne!(flipped.lines().nth(2), straight.lines().nth(2), "{at}");
+    }
+    for at in [128, 159] {
+        let refused = (0, "number 6\ncount 2\n".into());
+        assert_eq!(program(&format!("{args} {at}"), ""), refused, "{at}");
+    }
+    assert_eq!(program(&format!("{args} 160"), ""), (0, straight));
+}
+
+#[test]
+fn probes() {
+    for (args, number, count, outputs) in [
+        ("commit 2 2 124 4 16 8 0", 0, 0, "written"),
+        ("commit 2 2 124 4 16 7 1", 3, 0, "kept"),
+        ("commit 2 2 123 4 12 7 1", 1, 0, "kept"),
+        ("open 2 2 124 4 12 4 0", 0, 4, "written"),
+        ("open 2 2 124 4 12 3 0", 3, 0, "kept"),
+        ("open 2 2 124 3 12 4 0", 5, 4, "kept"),
+        ("reconstruct 2 2 124 4 16 0 8 0 160", 0, 2, "written"),
+        ("reconstruct 2 2 124 4 16 0 8 0 128", 6, 2, "kept"),
+        ("reconstruct 2 2 124 4 16 16 8 0 128", 4, 0, "kept"),
+        ("reconstruct 2 2 124 4 16 16 7 0 128", 3, 0, "kept"),
+    ] {
+        let expected = format!("number {number}\ncount {count}\noutputs {outputs}\n");
+        assert_eq!(
+            program(&format!("probe_{args}"), ""),
+            (0, expected),
+            "{args}"
+        );
+    }
+}
+
+#[test]
 fn arguments_that_cannot_be_read() {
     for args in [
         String::new(),
@@ -103,6 +144,12 @@ fn arguments_that_cannot_be_read() {
         "plan 1 1 127 1 zz".into(),
         format!("commit 1 1 127 1 8 {ROOT}"),
         format!("open 1 1 127 1 8 {ROOT} {ROOT}"),
+        format!("open 1 1 127 1 8 {ROOT} {ROOT} {ROOT} 0"),
+        format!("reconstruct 1 1 127 1 8 {ROOT} {ROOT} {ROOT} x"),
+        format!("reconstruct 1 1 127 1 8 {ROOT} {ROOT} {ROOT} 0 0"),
+        "probe_commit 1 1 127 1 8 0".into(),
+        "probe_open 1 1 127 1 256 0 0".into(),
+        "probe_reconstruct 1 1 127 1 8 0 0 0".into(),
     ] {
         assert_eq!(program(&args, ""), (2, String::new()), "{args}");
     }
