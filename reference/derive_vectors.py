@@ -4,12 +4,14 @@
     derive_vectors.py            compares it with crates/vectors/stdout; exit status 1 at the first line that differs
     derive_vectors.py --write    writes that file
 
-The cases are the calls of these forms in crates/vectors/src/main.rt, which is read for them and for its constants:
+The cases are the calls of these forms in crates/vectors/src/main.rt, whose first lines say what they mean:
 
-    case(TAU, K, W, T, ROWBITS, ROOT, ROOT, IV, IV, CHALLENGE, CHALLENGE)      commit, open, reconstruct; two 64-bit words each, the least byte first
-    flipped(TAU, K, W, T, ROWBITS, CHALLENGE, CHALLENGE, FLIP)                 the same with R0, R1 and V0, V1, and a byte of the opening flipped
-    probe_commit(..), probe_open(..), probe_reconstruct(..)                    the command of this name
+    case(TAU, K, T, ROWBITS, ROOTIV, CHALLENGE, CHALLENGE)     commit, open, reconstruct
+    refused_shape(TAU, K, W, T, ROWBITS)                       the same
+    flipped(TAU, K, T, ROWBITS, FLIP)                          the same
+    probe_commit(..), probe_open(..), probe_reconstruct(..)    the command of this name
 
+The roots and IVs are the lines `DIGIT => words(WORD, WORD)` of crates/vectors_calls/src/inputs.rt.
 For each the release build of this folder is run with these commands.
 """
 import re
@@ -19,37 +21,44 @@ from pathlib import Path
 
 HERE = Path(__file__).resolve().parent
 PROGRAM = HERE / 'target' / 'release' / 'reference'
-CRATE = HERE.parent / 'crates' / 'vectors'
-STORED = CRATE / 'stdout'
-
-
-SOURCE = re.sub(r'//[^\n]*', '', (CRATE / 'src' / 'main.rt').read_text())
-CONSTANTS = {name: int(value, 0) for name, value in re.findall(r'const (\w+): u64 = (\w+);', SOURCE)}
-LENGTHS = {'case': 11, 'flipped': 8, 'probe_commit': 7, 'probe_open': 7, 'probe_reconstruct': 9}
+CRATES = HERE.parent / 'crates'
+STORED = CRATES / 'vectors' / 'stdout'
+SOURCE = re.sub(r'//[^\n]*', '', (CRATES / 'vectors' / 'src' / 'main.rt').read_text())
+INPUTS = (CRATES / 'vectors_calls' / 'src' / 'inputs.rt').read_text()
+LENGTHS = {'case': 7, 'refused_shape': 5, 'flipped': 5, 'probe_commit': 7, 'probe_open': 7, 'probe_reconstruct': 9}
 
 
 def cases():
     """The form and the numbers of each case, in the order of the program."""
-    for form, text in re.findall(r'(?<!fn )\b(%s)\(([^)]*)\)' % '|'.join(LENGTHS), SOURCE):
-        found = [word.strip() for word in text.split(',') if word.strip()]
+    for form, text in re.findall(r'\b(%s)\(([^)]*)\)' % '|'.join(LENGTHS), SOURCE):
+        found = [int(word, 0) for word in text.split(',')]
         if len(found) != LENGTHS[form]:
             sys.exit(f'derive_vectors: {form}({text}) has another form')
-        yield form, [CONSTANTS[word] if word in CONSTANTS else int(word, 0) for word in found]
+        yield form, found
 
 
 def words(x, y):
     return (x.to_bytes(8, 'little') + y.to_bytes(8, 'little')).hex()
 
 
+NUMBERED = {int(digit): words(int(x, 0), int(y, 0)) for digit, x, y in re.findall(r'(\d) => words\((\w+), (\w+)\)', INPUTS)}
+NUMBERED[0] = words(0, 0)
+
+
 def commands(form, case):
     if form.startswith('probe'):
         return [[form, *map(str, case)]]
-    shape_and_rows = [str(number) for number in case[:5]]
-    if form == 'flipped':
-        known, challenge, flip = [CONSTANTS[name] for name in ('R0', 'R1', 'V0', 'V1')], case[5:7], [str(case[7])]
+    known, challenge, flip = 13, (0, 0), []
+    if form == 'refused_shape':
+        tau, k, w, t, row_bits = case
     else:
-        known, challenge, flip = case[5:9], case[9:11], []
-    signer = [*shape_and_rows, words(*known[:2]), words(*known[2:])]
+        tau, k, t, row_bits = case[:4]
+        w = 128 - tau * k if tau else 0
+    if form == 'case':
+        known, challenge = case[4], case[5:]
+    if form == 'flipped':
+        flip = [str(case[4])]
+    signer = [*map(str, (tau, k, w, t, row_bits)), NUMBERED[known // 10], NUMBERED[known % 10]]
     both = [*signer, words(*challenge)]
     return [['commit', *signer], ['open', *both], ['reconstruct', *both, *flip]]
 

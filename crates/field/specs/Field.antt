@@ -10,6 +10,7 @@ use Rattle.spec.specs.Polynomials.{fieldProduct}
 abbrev pub low384 : ℕ
 low384 = 2 ^ 12 + 2 ^ 3 + 2 ^ 2 + 1
 
+-- P384, `fieldPolynomial` of spec
 abbrev pub p384 : ℕ
 p384 = 2 ^ 384 + 2 ^ 12 + 2 ^ 3 + 2 ^ 2 + 1
 

@@ -1,17 +1,13 @@
 -- The bytes of a block, as bytes of the output. Assumes nothing.
-use mathlib.Core.Path.{_≡_, refl, ap, ap₂, _∙_}
+use mathlib.Core.Path.{_≡_, ap, ap₂, _∙_}
 use mathlib.Core.List.{List, [], _∷_}
 use Prim.Native.Nat.{ℕ, zero, suc, _+_, _*_, _<_}
 use native.Mathlib.Omega.{arith}
-use lib.ListN.{length, getD}
+use lib.ListN.{getD}
 use Rattle.spec.specs.Aes.{stateOf, bytesOf, cipher, keyExpansion}
 use Rattle.spec.specs.Generator.{addToUpperWord, addToLowerWord, generatorBlock, generatorByte}
 
 module _ (nk : ℕ) (key iv : List ℕ) (tweak : ℕ) where
-  pub block-length : (n : ℕ) → length (generatorBlock nk key iv tweak n) ≡ 16
-  unfolding generatorBlock
-  block-length n = refl
-
   -- a block, from the state that is encrypted
   pub block-is : (n : ℕ) (first s x : List (List ℕ)) (r : List ℕ) → first ≡ stateOf iv → s ≡ addToLowerWord (addToUpperWord first tweak) n
       → x ≡ cipher (nk + 6) (keyExpansion nk key) s → r ≡ bytesOf x → r ≡ generatorBlock nk key iv tweak n

@@ -43,7 +43,7 @@ pub fn block(t: &[u8; 256], keys: &[[[u8; 4]; 4]; 11], iv: [u8; 16], tweak: u32,
     aes::bytes_of(aes::encrypt(t, keys, counter(aes::load_state(&iv), tweak, n)))
 }
 
-// Blocks n and n + 1: quicker than one after the other.
+// Blocks n and n + 1, encrypted together.
 pub fn block_pair(
     t: &[u8; 256],
     keys: &[[[u8; 4]; 4]; 11],

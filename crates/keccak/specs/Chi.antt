@@ -4,7 +4,7 @@ use mathlib.Core.List.{List, [], _∷_}
 use lib.Bits.{bitAnd, bitXor}
 use Rattle.spec.specs.Keccak.{complement}
 
--- a lane with the two beside it
+-- a lane with the two after it in its row
 abbrev pub chiLane : ℕ → ℕ → ℕ → ℕ
 chiLane a b c = bitXor a (bitAnd (complement b) c)
 

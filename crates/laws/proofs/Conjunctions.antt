@@ -1,5 +1,5 @@
--- Tests joined by `&&`, and a test that cannot succeed. By the cases of the tests. Assumes nothing.
-use mathlib.Core.Path.{_≡_, refl, sym}
+-- Tests joined by `&&`, a test that cannot succeed, and one that both succeeds and fails. By the cases of the tests. Assumes nothing.
+use mathlib.Core.Path.{_≡_, refl, sym, _∙_}
 use mathlib.Core.Bool.{Bool, true, false, _&&_, true≢false}
 
 pub both-true : (a b : Bool) → (a && b) ≡ true → (a ≡ true) × (b ≡ true)
@@ -14,3 +14,6 @@ and-true false = refl
 pub refuted : (b : Bool) → (b ≡ true → ⊥) → false ≡ b
 refuted false h = refl
 refuted true h = absurd (h refl)
+
+pub contrary : {A : Type 0} {b : Bool} → b ≡ true → b ≡ false → A
+contrary p q = absurd (true≢false (sym p ∙ q))

@@ -1,3 +1,4 @@
+-- The laws, by what they speak of.
 pub mod Xor
 pub mod Sums
 pub mod Tables

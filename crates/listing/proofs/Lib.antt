@@ -1,7 +1,3 @@
 -- Laws that the proofs of this crate cite.
-pub mod Numbers
-pub mod Challenge
 pub mod Lines
-pub mod Decimal
-pub mod Writing
 pub mod Planned

@@ -16,8 +16,9 @@ use Rattle.spec.specs.Shapes.{resolved, shapeOk, challengeBytes, grindingOk, pl
 use Rattle.spec.specs.Calls.{firstRefusal, fits, nodesOk, countWith, planNumber, Plan}
 use Rattle.laws.proofs.Lists.{length-zeros}
 use Rattle.planning_laws.proofs.ShapeFacts.{shape-facts, leaves-max}
-use Rattle.shape.proofs.Answers.{planned-length}
-use Rattle.listing.specs.Listing.{refusedText, nodesText, planText}
+use Rattle.planning.proofs.Planned.{planned-length}
+use Rattle.listing_text.specs.Text.{refusedText, nodesText}
+use Rattle.listing.specs.Listing.{planText}
 
 -- ---- the number
 

@@ -1,2 +1,2 @@
+-- What the listing program is.
 pub mod Listing
-pub mod Put

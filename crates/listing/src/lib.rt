@@ -3,12 +3,9 @@ ghost use mathlib.Core.Path.{_≡_};
 ghost use Prim.Native.Nat.{_≤_};
 ghost use lib.ListN.{length, take};
 ghost use Rattle.spec.specs.Shapes.{resolved};
+ghost use Rattle.listing_text.specs.Put.{Put};
 ghost use Rattle.listing.specs.Listing.{planText, listing};
-ghost use Rattle.listing.specs.Put.{Put};
 use spec::Shape;
-
-mod line;
-mod text;
 
 // The smaller of two numbers.
 fn smaller_of(a: usize, b: usize) -> usize
@@ -25,14 +22,14 @@ fn put_plan(out: &mut [u8], shape: Shape, challenge: &[u8], nodes: &mut [u32]) -
     requires { ⌜ (4096 ≤ length (now out)) × (512 ≤ length (now nodes)) ⌝ }
     ensures { λ r. ⌜ Put (planText (resolved shape) (now (challenge .entry))) 0 (now (out .entry)) (now (out .exit)) r ⌝ }
 {
-    let s = shape::rules::resolve(shape);
+    let s = rules::resolve(shape);
     let t = smaller_of(s.t, 512);
     let answer = shape::plan(shape, challenge, &mut nodes[..t]);
     if answer.number != 0 {
-        return text::put_refused(out, answer.number);
+        return listing_text::put_refused(out, answer.number);
     }
     let count = answer.count;
-    text::put_nodes(out, &nodes[..count])
+    listing_text::put_nodes(out, &nodes[..count])
 }
 
 // Writes the listing of an input to the front of `out`, and answers its length.
@@ -40,10 +37,10 @@ pub fn list(input: &[u8], out: &mut [u8]) -> usize
     requires { ⌜ 4096 ≤ length (now out) ⌝ }
     ensures { λ r. ⌜ (r ≤ length (now (out .exit))) × (take r (now (out .exit)) ≡ listing (now (input .entry))) ⌝ }
 {
-    if !line::line_ok(input) {
-        return text::put_refused(out, 7);
+    if !listing_line::line_ok(input) {
+        return listing_text::put_refused(out, 7);
     }
-    let challenge = line::challenge_of(line::behind(input, 4));
+    let challenge = listing_line::challenge_of(listing_line::behind(input, 4));
     let mut nodes = [0u32; 512];
-    put_plan(out, line::shape_of(input), &challenge, &mut nodes)
+    put_plan(out, listing_line::shape_of(input), &challenge, &mut nodes)
 }

@@ -1,1 +1,2 @@
--- Laws that the proofs of this crate cite.
+-- Laws that the proofs of this crate and of `open` cite.
+pub mod Slots

@@ -1,8 +1,8 @@
--- A node above x is above a child of it or is x itself; nothing but itself is beneath a leaf; the root is above every node. By induction on the steps up.
+-- A node is above x exactly if it is x or one of its children is above x; nothing but itself is beneath a leaf; the root is above every node. By induction on the steps up.
 -- Assumes nothing.
-use Prim.Native.Nat.{ℕ, zero, suc, _+_, _-_, _*_, _/_, _≤_, _<_}
+use Prim.Native.Nat.{ℕ, zero, suc, _+_, _-_, _*_, _≤_, _<_}
 use mathlib.Core.Path.{_≡_, refl, sym, ap, ap₂, _∙_}
-use mathlib.Core.Bool.{Bool, true, false, _||_}
+use mathlib.Core.Bool.{Bool, true, false, _||_, or-true}
 use native.Mathlib.Omega.{arith}
 use native.Mathlib.Decide.{decLt}
 use lib.Dec.{eqb}
@@ -38,10 +38,6 @@ enough a y (suc d) =
     ∙ more (d + y) a y (omega arith)
     ∙ enough a y d
 
-or-true : (b : Bool) → true ≡ (b || true)
-or-true true = refl
-or-true false = refl
-
 -- where the parent of x is not past a: x is a child of a, or a is not above x
 near : (n a x : ℕ) → a < x → parent x ≤ a
     → isAncestorWithin n a (parent x) ≡ (isAncestorWithin n (2 * a + 1) x || isAncestorWithin n (2 * a + 2) x)
@@ -62,7 +58,7 @@ near n a x h l = go (decLt (parent x) a) (decLt x (2 * a + 2))
     go (no p) (no d) =
         stop n a (parent x) l
         ∙ eq-eqb a (parent x) (omega arith)
-        ∙ or-true (isAncestorWithin n (2 * a + 1) x)
+        ∙ sym (or-true (isAncestorWithin n (2 * a + 1) x))
         ∙ ap (λ (b : Bool). isAncestorWithin n (2 * a + 1) x || b) (sym (stop n (2 * a + 2) x (omega arith) ∙ eq-eqb (2 * a + 2) x (omega arith)))
 
 none : (a x : ℕ) → (a ≡ x → ⊥) → isAncestorWithin zero a x ≡ false

@@ -1,9 +1,9 @@
 -- The hidden leaves of a shape and a challenge are leaves of its tree, one for each vector, and distinct: leaf numbers of different vectors differ modulo
 -- tau. By induction on the vectors. Assumes nothing.
 use Prim.Native.Nat.{ℕ, zero, suc, _+_, _-_, _*_, _^_, _≤_, _<_}
-use mathlib.Core.Path.{_≡_, refl, sym, ap, ap₂, _∙_}
-use mathlib.Core.Bool.{Bool, true, false, _||_}
-use mathlib.Core.List.{List, [], _∷_}
+use mathlib.Core.Path.{_≡_, refl, ap₂}
+use mathlib.Core.Bool.{false, _||_}
+use mathlib.Core.List.{List}
 use native.Mathlib.Omega.{arith}
 use native.Mathlib.Decide.{decLt}
 use lib.Dec.{eqb}
@@ -16,7 +16,7 @@ use Rattle.spec.specs.Shapes.{depthOf, firstBit, leaves, leafOf, hiddenIndex, h
 use Rattle.laws.proofs.Lists.{length-tabulate}
 use Rattle.planning_laws.specs.Lists.{Leaves, WithoutDuplicates}
 use Rattle.planning_laws.proofs.Bits.{index-lt}
-use Rattle.planning_laws.proofs.ShapeFacts.{ShapeFacts, interleaved-lt, leaves-pos}
+use Rattle.planning_laws.proofs.ShapeFacts.{interleaved-lt}
 
 pub hidden-count : (s : Shape) (ch : List ℕ) → length (hiddenLeaves s ch) ≡ s .tau
 unfolding hiddenLeaves

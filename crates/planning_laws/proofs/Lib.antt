@@ -1,3 +1,4 @@
+-- The laws, by what they speak of.
 pub mod Ancestors
 pub mod Covered
 pub mod Count

@@ -1,22 +1,18 @@
--- The revealed nodes: a node that is not covered is revealed, or is the root, or has a parent that is not covered; a revealed node is not covered and its
--- parent is; and no revealed node is above another. By induction on the nodes that reveal. Assumes nothing.
-use Prim.Native.Nat.{ℕ, zero, suc, _+_, _-_, _*_, _/_, _≤_, _<_}
-use mathlib.Core.Path.{_≡_, refl, sym, ap, ap₂, _∙_, subst}
-use mathlib.Core.Bool.{Bool, true, false, _||_, true≢false}
+-- The revealed nodes: a child that is not covered, of a covered node, is revealed; a revealed node is a node; and where it stands in the list. By induction
+-- on the nodes that reveal. Assumes nothing.
+use Prim.Native.Nat.{ℕ, zero, suc, _+_, _-_, _*_, _≤_, _<_}
+use mathlib.Core.Path.{_≡_, refl, sym, ap, _∙_, subst}
+use mathlib.Core.Bool.{Bool, true, false, _||_}
 use mathlib.Core.List.{List, [], _∷_, _++_}
-use mathlib.Core.Logic.{_⊎_, inl, inr}
 use native.Mathlib.Omega.{arith}
 use native.Mathlib.Decide.{decLt, ℕ-discrete}
 use lib.ListN.{length, getD}
 use borrow.Author.Tests.{eq-eqb, ne-eqb}
 use Rattle.spec.specs.Bytes.{indexOf}
-use Rattle.spec.specs.Tree.{parent, isAncestor, some, covered, siblingToReveal, revealedFrom, revealed, nodeCount}
+use Rattle.spec.specs.Tree.{covered, siblingToReveal, revealedFrom, revealed, nodeCount}
+use Rattle.laws.proofs.Conjunctions.{contrary}
 use Rattle.planning_laws.specs.Lists.{Leaves}
-use Rattle.planning_laws.proofs.Ancestors.{ancestor-parent, ancestor-self, ancestor-past}
 use Rattle.planning_laws.proofs.Covered.{covered-inner}
-
-contrary : {A : Type 0} {b : Bool} → b ≡ true → b ≡ false → A
-contrary p q = absurd (true≢false (sym p ∙ q))
 
 -- ---- members of a list
 
@@ -80,101 +76,6 @@ unfolding revealed
 right-revealed L a hs ls h p q =
     child-revealed (covered hs) (λ a. 2 * a + 2) (λ a l. sibling-right (covered hs (2 * a + 1)) (covered hs (2 * a + 2)) a l) (L - 1) a (omega arith)
     (sym (covered-inner L a hs ls h) ∙ p) q
-
--- a node but the root that is not covered is revealed or has a parent that is not covered
-pub uncovered : (L x : ℕ) (hs : List ℕ) → Leaves L hs → 0 < x → x + 1 < 2 * L → covered hs x ≡ false → (covered hs (parent x) ≡ false) ⊎ In x (revealed L hs)
-unfolding parent
-uncovered L x hs ls h l e = go (covered hs (parent x)) refl (decLt x (2 * parent x + 2))
-  where
-    go : (b : Bool) → covered hs (parent x) ≡ b → Dec (x < 2 * parent x + 2) → (covered hs (parent x) ≡ false) ⊎ In x (revealed L hs)
-    go false p d = inl p
-    go true p (yes q) =
-        let z : 2 * parent x + 1 ≡ x = omega arith in
-        inr (subst (λ (y : ℕ). In y (revealed L hs)) z (left-revealed L (parent x) hs ls (omega arith) p (ap (covered hs) z ∙ e)))
-    go true p (no q) =
-        let z : 2 * parent x + 2 ≡ x = omega arith in
-        inr (subst (λ (y : ℕ). In y (revealed L hs)) z (right-revealed L (parent x) hs ls (omega arith) p (ap (covered hs) z ∙ e)))
-
--- ---- each revealed node is not covered, and its parent is
-
-abbrev pub Shown : List ℕ → ℕ → Type 0
-Shown hs x = (covered hs x ≡ false) × (covered hs (parent x) ≡ true) × (0 < x)
-
-module _ (L : ℕ) (hs : List ℕ) (ls : Leaves L hs) where
-  abbrev AllShown : List ℕ → Type 0
-  AllShown xs = (m : ℕ) → m < length xs → Shown hs (getD xs m 0)
-
-  shown-first : (x : ℕ) (xs : List ℕ) → Shown hs x → AllShown xs → AllShown (x ∷ xs)
-  shown-first x xs s f zero h = s
-  shown-first x xs s f (suc m) h = f m (omega arith)
-
-  sibling-shown : (p q : Bool) (a : ℕ) (xs : List ℕ) → a + 1 < L → covered hs (2 * a + 1) ≡ p → covered hs (2 * a + 2) ≡ q → AllShown xs
-      → AllShown (siblingToReveal p q a ++ xs)
-  unfolding siblingToReveal parent
-  sibling-shown true true a xs h ep eq f = f
-  sibling-shown false false a xs h ep eq f = f
-  sibling-shown true false a xs h ep eq f =
-      shown-first (2 * a + 2) xs
-      (eq, ap (covered hs) (let z : (2 * a + 2 - 1) / 2 ≡ a = omega arith in z) ∙ covered-inner L a hs ls h ∙ ap₂ _||_ ep eq, omega arith) f
-  sibling-shown false true a xs h ep eq f =
-      shown-first (2 * a + 1) xs
-      (ep, ap (covered hs) (let z : (2 * a + 1 - 1) / 2 ≡ a = omega arith in z) ∙ covered-inner L a hs ls h ∙ ap₂ _||_ ep eq, omega arith) f
-
-  from-shown : (n : ℕ) → n < L → AllShown (revealedFrom (covered hs) n)
-  unfolding revealedFrom
-  from-shown zero h = λ m l. absurd (omega arith)
-  from-shown (suc a) h =
-      sibling-shown (covered hs (2 * a + 1)) (covered hs (2 * a + 2)) a (revealedFrom (covered hs) a) (omega arith) refl refl (from-shown a (omega arith))
-
-  pub revealed-shown : 1 ≤ L → (m : ℕ) → m < length (revealed L hs) → Shown hs (getD (revealed L hs) m 0)
-  unfolding revealed
-  revealed-shown p = from-shown (L - 1) (omega arith)
-
--- ---- no revealed node is above another
-
-pub ancestor-le : (a x : ℕ) → isAncestor a x ≡ true → a ≤ x
-ancestor-le a x h = go (decLt x a)
-  where
-    go : Dec (x < a) → a ≤ x
-    go (yes l) = contrary h (ancestor-past a x l)
-    go (no l) = omega arith
-
-pub ancestor-trans : (d a b x : ℕ) → x ≤ d → isAncestor a b ≡ true → isAncestor b x ≡ true → isAncestor a x ≡ true
-unfolding parent
-ancestor-trans zero a b x h p q =
-    let l = ancestor-le b x q in
-    subst (λ (y : ℕ). isAncestor a y ≡ true) (let z : b ≡ x = omega arith in z) p
-ancestor-trans (suc d) a b x h p q = go (decLt b x) (λ l. ancestor-trans d a b (parent x) (omega arith) p (sym (ancestor-parent b x l) ∙ q))
-  where
-    le : b ≤ x
-    le = ancestor-le b x q
-
-    go : Dec (b < x) → (b < x → isAncestor a (parent x) ≡ true) → isAncestor a x ≡ true
-    go (no l) ih = subst (λ (y : ℕ). isAncestor a y ≡ true) (let z : b ≡ x = omega (arith, le) in z) p
-    go (yes l) ih = ancestor-parent a x (let z = ancestor-le a b p in omega arith) ∙ ih l
-
-covered-above : (a b : ℕ) (hs : List ℕ) → isAncestor a b ≡ true → covered hs b ≡ true → covered hs a ≡ true
-unfolding covered some
-covered-above a b [] p q = q
-covered-above a b (x ∷ xs) p q = go (isAncestor b x) refl (λ e. covered-above a b xs p e)
-  where
-    or-right : (z y : Bool) → y ≡ true → (z || y) ≡ true
-    or-right true y e = refl
-    or-right false y e = e
-
-    go : (z : Bool) → isAncestor b x ≡ z → (some (isAncestor b) xs ≡ true → some (isAncestor a) xs ≡ true) → (isAncestor a x || some (isAncestor a) xs) ≡ true
-    go true e ih = ap (λ (y : Bool). y || some (isAncestor a) xs) (ancestor-trans x a b x (omega arith) p e)
-    go false e ih = or-right (isAncestor a x) (some (isAncestor a) xs) (ih (sym (ap (λ (y : Bool). y || some (isAncestor b) xs) e) ∙ q))
-
-pub apart-on-paths : (hs : List ℕ) (x y : ℕ) → Shown hs x → Shown hs y → isAncestor x y ≡ true → x ≡ y
-apart-on-paths hs x y s t h = go (decLt x y)
-  where
-    le : x ≤ y
-    le = ancestor-le x y h
-
-    go : Dec (x < y) → x ≡ y
-    go (no l) = omega (arith, le)
-    go (yes l) = contrary (covered-above x (parent y) hs (sym (ancestor-parent x y l) ∙ h) (t .1)) (s .0)
 
 -- ---- a revealed node is a node
 

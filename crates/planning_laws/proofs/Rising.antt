@@ -1,16 +1,16 @@
--- Planning one node at a time. A tree with n + 1 leaves, each child of whose last inner node p is replaced by p, is a tree with one leaf less; up to node
+-- Planning one node at a time. A tree whose last inner node is p, with p in place of the children of p, is a tree with one leaf less; up to node
 -- 2 p the same nodes are covered. So what the nodes up to p reveal is what p reveals and what the smaller tree reveals. By induction on the list.
 -- Assumes nothing.
 use Prim.Native.Nat.{ℕ, zero, suc, _+_, _-_, _*_, _/_, _≤_, _<_}
 use mathlib.Core.Path.{_≡_, refl, sym, ap, ap₂, _∙_}
-use mathlib.Core.Bool.{Bool, true, false, _||_, cond}
+use mathlib.Core.Bool.{Bool, false, _||_, cond}
 use mathlib.Core.List.{List, [], _∷_, _++_}
 use native.Mathlib.Omega.{arith}
 use native.Mathlib.Decide.{decLt}
 use lib.Dec.{eqb, ltb}
 use borrow.Author.Tests.{le-ltb, lt-ltb}
 use Rattle.spec.specs.Tree.{parent, isAncestor, some, covered, siblingToReveal, revealedFrom}
-use Rattle.planning_laws.specs.Lists.{Leaves, Below, Descending}
+use Rattle.planning_laws.specs.Lists.{Leaves, Below}
 use Rattle.planning_laws.proofs.Ancestors.{ancestor-parent, ancestor-past}
 use Rattle.planning_laws.proofs.Covered.{covered-leaf}
 

@@ -1,6 +1,6 @@
 -- The shape rules as facts, and the numbers that follow: a vector's bits lie in the challenge, its leaves in the tree, and no tree is large. By taking the
 -- conjunction of the rules apart. Assumes nothing.
-use Prim.Native.Nat.{ℕ, zero, suc, _+_, _-_, _*_, _/_, _^_, _≤_, _<_}
+use Prim.Native.Nat.{ℕ, zero, suc, _+_, _-_, _*_, _^_, _≤_, _<_}
 use mathlib.Core.Path.{_≡_, refl, sym}
 use mathlib.Core.Bool.{Bool, true, false, _&&_, true≢false}
 use native.Mathlib.Omega.{arith}
@@ -10,6 +10,7 @@ use lib.Pow.{pow-mono, pow-pos}
 use borrow.Author.Tests.{leb-true, eqb-true, le-leb}
 use Rattle.spec.specs.declared.Shape.{Shape}
 use Rattle.spec.specs.Shapes.{level, depthOf, entriesOf, firstBit, leaves, shapeOk}
+use Rattle.laws.proofs.Conjunctions.{refuted}
 
 pub record ShapeFacts (s : Shape) : Type 0 where
   pub tau-pos : 1 ≤ s .tau
@@ -51,11 +52,7 @@ shape-facts s e =
     }
 
 pub shape-refused : (s : Shape) → (ShapeFacts s → ⊥) → false ≡ shapeOk s
-shape-refused s contrary = go (shapeOk s) refl
-  where
-    go : (b : Bool) → shapeOk s ≡ b → false ≡ b
-    go false e = refl
-    go true e = absurd (contrary (shape-facts s e))
+shape-refused s h = refuted (shapeOk s) (λ e. h (shape-facts s e))
 
 -- with every limit kept, the sum decides
 pub shape-by-sum : (s : Shape) → 1 ≤ s .tau → s .tau ≤ 32 → 1 ≤ s .k → s .k ≤ 12 → s .w ≤ 127 → 1 ≤ s .t → s .t ≤ 512

@@ -2,7 +2,7 @@
 -- index is an entry. Nothing that cites this record looks into a shape. By the shape rules. Assumes nothing.
 use Prim.Native.Nat.{ℕ, zero, suc, _+_, _-_, _*_, _/_, _%_, _^_, _≤_, _<_}
 use mathlib.Core.Path.{_≡_, refl, sym, ap, _∙_, subst}
-use mathlib.Core.Bool.{Bool, true, false, _&&_, true≢false}
+use mathlib.Core.Bool.{true}
 use mathlib.Core.List.{List, [], _∷_}
 use native.Mathlib.Decide.{decLt}
 use native.Mathlib.Omega.{arith}
@@ -15,6 +15,7 @@ use Rattle.spec.specs.declared.Shape.{Shape}
 use Rattle.spec.specs.Bytes.{bit, tabulate, allZero}
 use Rattle.spec.specs.Challenge.{bitAt, bitsAt, indexAt, clearAt}
 use Rattle.spec.specs.Shapes.{shapeOk, level, depthOf, entriesOf, firstBit, firstEntry, leaves, leafOf, hiddenIndex, hiddenLeaf, hiddenLeaves, grindingOk}
+use Rattle.laws.proofs.Conjunctions.{both-true}
 use Rattle.laws.proofs.Lists.{length-tabulate, getD-tabulate}
 use Rattle.planning_laws.proofs.Bits.{bit-lt, index-more, index-lt}
 use Rattle.planning_laws.proofs.ShapeFacts.{shape-facts, leaves-pos}
@@ -90,12 +91,8 @@ hidden-bit s ch i j h = index-bit ch (firstBit s i) (depthOf s i) j h
 all-zero : (xs : List ℕ) (j : ℕ) → allZero xs ≡ true → j < length xs → getD xs j 0 ≡ 0
 unfolding allZero
 all-zero [] j e h = absurd (omega arith)
-all-zero (x ∷ xs) j e h = go j (both (eqb x 0) (allZero xs) e) h (λ k z l. all-zero xs k z l)
+all-zero (x ∷ xs) j e h = go j (both-true (eqb x 0) (allZero xs) e) h (λ k z l. all-zero xs k z l)
   where
-    both : (a b : Bool) → (a && b) ≡ true → (a ≡ true) × (b ≡ true)
-    both true b e = (refl, e)
-    both false b e = absurd (true≢false (sym e))
-
     go : (j : ℕ) → (eqb x 0 ≡ true) × (allZero xs ≡ true) → j < length (x ∷ xs) → ((k : ℕ) → allZero xs ≡ true → k < length xs → getD xs k 0 ≡ 0)
         → getD (x ∷ xs) j 0 ≡ 0
     go zero q h ih = eqb-true x 0 (q .0)

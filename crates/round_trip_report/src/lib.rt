@@ -1,38 +1,47 @@
 // What a round trip found, as text on standard output: the answers of the three calls, the commitment of both halves, how many columns agree, and the
 // opened nodes.
 ghost use Prim.Native.Nat.{_≤_};
-use libc::STDOUT_FILENO;
+use round_trip::Answers;
 use spec::Answer;
 use spec::Shape;
+use test_support::lengths::Lengths;
+use test_support::lengths::at_most;
+use test_support::parts::front;
+use test_support::parts::front_mut;
+use test_support::parts::words;
+use test_support::print::decimal;
+use test_support::print::hex;
+use test_support::print::text;
 
-fn say(text: &[u8]) {
-    io::write_all(STDOUT_FILENO, text);
-}
-
-fn say_number(n: usize) {
-    io::print_decimal(STDOUT_FILENO, n as u64);
-}
-
-fn say_byte(x: u8) {
-    io::print_hex(STDOUT_FILENO, x as u64, 2);
-}
-
-fn say_hex(bytes: &[u8]) {
-    let mut i = 0;
-    while i < bytes.len() {
-        say_byte(bytes[i]);
-        i += 1;
-    }
-    say(b"\n");
+fn say_shape(s: Shape, row_bits: usize) {
+    text(b"shape ");
+    decimal(s.tau);
+    text(b" ");
+    decimal(s.k);
+    text(b" ");
+    decimal(s.w);
+    text(b" ");
+    decimal(s.t);
+    text(b", rows of ");
+    decimal(row_bits);
+    text(b" bits\n");
 }
 
 fn say_answer(call: &[u8], a: Answer) {
-    say(call);
-    say(b" answers ");
-    say_number(a.number);
-    say(b" with count ");
-    say_number(a.count);
-    say(b"\n");
+    text(call);
+    text(b" answers ");
+    decimal(a.number);
+    text(b" with count ");
+    decimal(a.count);
+    text(b"\n");
+}
+
+fn say_commitments(commitment: &[u8; 32], commitment2: &[u8; 32]) {
+    text(b"commitment of the signing half  ");
+    hex(commitment);
+    text(b"\ncommitment of the checking half ");
+    hex(commitment2);
+    text(b"\n");
 }
 
 // 1 where column q is column v, xored with u where the bit is 1; else 0.
@@ -78,9 +87,14 @@ fn agreeing(challenge: &[u8; 16], u: &[u8], v: &[u8], q: &[u8]) -> usize {
     n
 }
 
+fn say_columns(l: Lengths, challenge: &[u8; 16], u: &[u8; 210], v: &[u8; 26880], q: &[u8; 26880]) {
+    decimal(agreeing(challenge, front(u, l.u), front(v, l.v), front(q, l.v)));
+    text(b" of 128 columns agree\n");
+}
+
 fn say_node(x: u32) {
-    say(b" ");
-    io::print_decimal(STDOUT_FILENO, x as u64);
+    text(b" ");
+    decimal(x as usize);
 }
 
 fn say_list(numbers: &[u32]) {
@@ -89,20 +103,14 @@ fn say_list(numbers: &[u32]) {
         say_node(numbers[i]);
         i += 1;
     }
-    say(b"\n");
-}
-
-fn at_most(n: usize, most: usize) -> usize
-    ensures { λ r. ⌜ r ≤ most ⌝ }
-{
-    if n < most { n } else { most }
+    text(b"\n");
 }
 
 // The nodes of the opening, by plan.
 fn say_plan(s: Shape, challenge: &[u8], nodes: &mut [u32]) {
     let a = shape::plan(s, challenge, nodes);
     let n = at_most(a.count, nodes.len());
-    say(b"opened nodes");
+    text(b"opened nodes");
     say_list(&nodes[0..n]);
 }
 
@@ -112,37 +120,11 @@ fn say_nodes(s: Shape, challenge: &[u8; 16]) {
     say_plan(s, challenge, &mut nodes[0..t]);
 }
 
-fn say_shape(s: Shape, row_bits: usize) {
-    say(b"shape ");
-    say_number(s.tau);
-    say(b" ");
-    say_number(s.k);
-    say(b" ");
-    say_number(s.w);
-    say(b" ");
-    say_number(s.t);
-    say(b", rows of ");
-    say_number(row_bits);
-    say(b" bits\n");
-}
-
-fn say_commitments(commitment: &[u8], commitment2: &[u8]) {
-    say(b"commitment of the signing half  ");
-    say_hex(commitment);
-    say(b"commitment of the checking half ");
-    say_hex(commitment2);
-}
-
-fn say_columns(challenge: &[u8; 16], u: &[u8], v: &[u8], q: &[u8]) {
-    say_number(agreeing(challenge, u, v, q));
-    say(b" of 128 columns agree\n");
-}
-
-fn run_with(
+// The three calls on the front of each buffer, with root and IV that count up.
+fn call_on_fronts(
     s: Shape,
     row_bits: usize,
-    root: &[u8],
-    iv: &[u8],
+    l: Lengths,
     challenge: &[u8],
     commitment: &mut [u8],
     tree: &mut [u8],
@@ -155,12 +137,51 @@ fn run_with(
     tree2: &mut [u8],
     lcs2: &mut [u8],
     q: &mut [u8],
-) {
-    let r = round_trip::round_trip(
+) -> Answers {
+    let root = words(0x0706050403020100, 0x0f0e0d0c0b0a0908);
+    let iv = words(0x1716151413121110, 0x1f1e1d1c1b1a1918);
+    round_trip::round_trip(
         s,
         row_bits,
-        root,
-        iv,
+        &root,
+        &iv,
+        challenge,
+        commitment,
+        front_mut(tree, l.tree),
+        front_mut(lcs, l.leaf_commitments),
+        front_mut(u, l.u),
+        front_mut(v, l.v),
+        front_mut(corrections, l.corrections),
+        front_mut(opening, l.opening),
+        commitment2,
+        front_mut(tree2, l.tree),
+        front_mut(lcs2, l.leaf_commitments),
+        front_mut(q, l.v),
+    )
+}
+
+// The buffers are lent as slices here, where the checker knows of them only how long they are.
+fn lend(
+    s: Shape,
+    row_bits: usize,
+    l: Lengths,
+    challenge: &[u8; 16],
+    commitment: &mut [u8; 32],
+    tree: &mut [u8; 720880],
+    lcs: &mut [u8; 1081344],
+    u: &mut [u8; 210],
+    v: &mut [u8; 26880],
+    corrections: &mut [u8; 2100],
+    opening: &mut [u8; 2160],
+    commitment2: &mut [u8; 32],
+    tree2: &mut [u8; 720880],
+    lcs2: &mut [u8; 1081344],
+    q: &mut [u8; 26880],
+) -> Answers {
+    call_on_fronts(
+        s,
+        row_bits,
+        l,
         challenge,
         commitment,
         tree,
@@ -173,85 +194,45 @@ fn run_with(
         tree2,
         lcs2,
         q,
+    )
+}
+
+// Makes the three calls, and writes to standard output what they answered and wrote. There is room for FAEST-128s with rows of 1680 bits.
+pub fn run(s: Shape, row_bits: usize, challenge: [u8; 16]) {
+    let l = test_support::lengths::of(s, row_bits);
+    let mut commitment = [0u8; 32];
+    let mut tree = [0u8; 720880];
+    let mut lcs = [0u8; 1081344];
+    let mut u = [0u8; 210];
+    let mut v = [0u8; 26880];
+    let mut corrections = [0u8; 2100];
+    let mut opening = [0u8; 2160];
+    let mut commitment2 = [0u8; 32];
+    let mut tree2 = [0u8; 720880];
+    let mut lcs2 = [0u8; 1081344];
+    let mut q = [0u8; 26880];
+    say_shape(s, row_bits);
+    let r = lend(
+        s,
+        row_bits,
+        l,
+        &challenge,
+        &mut commitment,
+        &mut tree,
+        &mut lcs,
+        &mut u,
+        &mut v,
+        &mut corrections,
+        &mut opening,
+        &mut commitment2,
+        &mut tree2,
+        &mut lcs2,
+        &mut q,
     );
     say_answer(b"commit", r.made);
     say_answer(b"open", r.opened);
     say_answer(b"reconstruct", r.checked);
-}
-
-// Makes the three calls with a fixed root and IV, and writes to standard output what they answered and wrote.
-pub fn run(
-    s: Shape,
-    row_bits: usize,
-    challenge: [u8; 16],
-    commitment: &mut [u8],
-    tree: &mut [u8],
-    lcs: &mut [u8],
-    u: &mut [u8],
-    v: &mut [u8],
-    corrections: &mut [u8],
-    opening: &mut [u8],
-    commitment2: &mut [u8],
-    tree2: &mut [u8],
-    lcs2: &mut [u8],
-    q: &mut [u8],
-) {
-    let root = [
-        0x00u8,
-        0x01,
-        0x02,
-        0x03,
-        0x04,
-        0x05,
-        0x06,
-        0x07,
-        0x08,
-        0x09,
-        0x0a,
-        0x0b,
-        0x0c,
-        0x0d,
-        0x0e,
-        0x0f,
-    ];
-    let iv = [
-        0x10u8,
-        0x11,
-        0x12,
-        0x13,
-        0x14,
-        0x15,
-        0x16,
-        0x17,
-        0x18,
-        0x19,
-        0x1a,
-        0x1b,
-        0x1c,
-        0x1d,
-        0x1e,
-        0x1f,
-    ];
-    say_shape(s, row_bits);
-    run_with(
-        s,
-        row_bits,
-        &root,
-        &iv,
-        &challenge,
-        commitment,
-        tree,
-        lcs,
-        u,
-        v,
-        corrections,
-        opening,
-        commitment2,
-        tree2,
-        lcs2,
-        q,
-    );
-    say_commitments(commitment, commitment2);
-    say_columns(&challenge, u, v, q);
+    say_commitments(&commitment, &commitment2);
+    say_columns(l, &challenge, &u, &v, &q);
     say_nodes(s, &challenge);
 }

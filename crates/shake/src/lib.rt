@@ -16,7 +16,7 @@ pub struct Sponge {
     pub fill: usize,
 }
 
-// A byte as a lane, which asks nothing of the byte.
+// A byte as a lane.
 fn wide(b: u8) -> u64
     ensures { λ r. ⌜ (r ≡ b) × (r < 256) ⌝ }
 {

@@ -1,43 +1,23 @@
 -- The records that are the contracts of decode and plan, by the tests that were passed: one law for each way out of the call. s is the shape as given and
 -- t the resolved one, ch the challenge, xs the lent list, r the answer. Assumes nothing.
-use Prim.Native.Nat.{ℕ, _+_, _/_, _%_, _≤_, _<_}
+use Prim.Native.Nat.{ℕ, _≤_, _<_}
 use mathlib.Core.Path.{_≡_, refl, sym, ap, _∙_}
 use mathlib.Core.Bool.{Bool, true, false}
 use mathlib.Core.List.{List, [], _∷_, _++_}
-use native.Mathlib.Omega.{arith}
-use lib.Dec.{eqb, leb}
+use lib.Dec.{eqb}
 use lib.ListN.{length, take, drop}
-use lib.Seq.{sets, sets-eq, take-at}
-use borrow.Author.Tests.{leb-true, le-leb, lt-leb}
+use lib.Seq.{sets}
+use borrow.Author.Tests.{le-leb, lt-leb}
 use Rattle.spec.specs.declared.Shape.{Shape}
 use Rattle.spec.specs.declared.Answer.{Answer}
-use Rattle.spec.specs.Tree.{nodeCount}
 use Rattle.spec.specs.Shapes.{resolved, level, challengeBytes, shapeOk, hiddenIndices, grindingOk, planned, plannedCount}
+use Rattle.planning.proofs.Planned.{planned-front}
 use Rattle.laws.proofs.Lengths.{fits-sized}
-use Rattle.laws.proofs.Conjunctions.{both-true}
-use Rattle.spec.specs.Calls.{fits, countWith, rowOk, nodesOk, decodeNumber, Decode, planNumber, Plan}
+use Rattle.spec.specs.Calls.{fits, countWith, nodesOk, decodeNumber, Decode, planNumber, Plan}
 
 -- two lengths that fit
 pub fit-both : (a x b y : ℕ) → fits ((a, x) ∷ (b, y) ∷ []) ≡ true → (a ≡ x) × (b ≡ y)
 fit-both a x b y h = (let q = fits-sized ((a, x) ∷ (b, y) ∷ []) h in (q .0, q .1 .0))
-
--- a row has at most 8,192 bytes
-pub row-max : (n : ℕ) → rowOk n ≡ true → n / 8 ≤ 8192
-unfolding rowOk
-row-max n h =
-    let q = both-true (eqb (n % 8) 0) _ h in
-    let l = leb-true n 65536 (both-true (leb 8 n) (leb n 65536) (q .1) .1) in
-    omega arith
-
-pub planned-length : (s : Shape) (ch : List ℕ) → length (planned s ch) ≡ plannedCount s ch
-unfolding planned plannedCount nodeCount
-planned-length s ch = refl
-
--- the planned nodes, stored at the front of a list that has room
-pub planned-front : (s : Shape) (ch list : List ℕ) (n : ℕ) → n ≡ plannedCount s ch → n ≤ length list → take n (sets list 0 (planned s ch)) ≡ planned s ch
-planned-front s ch list n c l =
-    let size : length (planned s ch) ≡ n = planned-length s ch ∙ sym c in
-    ap (take n) (sets-eq (planned s ch) list 0 (omega arith)) ∙ take-at (planned s ch) (drop (0 + length (planned s ch)) list) n size
 
 module _ (s t : Shape) (e : t ≡ resolved s) (ch xs : List ℕ) (r : Answer) where
   -- the lengths that a call compares: the challenge's, and the list's with n

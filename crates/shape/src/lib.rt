@@ -1,25 +1,11 @@
-// The public calls decode and plan, and what the other three calls share with them: the shape rules, the bits of a challenge, the revealed nodes, and which
-// nodes are covered.
+// The public calls decode and plan.
 ghost use mathlib.Core.Path.{_≡_};
-ghost use mathlib.Core.Bool.{true};
 ghost use Prim.Native.Nat.{_≤_};
 ghost use lib.ListN.{length, take, drop};
 ghost use mathlib.Core.List.{_++_};
 ghost use Rattle.spec.specs.Calls.{Decode, Plan};
 use spec::Answer;
 use spec::Shape;
-
-pub mod challenge;
-pub mod cover;
-pub mod ring;
-pub mod rules;
-
-// A number and a count, as an answer.
-pub fn answer(number: usize, count: usize) -> Answer
-    ensures { λ r. ⌜ (r .number ≡ number) × (r .count ≡ count) ⌝ }
-{
-    Answer { number, count }
-}
 
 // Copies the first n numbers.
 fn copy_front(from: &[u32], n: usize, to: &mut [u32])
@@ -39,16 +25,16 @@ pub fn decode(shape: Shape, challenge: &[u8], indices: &mut [u32]) -> Answer
 {
     let s = rules::resolve(shape);
     if !rules::is_shape(s) {
-        return answer(1, 0);
+        return rules::answer(1, 0);
     }
     if !rules::fit2(challenge.len(), 16, indices.len(), s.tau) {
-        return answer(3, 0);
+        return rules::answer(3, 0);
     }
-    if !challenge::is_ground(s, challenge) {
-        return answer(4, 0);
+    if !challenge::grinding_ok(s, challenge) {
+        return rules::answer(4, 0);
     }
     challenge::write_indices(s, challenge, indices);
-    answer(0, 0)
+    rules::answer(0, 0)
 }
 
 // PLAN: the revealed nodes of a challenge, at the front of the list. The count is known before anything is written.
@@ -57,19 +43,19 @@ pub fn plan(shape: Shape, challenge: &[u8], nodes: &mut [u32]) -> Answer
 {
     let s = rules::resolve(shape);
     if !rules::is_shape(s) {
-        return answer(1, 0);
+        return rules::answer(1, 0);
     }
     if !rules::fit2(challenge.len(), 16, nodes.len(), s.t) {
-        return answer(3, 0);
+        return rules::answer(3, 0);
     }
-    if !challenge::is_ground(s, challenge) {
-        return answer(4, 0);
+    if !challenge::grinding_ok(s, challenge) {
+        return rules::answer(4, 0);
     }
     let mut list = [0u32; 512];
-    let n = ring::revealed_nodes(s, challenge, &mut list);
+    let n = planning::revealed_nodes(s, challenge, &mut list);
     if s.t < n {
-        return answer(5, n);
+        return rules::answer(5, n);
     }
     copy_front(&list, n, nodes);
-    answer(0, n)
+    rules::answer(0, n)
 }

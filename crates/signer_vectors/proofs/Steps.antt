@@ -8,7 +8,7 @@ use native.Mathlib.Omega.{arith}
 use native.Mathlib.Nat.{zero-add, mul-zero}
 use lib.Bits.{bitXor, xor-zero-l, xor-zero-r}
 use lib.ListN.{length, getD, take, drop, drop-of-length-le}
-use lib.Seq.{take-length}
+use lib.Seq.{take-length, take-at}
 use Rattle.spec.specs.declared.Shape.{Shape}
 use Rattle.spec.specs.Bytes.{bit, tabulate, concat, zeros, xorBelow}
 use Rattle.spec.specs.Sponge.{sponge, shake}
@@ -63,11 +63,11 @@ module _ (s : Shape) (b : ℕ) (iv tree : List ℕ) where
       }
 
   -- the u of vector 0, from a total that was zeros
-  pub u-of : (n : ℕ) (u : List ℕ) → u ≡ tabulate b (λ p. bitXor (getD (zeros n) p 0) (uByte faest s iv tree 0 p)) → u ≡ signerU faest s b iv tree
+  pub u-of : (u lcs cols hash : List ℕ) → Converted s b iv tree 0 (zeros b) u lcs cols hash → u ≡ signerU faest s b iv tree
   unfolding signerU
-  u-of n u e =
-      e ∙ tabulate-same b (λ p. bitXor (getD (zeros n) p 0) (uByte faest s iv tree 0 p)) (uByte faest s iv tree 0)
-      (λ p h. ap (λ (x : ℕ). bitXor x (uByte faest s iv tree 0 p)) (getD-zeros n p) ∙ xor-zero-l (uByte faest s iv tree 0 p))
+  u-of u lcs cols hash r =
+      r .sum ∙ tabulate-same b (λ p. bitXor (getD (zeros b) p 0) (uByte faest s iv tree 0 p)) (uByte faest s iv tree 0)
+      (λ p h. ap (λ (x : ℕ). bitXor x (uByte faest s iv tree 0 p)) (getD-zeros b p) ∙ xor-zero-l (uByte faest s iv tree 0 p))
 
   -- a correction, from a total that was u
   correction-of : (i : ℕ) (u sum : List ℕ) → u ≡ signerU faest s b iv tree → sum ≡ tabulate b (λ p. bitXor (getD u p 0) (uByte faest s iv tree i p))
@@ -93,13 +93,10 @@ module _ (s : Shape) (b : ℕ) (iv tree : List ℕ) where
 
   -- ---- buffers
 
-  -- string 0
-  start : (f : ℕ → List ℕ) (w : ℕ) (d y z : List ℕ) → w ≤ length d → length (f 0) ≡ w → y ≡ f 0 → take (w * (0 + 1)) (take 0 d ++ (y ++ z)) ≡ concat (0 + 1) f
+  -- string 0, at the front
+  start : (f : ℕ → List ℕ) (w : ℕ) (l : List ℕ) → take w l ≡ f 0 → take (w * (0 + 1)) l ≡ concat (0 + 1) f
   unfolding concat
-  start f w d y z h l e =
-      let m = mul-zero w in
-      let z0 : take (w * 0) d ≡ take 0 d = ap (λ (n : ℕ). take n d) m in
-      ap (λ (x : List ℕ). take (w * (0 + 1)) (x ++ (y ++ z))) (sym z0) ∙ put-block f w w 0 d y z refl (omega arith) (ap length e ∙ l) e z0
+  start f w l e = (let one : w * 1 ≡ w = omega arith in ap (λ (n : ℕ). take n l) one ∙ e)
 
   abbrev Leaves : ℕ → List ℕ
   Leaves = vectorCommitments s (signerLeafCommitment faest s iv tree)
@@ -113,15 +110,25 @@ module _ (s : Shape) (b : ℕ) (iv tree : List ℕ) where
   abbrev Correction : ℕ → List ℕ
   Correction i = correction faest s b iv tree (i + 1)
 
-  pub up-start : (total sum lcs v hs ls cols hash zl zv zh cs : List ℕ) → 48 * 2 ^ s .k ≤ length lcs → b * s .k ≤ length v → 32 ≤ length hs
-      → Converted s b iv tree 0 total sum ls cols hash → UpTo s b iv tree 0 (take 0 lcs ++ (ls ++ zl)) cs (take 0 v ++ (cols ++ zv)) (take 0 hs ++ (hash ++ zh))
-  unfolding concat
-  up-start total sum lcs v hs ls cols hash zl zv zh cs hl hv hh r =
+  -- the parts lent, as the fronts of their buffers
+  pub fronts : (i : ℕ) (total sum d e f ls cols hash zl zv zh : List ℕ) → Converted s b iv tree i total sum ls cols hash
+      → Converted s b iv tree i total sum (take (48 * 2 ^ s .k) (take 0 d ++ (ls ++ zl))) (take (b * s .k) (take 0 e ++ (cols ++ zv))) (take 32 (take 0 f ++ (hash ++ zh)))
+  fronts i total sum d e f ls cols hash zl zv zh r =
       record {
-        leaves = start Leaves (48 * 2 ^ s .k) lcs ls zl hl (leaves-length 0) (r .leaves);
+        leaves = take-at ls zl (48 * 2 ^ s .k) (ap length (r .leaves) ∙ leaves-length i) ∙ r .leaves;
+        sum = r .sum;
+        columns = take-at cols zv (b * s .k) (ap length (r .columns) ∙ columns-length i) ∙ r .columns;
+        digest = take-at hash zh 32 (ap length (r .digest) ∙ digest-length i) ∙ r .digest;
+      }
+
+  pub up-start : (total sum lcs cs v hs : List ℕ) → Converted s b iv tree 0 total sum (take (48 * 2 ^ s .k) lcs) (take (b * s .k) v) (take 32 hs) → UpTo s b iv tree 0 lcs cs v hs
+  unfolding concat
+  up-start total sum lcs cs v hs r =
+      record {
+        leaves = start Leaves (48 * 2 ^ s .k) lcs (r .leaves);
         sums = ap (λ (m : ℕ). take m cs) (mul-zero b);
-        columns = start Columns (b * s .k) v cols zv hv (columns-length 0) (r .columns);
-        digests = start Digest 32 hs hash zh hh (digest-length 0) (r .digest);
+        columns = start Columns (b * s .k) v (r .columns);
+        digests = start Digest 32 hs (r .digest);
       }
 
   pub up-more : (j n : ℕ) (u sum lcs cs v hs ls cols hash zl zc zv zh : List ℕ) → n ≡ 2 ^ s .k → u ≡ signerU faest s b iv tree

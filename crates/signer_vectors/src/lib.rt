@@ -1,10 +1,9 @@
 // All vectors of the signing half: leaf commitments and the hashes of the vectors, u, corrections and the matrix, from the bytes of a tree.
 ghost use mathlib.Core.Path.{_≡_};
 ghost use mathlib.Core.Bool.{true};
-ghost use mathlib.Core.List.{List};
-ghost use Prim.Native.Nat.{ℕ, _+_, _-_, _*_, _^_, _≤_, _<_};
-ghost use lib.ListN.{length};
-ghost use Rattle.spec.specs.Bytes.{concat};
+ghost use Prim.Native.Nat.{_+_, _-_, _*_, _^_, _≤_, _<_};
+ghost use lib.ListN.{length, take};
+ghost use Rattle.spec.specs.Bytes.{concat, zeros};
 ghost use Rattle.spec.specs.Gf256.{SboxTable};
 ghost use Rattle.spec.specs.Shapes.{shapeOk, treeBytes, leafCommitmentsBytes, matrixBytes, correctionsBytes};
 ghost use Rattle.spec.specs.Primitives.{faest};
@@ -34,17 +33,18 @@ fn convert(
     requires { ⌜ (length (now lcs) ≡ 48 * 2 ^ s .k) × (length (now total) ≡ b) × (length (now cols) ≡ b * s .k) × (length (now hash) ≡ 32) ⌝ }
     ensures { λ _. ⌜ Converted s b iv (now (tree .entry)) i (now (total .entry)) (now (total .exit)) (now (lcs .exit)) (now (cols .exit)) (now (hash .exit)) ⌝ }
 {
-    let n = shape::rules::entry_count(s);
+    let n = rules::entry_count(s);
     let m = field::multiples(&keys[48 * i..48 * i + 48]);
     buffers::clear_from(cols, 0);
     vector::add_entries(t, &m, s, i, 0, n, 0, b, iv, tree, lcs, 1, total, cols);
     shake::h1(lcs, hash);
 }
 
-// Vector 0, whose rows make u.
-fn first_vector(
+// Vector i, whose rows make u, in the parts at the front of the buffers.
+fn vector_of_u(
     t: &[u8; 256],
     s: Shape,
+    i: usize,
     b: usize,
     iv: [u8; 16],
     keys: &[u8],
@@ -55,19 +55,17 @@ fn first_vector(
     hashes: &mut [u8],
 )
     requires { ⌜ SboxTable (now t) ⌝ }
-    requires { ⌜ (shapeOk s ≡ true) × (b ≤ 8192) × (now keys ≡ faest .h0 s iv (48 * s .tau)) × (length (now tree) ≡ treeBytes s) ⌝ }
+    requires { ⌜ (shapeOk s ≡ true) × (i < s .tau) × (b ≤ 8192) × (now keys ≡ faest .h0 s iv (48 * s .tau)) × (length (now tree) ≡ treeBytes s) ⌝ }
     requires { ⌜ (48 * 2 ^ s .k ≤ length (now lcs)) × (length (now u) ≡ b) × (b * s .k ≤ length (now v)) × (32 ≤ length (now hashes)) ⌝ }
-    ensures { λ _. ⌜ now (u .exit) ≡ signerU faest s b iv (now (tree .entry)) ⌝ }
-    ensures { λ _. ⌜ ((c : List ℕ) → UpTo s b iv (now (tree .entry)) 0 (now (lcs .exit)) c (now (v .exit)) (now (hashes .exit))) ⌝ }
+    ensures { λ _. ⌜ Converted s b iv (now (tree .entry)) i (zeros b) (now (u .exit)) (take (48 * 2 ^ s .k) (now (lcs .exit))) (take (b * s .k) (now (v .exit))) (take 32 (now (hashes .exit))) ⌝ }
 {
-    let first = 0;
-    let w = 48 * shape::rules::entry_count(s);
+    let w = 48 * rules::entry_count(s);
     let c = b * s.k;
     buffers::clear_from(u, 0);
     convert(
         t,
         s,
-        first,
+        i,
         b,
         iv,
         keys,
@@ -125,7 +123,7 @@ fn other_vector(
         → UpTo s b iv (now (tree .entry)) (j + 1) (now (lcs .exit)) (now (corrections .exit)) (now (v .exit)) (now (hashes .exit))) ⌝ }
 {
     let next = j + 1;
-    let w = 48 * shape::rules::entry_count(s);
+    let w = 48 * rules::entry_count(s);
     let c = b * s.k;
     correct(
         t,
@@ -143,10 +141,11 @@ fn other_vector(
     );
 }
 
-// The vectors after vector 0.
+// Vectors 1 to last.
 fn other_vectors(
     t: &[u8; 256],
     s: Shape,
+    last: usize,
     b: usize,
     iv: [u8; 16],
     keys: &[u8],
@@ -158,18 +157,17 @@ fn other_vectors(
     hashes: &mut [u8],
 )
     requires { ⌜ SboxTable (now t) ⌝ }
-    requires { ⌜ (shapeOk s ≡ true) × (b ≤ 8192) × (now keys ≡ faest .h0 s iv (48 * s .tau)) × (length (now tree) ≡ treeBytes s) × (now u ≡ signerU faest s b iv (now tree)) ⌝ }
+    requires { ⌜ (shapeOk s ≡ true) × (last < s .tau) × (b ≤ 8192) × (now keys ≡ faest .h0 s iv (48 * s .tau)) × (length (now tree) ≡ treeBytes s) × (now u ≡ signerU faest s b iv (now tree)) ⌝ }
     requires { ⌜ (48 * 2 ^ s .k * s .tau ≤ length (now lcs)) × (b * (s .tau - 1) ≤ length (now corrections)) × (b * s .k * s .tau ≤ length (now v)) × (32 * s .tau ≤ length (now hashes)) ⌝ }
     ensures { λ _. ⌜ (UpTo s b iv (now (tree .entry)) 0 (now (lcs .entry)) (now (corrections .entry)) (now (v .entry)) (now (hashes .entry))
-        → UpTo s b iv (now (tree .entry)) (s .tau - 1) (now (lcs .exit)) (now (corrections .exit)) (now (v .exit)) (now (hashes .exit))) ⌝ }
+        → UpTo s b iv (now (tree .entry)) last (now (lcs .exit)) (now (corrections .exit)) (now (v .exit)) (now (hashes .exit))) ⌝ }
 {
-    let n = s.tau - 1;
-    for j in 0..n {
+    for j in 0..last {
         other_vector(t, s, j, b, iv, keys, tree, u, lcs, corrections, v, hashes);
     }
 }
 
-// All vectors. The last w columns are zeros.
+// All vectors: the first makes u, the others the corrections. The last w columns are zeros.
 pub fn write_vectors(
     t: &[u8; 256],
     s: Shape,
@@ -192,8 +190,23 @@ pub fn write_vectors(
     ensures { λ _. ⌜ now (corrections .exit) ≡ signer.corrections faest s b iv (now (tree .entry)) ⌝ }
     ensures { λ _. ⌜ now (hashes .exit) ≡ concat (s .tau) (vectorHash faest s (signerLeafCommitment faest s iv (now (tree .entry)))) ⌝ }
 {
-    first_vector(t, s, b, iv, keys, tree, lcs, u, v, hashes);
-    other_vectors(t, s, b, iv, keys, tree, u, lcs, corrections, v, hashes);
+    let first = 0;
+    let last = s.tau - 1;
+    vector_of_u(t, s, first, b, iv, keys, tree, lcs, u, v, hashes);
+    other_vectors(
+        t,
+        s,
+        last,
+        b,
+        iv,
+        keys,
+        tree,
+        u,
+        lcs,
+        corrections,
+        v,
+        hashes,
+    );
     let w = s.w;
     buffers::clear_from(v, b * (128 - w));
 }

@@ -1,5 +1,5 @@
 -- What the definitions compute, and what they are not.
-pub mod Standards
+pub mod PrimitiveInputs
 pub mod Examples
 pub mod Refusals
 pub mod WorkedExample

@@ -2,17 +2,17 @@
 -- By computing one element in which the two differ. Assumes nothing.
 use Prim.Native.Nat.{ℕ, zero, suc, _+_, _-_, _*_}
 use mathlib.Core.Path.{_≡_, subst}
-use mathlib.Core.Bool.{Bool, true, false, not, cond}
+use mathlib.Core.Bool.{Bool, not, cond}
 use mathlib.Core.List.{List, [], _∷_, _++_}
 use lib.Dec.{T, T-not, eqb, eqb-refl, leb}
 use lib.ListN.{length, getD, take}
 use Rattle.spec.specs.declared.Shape.{Shape}
 use Rattle.spec.specs.Bytes.{tabulate, concat, zeros, allZero, xorBelow, number}
-use Rattle.spec.specs.Tree.{parent, isAncestorWithin, isAncestor, some, covered, siblingToReveal, revealedFrom, revealed, nodeCount, expandTree}
+use Rattle.spec.specs.Tree.{parent, isAncestorWithin, isAncestor, some, covered, siblingToReveal, revealedFrom, revealed, nodeCount}
 use Rattle.spec.specs.Challenge.{bitAt, bitsAt, indexAt, clearAt}
 use Rattle.spec.specs.Shapes.{level, nodeBytes, challengeBytes, leafCommitmentBytes, depthOf, entriesOf, firstBit, firstEntry, leaves, leafOf, shapeOk, hiddenIndex, hiddenLeaf, hiddenLeaves, grindingOk, planned, plannedCount, treeBytes, leafCommitmentsBytes, openingBytes}
 use Rattle.spec.specs.Primitives.{prg}
-use Rattle.spec.specs.Leaves.{nodeAt, leafKey, children, stretched, leafSeed}
+use Rattle.spec.specs.Leaves.{nodeAt, leafKey, stretched, leafSeed}
 use Rattle.spec.specs.Rows.{rowByte, uByte}
 use Rattle.spec.specs.Signer.{signerU, correction, corrections, leafCommitmentAt, openingOf}
 use Rattle.spec.specs.Calls.{written, nodesOk, planNumber, openNumber}

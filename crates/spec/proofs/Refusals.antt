@@ -2,7 +2,7 @@
 -- them, the borders of shapes and row lengths. Assumes nothing.
 use Prim.Native.Nat.{ℕ, _+_, _*_}
 use mathlib.Core.Path.{_≡_, refl}
-use mathlib.Core.Bool.{Bool, true, false}
+use mathlib.Core.Bool.{true, false}
 use mathlib.Core.List.{List, [], _∷_, _++_}
 use Rattle.spec.specs.declared.Shape.{Shape}
 use Rattle.spec.specs.Bytes.{tabulate, zeros, allZero, number}
@@ -10,7 +10,7 @@ use Rattle.spec.specs.Tree.{parent, isAncestorWithin, isAncestor, some, 
 use Rattle.spec.specs.Challenge.{bitAt, bitsAt, indexAt, clearAt}
 use Rattle.spec.specs.Shapes.{faest128s, level, nodeBytes, challengeBytes, leafCommitmentBytes, hashBytes, depthOf, firstBit, leaves, leafOf, shapeOk, hiddenIndex, hiddenLeaf, hiddenLeaves, grindingOk, planned, plannedCount, treeBytes, leafCommitmentsBytes, openingBytes, matrixBytes, correctionsBytes}
 use Rattle.spec.specs.Verifier.{slotsOk}
-use Rattle.spec.specs.Calls.{rowOk, nodesOk, countWith, decodeNumber, Committed, commitNumber, openNumber, Reconstructed, reconstructNumber}
+use Rattle.spec.specs.Calls.{rowOk, nodesOk, countWith, decodeNumber, commitNumber, openNumber, reconstructNumber}
 
 abbrev pub shape : ℕ → ℕ → ℕ → ℕ → Shape
 shape tau k w t = record { tau = tau; k = k; w = w; t = t }

@@ -1,5 +1,5 @@
 -- FIPS 197, section 5: AES with a key of nk words (4, 6 or 8) in nk + 6 rounds. A word is a list of four bytes, a state the list of its four columns.
-use mathlib.Core.Bool.{Bool, true, false, _&&_, cond}
+use mathlib.Core.Bool.{_&&_, cond}
 use mathlib.Core.List.{List, [], _∷_, _++_}
 use Prim.Native.Nat.{ℕ, zero, suc, _+_, _*_, _/_, _%_, _-_}
 use lib.Bits.{bitXor}

@@ -1,5 +1,5 @@
 -- Document 000, section 5.5.1; document 01, "Challenge, nodes and opening": the bits of a challenge. Bit 0 is the least bit of byte 0.
-use Prim.Native.Nat.{ℕ, _+_, _*_, _/_, _%_, _^_}
+use Prim.Native.Nat.{ℕ, _+_, _/_, _%_}
 use mathlib.Core.Bool.{Bool}
 use mathlib.Core.List.{List}
 use lib.ListN.{getD}

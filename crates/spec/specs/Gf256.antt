@@ -1,7 +1,7 @@
 -- FIPS 197, sections 4.2, 4.4 and 5.1.1: the field GF(2^8) and the S-box. A byte is a polynomial; bit i is the coefficient of x^i.
 use mathlib.Core.Path.{_≡_}
 use mathlib.Core.List.{List}
-use Prim.Native.Nat.{ℕ, zero, suc, _+_, _*_, _/_, _%_, _^_, _<_}
+use Prim.Native.Nat.{ℕ, zero, suc, _+_, _%_, _<_}
 use lib.ListN.{getD}
 use Rattle.spec.specs.Bytes.{bit, tabulate, number}
 use Rattle.spec.specs.Polynomials.{fieldProduct}

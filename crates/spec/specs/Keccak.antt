@@ -1,8 +1,8 @@
 -- FIPS 202, section 3: Keccak-f[1600] on lanes. A lane is a number below 2^64 whose bit z is A[x, y, z]; the state is the list of 25 lanes, lane (x, y)
 -- at place 5 * y + x.
 use Prim.Native.Nat.{ℕ, zero, suc, _+_, _-_, _*_, _/_, _%_, _^_}
-use mathlib.Core.List.{List, [], _∷_}
-use mathlib.Core.Bool.{Bool, true, false, cond}
+use mathlib.Core.List.{List}
+use mathlib.Core.Bool.{cond}
 use lib.ListN.{getD, set}
 use lib.Bits.{bitAnd, bitXor}
 use lib.Dec.{ltb}

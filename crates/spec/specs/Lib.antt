@@ -1,5 +1,5 @@
--- The definitions of the base, in the order in which to read them. Nothing is proved here: ../proofs has the worked examples, crates/laws,
--- crates/planning_laws and crates/theorems the laws. "Document 000" is the FAEST specification, version 2.0, "document 01" the requirements paper;
+-- The definitions of the base, in the order in which to read them. Nothing is proved here: ../proofs has the worked examples, crates/standards,
+-- crates/laws, crates/planning_laws and crates/theorems the laws. "Document 000" is the FAEST specification, version 2.0, "document 01" the requirements paper;
 -- docs/DECISIONS.md says how open points of both are read.
 
 -- strings of bytes, polynomials over GF(2)

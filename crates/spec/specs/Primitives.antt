@@ -1,4 +1,4 @@
--- The four primitives that section 5 of document 000 is built on, as one record: the definitions that use it know nothing of AES, SHAKE or the field.
+-- The four primitives that section 5 of document 000 is built on, as one record: the definitions that use it do not depend on AES, SHAKE or the field.
 use mathlib.Core.List.{List}
 use Prim.Native.Nat.{ℕ}
 use Rattle.spec.specs.declared.Shape.{Shape}
@@ -8,7 +8,7 @@ use Rattle.spec.specs.Generator.{generatorByte}
 use Rattle.spec.specs.Hashes.{hash0, hash1}
 use Rattle.spec.specs.LeafHash.{leafHashByte}
 
--- each takes the shape, which has the level
+-- each takes the shape, since a shape may come to say the level
 pub record Primitives : Type 0 where
   -- key, IV, tweak, p: byte p of the generator's output
   pub prgByte : Shape → List ℕ → List ℕ → ℕ → ℕ → ℕ

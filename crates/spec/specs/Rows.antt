@@ -1,6 +1,6 @@
--- Document 000, section 5.4; document 01, "Rows and matrices": the rows of a vector, its u, its columns, and the matrix of all columns. b is the length
+-- Document 000, sections 5.4 and 5.5.2; document 01, "Rows and matrices": the rows of a vector, its u, its columns, and the matrix of all columns. b is the length
 -- of a row in bytes.
-use Prim.Native.Nat.{ℕ, _+_, _*_, _/_, _%_, _^_}
+use Prim.Native.Nat.{ℕ, _+_, _*_, _^_}
 use mathlib.Core.List.{List, _++_}
 use Rattle.spec.specs.declared.Shape.{Shape}
 use Rattle.spec.specs.Bytes.{bit, concat, zeros, xorBelow}

@@ -1,7 +1,7 @@
 -- Document 01, "The shape and the tree": shapes, the numbers and widths that a shape gives, and what it makes of a challenge. s is a resolved shape.
--- A later request changes a definition here, behind its name.
-use Prim.Native.Nat.{ℕ, _+_, _-_, _*_, _/_, _%_, _^_}
-use mathlib.Core.Bool.{Bool, true, false, _&&_, cond}
+-- Other levels and depths change only definitions of this file: all others use their names.
+use Prim.Native.Nat.{ℕ, _+_, _-_, _*_, _/_, _^_}
+use mathlib.Core.Bool.{Bool, _&&_, cond}
 use mathlib.Core.List.{List, [], _∷_}
 use lib.Dec.{leb, eqb}
 use Rattle.spec.specs.declared.Shape.{Shape}

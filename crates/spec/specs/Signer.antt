@@ -8,8 +8,8 @@ use Rattle.spec.specs.Bytes.{part, tabulate, concat, zeros}
 use Rattle.spec.specs.Tree.{expandTree}
 use Rattle.spec.specs.Shapes.{nodeBytes, leafCommitmentBytes, firstEntry, leaves, hiddenIndex, planned, plannedCount}
 use Rattle.spec.specs.Primitives.{Primitives}
-use Rattle.spec.specs.Leaves.{nodeAt, leafKey, children, leafCommitment, leafCommitments, commitmentOf}
-use Rattle.spec.specs.Rows.{uByte, columnByte, matrixOf}
+use Rattle.spec.specs.Leaves.{nodeAt, leafKey, children, leafCommitment}
+use Rattle.spec.specs.Rows.{uByte, columnByte}
 
 -- ---- BAVC.Commit, figure 5.4
 

@@ -24,7 +24,7 @@ hiddenLeafCommitment s opening i = part opening (leafCommitmentBytes s * i) (lea
 unfoldable pub slot : Shape → List ℕ → ℕ → List ℕ
 slot s opening m = part opening (leafCommitmentBytes s * s .tau + nodeBytes s * m) (nodeBytes s)
 
--- the unused slots hold zeros: refusal 6; of figure 5.5, line 22, only "not all zeroes" refuses
+-- the unused slots hold zeros, else refusal 6: of figure 5.5, line 22, only "not all zeroes" refuses
 unfoldable pub slotsOk : Shape → List ℕ → List ℕ → Bool
 slotsOk s ch opening = allZero (drop (leafCommitmentBytes s * s .tau + nodeBytes s * plannedCount s ch) opening)
 

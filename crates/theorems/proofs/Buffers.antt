@@ -2,8 +2,8 @@
 -- each by the law of blocks laid one after another. Assumes nothing.
 use Prim.Native.Nat.{ℕ, zero, suc, _+_, _-_, _*_, _≤_, _<_}
 use mathlib.Core.Path.{_≡_, refl, sym, ap, ap₂, _∙_, subst}
-use mathlib.Core.Bool.{Bool, true, false}
-use mathlib.Core.List.{List, [], _∷_, _++_}
+use mathlib.Core.Bool.{true}
+use mathlib.Core.List.{List, _++_}
 use native.Mathlib.Omega.{arith}
 use native.Mathlib.Nat.{mul-zero, mul-add}
 use native.Mathlib.Decide.{decLt}
@@ -11,8 +11,8 @@ use lib.ListN.{length, getD, replicate, length-append}
 use lib.Seq.{drop-at}
 use Rattle.spec.specs.declared.Shape.{Shape}
 use Rattle.spec.specs.Bytes.{part, concat, zeros, allZero}
-use Rattle.spec.specs.Tree.{revealed, nodeCount}
-use Rattle.spec.specs.Shapes.{level, nodeBytes, leafCommitmentBytes, depthOf, entriesOf, firstBit, firstEntry, leaves, hiddenIndex, hiddenLeaves, planned, plannedCount, treeBytes, leafCommitmentsBytes, openingBytes, matrixBytes}
+use Rattle.spec.specs.Tree.{revealed}
+use Rattle.spec.specs.Shapes.{nodeBytes, leafCommitmentBytes, depthOf, entriesOf, firstBit, firstEntry, leaves, hiddenIndex, hiddenLeaves, planned, plannedCount, treeBytes, leafCommitmentsBytes, openingBytes}
 use Rattle.spec.specs.Leaves.{nodeAt, vectorCommitments, leafCommitments}
 use Rattle.spec.specs.Rows.{matrixOf}
 use Rattle.spec.specs.Signer.{leafCommitmentAt, openingOf}
@@ -166,15 +166,6 @@ module _ (s : Shape) (f : ShapeLaws s) (b : ℕ) (column : ℕ → ℕ → List 
       go : Dec (i < n) → (i < n → firstBit s i + depthOf s i ≤ firstBit s n) → firstBit s i + depthOf s i ≤ firstBit s (suc n)
       go (yes l) ih = (let x = ih l in let y = f .bit-next n in omega arith)
       go (no l) ih = subst (λ (x : ℕ). firstBit s i + depthOf s i ≤ firstBit s (suc x)) (let z : i ≡ n = omega arith in z) (let y = f .bit-next i in omega arith)
-
-  pub matrix-length : length (matrixOf s b column) ≡ matrixBytes s b
-  unfolding matrixOf matrixBytes
-  matrix-length =
-      let a = m-length in
-      let c = length-zeros (b * s .w) in
-      let d = ap (λ (n : ℕ). b * n) (f .bit-all) in
-      let e = mul-add b (firstBit s (s .tau)) (s .w) in
-      simp length-append (omega arith)
 
   pub matrix-column : (i j : ℕ) → i < s .tau → j < depthOf s i → part (matrixOf s b column) (b * (firstBit s i + j)) b ≡ column i j
   unfolding matrixOf

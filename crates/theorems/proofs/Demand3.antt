@@ -2,12 +2,12 @@
 -- the unused slots are zeros; what they write is then that of `Reconstruction`. Assumes nothing.
 use Prim.Native.Nat.{ℕ, _/_, _≤_, _<_}
 use mathlib.Core.Path.{_≡_, refl, sym, ap, ap₂, _∙_, subst}
-use mathlib.Core.Bool.{Bool, true, false, _&&_, cond, true≢false}
+use mathlib.Core.Bool.{Bool, true, false, cond, true≢false}
 use mathlib.Core.List.{List, [], _∷_}
 use native.Mathlib.Omega.{arith}
 use lib.Dec.{eqb, leb}
-use lib.ListN.{length, getD}
-use borrow.Author.Tests.{eq-eqb, eqb-true, le-leb, lt-leb, leb-false}
+use lib.ListN.{length}
+use borrow.Author.Tests.{eq-eqb, le-leb, lt-leb, leb-false}
 use Rattle.spec.specs.declared.Shape.{Shape}
 use Rattle.spec.specs.declared.Answer.{Answer}
 use Rattle.spec.specs.Shapes.{resolved, shapeOk, challengeBytes, hashBytes, grindingOk, plannedCount, treeBytes, leafCommitmentsBytes, openingBytes, matrixBytes}
@@ -15,7 +15,7 @@ use Rattle.spec.specs.Primitives.{Primitives}
 use Rattle.spec.specs.Leaves.{leafCommitments}
 use Rattle.spec.specs.Signer.{signerTree, signerLeafCommitment, corrections, openingOf}
 use Rattle.spec.specs.Verifier.{slotsOk}
-use Rattle.spec.specs.Calls.{firstRefusal, fits, countWith, written, rowOk, nodesOk, Committed, committed, commitLengths, commitNumber, Commit, openLengths, openNumber, Open, Reconstructed, reconstructed, reconstructLengths, reconstructNumber, Reconstruct}
+use Rattle.spec.specs.Calls.{firstRefusal, fits, countWith, written, rowOk, nodesOk, Committed, committed, commitLengths, commitNumber, openLengths, openNumber, Open, Reconstructed, reconstructed, reconstructLengths, reconstructNumber, Reconstruct}
 use Rattle.planning_laws.proofs.ShapeLaws.{shape-laws}
 use Rattle.laws.specs.Lengths.{Sized}
 use Rattle.laws.proofs.Lengths.{sized-fits, fits-sized}

@@ -1,4 +1,4 @@
-pub mod Standards
+-- The proofs of the statements in ../specs, and the laws that they cite.
 pub mod Columns
 pub mod Buffers
 pub mod Reconstruction

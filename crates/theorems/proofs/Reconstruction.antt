@@ -1,9 +1,9 @@
 -- The verifier, lent what the opener made of the signer's tree and leaf commitments, finds the signer's nodes where they are not covered, all leaf
 -- commitments, and columns by the column rule. The trees by induction on the nodes expanded: the children of a covered node are revealed or covered, those
 -- of any other node come from it in both trees. Assumes nothing.
-use Prim.Native.Nat.{ℕ, zero, suc, _+_, _-_, _*_, _/_, _%_, _^_, _≤_, _<_}
+use Prim.Native.Nat.{ℕ, zero, suc, _+_, _-_, _*_, _^_, _≤_, _<_}
 use mathlib.Core.Path.{_≡_, refl, sym, ap, ap₂, _∙_, subst}
-use mathlib.Core.Bool.{Bool, true, false, _||_, cond, true≢false}
+use mathlib.Core.Bool.{Bool, true, false, _||_, cond, or-true}
 use mathlib.Core.List.{List, [], _∷_, _++_}
 use native.Mathlib.Omega.{arith}
 use native.Mathlib.Nat.{mul-zero, zero-mul, one-mul}
@@ -17,12 +17,13 @@ use Rattle.spec.specs.declared.Shape.{Shape}
 use Rattle.spec.specs.Bytes.{bit, part, tabulate, concat, zeros, xorBytes, xorBelow, indexOf}
 use Rattle.spec.specs.Challenge.{bitAt}
 use Rattle.spec.specs.Tree.{some, covered, nodeCount, expandTree}
-use Rattle.spec.specs.Shapes.{level, nodeBytes, leafCommitmentBytes, depthOf, entriesOf, firstBit, firstEntry, leaves, leafOf, hiddenIndex, hiddenLeaves, planned, plannedCount, treeBytes, leafCommitmentsBytes, correctionsBytes, grindingOk}
+use Rattle.spec.specs.Shapes.{level, nodeBytes, leafCommitmentBytes, depthOf, entriesOf, firstBit, leaves, leafOf, hiddenIndex, hiddenLeaves, planned, plannedCount, treeBytes, leafCommitmentsBytes, correctionsBytes, grindingOk}
 use Rattle.spec.specs.Primitives.{Primitives, prg}
 use Rattle.spec.specs.Leaves.{nodeAt, leafKey, children, leafSeed, leafCommitment, vectorCommitments, leafCommitments, vectorHash, commitmentOf}
 use Rattle.spec.specs.Rows.{rowByte, uByte, columnByte, matrixOf}
-use Rattle.spec.specs.Signer.{signerTree, signerLeafCommitment, signerU, signerColumn, correction, corrections, leafCommitmentAt, openingOf}
+use Rattle.spec.specs.Signer.{signerTree, signerLeafCommitment, signerU, signerColumn, correction, corrections, openingOf}
 use Rattle.spec.specs.Verifier.{hiddenLeafCommitment, slot, givenNode, reconstructedChildren, reconstructedTree, verifierLeafCommitment, correctionByte, verifierColumn}
+use Rattle.laws.proofs.Conjunctions.{contrary}
 use Rattle.laws.proofs.Lists.{length-tabulate, getD-tabulate, tabulate-same, tabulate-xor, length-part, getD-part, length-zeros}
 use Rattle.laws.proofs.Concat.{part-front, part-after, part-whole, even-length, even-part, concat-same, mul-within}
 use Rattle.planning_laws.proofs.Covered.{covered-leaf, covered-inner, root-covered}
@@ -32,18 +33,11 @@ use Rattle.planning_laws.proofs.ExpandTree.{expand-length, expand-front, expand
 use Rattle.planning_laws.proofs.ShapeLaws.{ShapeLaws, hidden-bit, hidden-at, grinding-bit}
 use Rattle.theorems.specs.Demands.{ColumnRule}
 use Rattle.theorems.proofs.Columns.{hidden-column, hidden-unused, corrected-column}
-use Rattle.theorems.proofs.Buffers.{commitments-length, commitments-at, opening-hidden, opening-slot, matrix-column, matrix-rest, At, find}
+use Rattle.theorems.proofs.Buffers.{commitments-length, commitments-at, opening-hidden, opening-slot, matrix-column, matrix-rest, find}
 
 prg-long : (P : Primitives) (s : Shape) (key iv : List ℕ) (tweak n : ℕ) → length (prg P s key iv tweak n) ≡ n
 unfolding prg
 prg-long P s key iv tweak n = length-tabulate n (P .prgByte s key iv tweak)
-
-no-both : {A : Type 0} (b : Bool) → b ≡ true → b ≡ false → A
-no-both b p q = absurd (true≢false (sym p ∙ q))
-
-or-true : (b : Bool) → (b || true) ≡ true
-or-true true = refl
-or-true false = refl
 
 -- a number that is no member of the list
 not-hidden : (x : ℕ) (hs : List ℕ) → ((m : ℕ) → m < length hs → x ≡ getD hs m 0 → ⊥) → some (eqb x) hs ≡ false
@@ -56,9 +50,9 @@ root-hidden [] h = absurd (omega arith)
 root-hidden (x ∷ hs) h = root-covered x hs
 
 -- a leaf that is not hidden is not covered
-pub leaf-bare : (s : Shape) → ShapeLaws s → (ch : List ℕ) (i j : ℕ) → i < s .tau → j < entriesOf s i → (j ≡ hiddenIndex s ch i → ⊥)
+pub leaf-uncovered : (s : Shape) → ShapeLaws s → (ch : List ℕ) (i j : ℕ) → i < s .tau → j < entriesOf s i → (j ≡ hiddenIndex s ch i → ⊥)
     → covered (hiddenLeaves s ch) (leafOf s i j) ≡ false
-leaf-bare s f ch i j h l d =
+leaf-uncovered s f ch i j h l d =
     covered-leaf (leaves s) (leafOf s i j) (hiddenLeaves s ch) (hidden-leaves s ch) (f .leaf-low i j h l)
     ∙ not-hidden (leafOf s i j) (hiddenLeaves s ch)
     (λ m k e.
@@ -70,8 +64,8 @@ module _ (P : Primitives) (s : Shape) (f : ShapeLaws s) (root iv : List ℕ) (ro
   abbrev Tree : List ℕ
   Tree = signerTree P s root iv
 
-  abbrev Coms : List ℕ
-  Coms = leafCommitments s (signerLeafCommitment P s iv (signerTree P s root iv))
+  abbrev SignerCommitments : List ℕ
+  SignerCommitments = leafCommitments s (signerLeafCommitment P s iv (signerTree P s root iv))
 
   kids-long : (a : ℕ) → a < leaves s - 1 → (x : List ℕ) → length (children P s iv a x) ≡ 2 * nodeBytes s
   unfolding children
@@ -91,7 +85,7 @@ module _ (P : Primitives) (s : Shape) (f : ShapeLaws s) (root iv : List ℕ) (ro
   unfolding signerLeafCommitment
   signer-long i j h l = commitment-long i (leafKey s Tree i j)
 
-  pub signer-commitments-length : length Coms ≡ leafCommitmentsBytes s
+  pub signer-commitments-length : length SignerCommitments ≡ leafCommitmentsBytes s
   signer-commitments-length = commitments-length s f (signerLeafCommitment P s iv Tree) signer-long
 
   pub corrections-length : (b : ℕ) → length (corrections P s b iv Tree) ≡ correctionsBytes s b
@@ -105,14 +99,14 @@ module _ (P : Primitives) (s : Shape) (f : ShapeLaws s) (root iv : List ℕ) (ro
     abbrev Opened : List ℕ
     Opened = openingOf s ch (signerTree P s root iv) (leafCommitments s (signerLeafCommitment P s iv (signerTree P s root iv)))
 
-    abbrev Again : List ℕ
-    Again = reconstructedTree P s iv ch Opened
+    abbrev CheckedTree : List ℕ
+    CheckedTree = reconstructedTree P s iv ch Opened
 
     abbrev Hides : ℕ → Bool
     Hides a = covered (hiddenLeaves s ch) a
 
-    abbrev Kids : ℕ → List ℕ → List ℕ
-    Kids = reconstructedChildren P s iv ch Opened
+    abbrev CheckedChildren : ℕ → List ℕ → List ℕ
+    CheckedChildren = reconstructedChildren P s iv ch Opened
 
     root-hides : Hides 0 ≡ true
     root-hides = root-hidden (hiddenLeaves s ch) (let a = hidden-count s ch in let b = f .tau-pos in omega arith)
@@ -121,7 +115,7 @@ module _ (P : Primitives) (s : Shape) (f : ShapeLaws s) (root iv : List ℕ) (ro
     slot-is : (c : ℕ) → In c (planned s ch) → slot s Opened (indexOf c (planned s ch)) ≡ nodeAt s Tree c
     unfolding planned plannedCount nodeCount
     slot-is c m =
-        opening-slot s f ch Tree Coms tree-length signer-commitments-length (indexOf c (planned s ch)) (m .here) ∙ ap (nodeAt s Tree) (m .same)
+        opening-slot s f ch Tree SignerCommitments tree-length signer-commitments-length (indexOf c (planned s ch)) (m .here) ∙ ap (nodeAt s Tree) (m .same)
 
     in-left : (a : ℕ) → a + 1 < leaves s → Hides a ≡ true → Hides (2 * a + 1) ≡ false → In (2 * a + 1) (planned s ch)
     unfolding planned
@@ -138,7 +132,7 @@ module _ (P : Primitives) (s : Shape) (f : ShapeLaws s) (root iv : List ℕ) (ro
         let b = mul-within (nodeBytes s) c (2 * leaves s - 1) h in
         length-part Tree (nodeBytes s * c) (nodeBytes s) (omega arith)
 
-    -- what a child of a covered node is givenNode
+    -- what a child of a covered node is given has the length of a node
     given-long : (c : ℕ) → c < 2 * leaves s - 1 → (Hides c ≡ false → In c (planned s ch)) → length (givenNode s ch Opened c) ≡ nodeBytes s
     unfolding givenNode
     given-long c h m = go (Hides c) refl
@@ -151,7 +145,7 @@ module _ (P : Primitives) (s : Shape) (f : ShapeLaws s) (root iv : List ℕ) (ro
     unfolding givenNode
     given-is c e m = ap (λ (b : Bool). cond b (zeros (nodeBytes s)) (slot s Opened (indexOf c (planned s ch)))) e ∙ slot-is c m
 
-    again-long : (a : ℕ) → a < leaves s - 1 → (x : List ℕ) → length (Kids a x) ≡ 2 * nodeBytes s
+    again-long : (a : ℕ) → a < leaves s - 1 → (x : List ℕ) → length (CheckedChildren a x) ≡ 2 * nodeBytes s
     unfolding reconstructedChildren
     again-long a h x = go (Hides a) refl
       where
@@ -176,14 +170,14 @@ module _ (P : Primitives) (s : Shape) (f : ShapeLaws s) (root iv : List ℕ) (ro
     signed-front = expand-front (nodeBytes s) root (children P s iv) (leaves s - 1) root-long kids-long
 
     checked-front : (n m c : ℕ) → n ≤ m → m ≤ leaves s - 1 → c < 2 * n + 1 → Node (Checked m) c ≡ Node (Checked n) c
-    checked-front = expand-front (nodeBytes s) (zeros (nodeBytes s)) Kids (leaves s - 1) (length-zeros (nodeBytes s)) again-long
+    checked-front = expand-front (nodeBytes s) (zeros (nodeBytes s)) CheckedChildren (leaves s - 1) (length-zeros (nodeBytes s)) again-long
 
     tree-node : (n c : ℕ) → n ≤ leaves s - 1 → c < 2 * n + 1 → nodeAt s Tree c ≡ Node (Signed n) c
     unfolding nodeAt signerTree
     tree-node n c h l = signed-front n (leaves s - 1) c h (omega arith) l
 
     -- the children of a node that is covered
-    covered-left : (n : ℕ) (x : List ℕ) → n < leaves s - 1 → Hides n ≡ true → Hides (2 * n + 1) ≡ false → part (Kids n x) 0 (nodeBytes s) ≡ nodeAt s Tree (2 * n + 1)
+    covered-left : (n : ℕ) (x : List ℕ) → n < leaves s - 1 → Hides n ≡ true → Hides (2 * n + 1) ≡ false → part (CheckedChildren n x) 0 (nodeBytes s) ≡ nodeAt s Tree (2 * n + 1)
     unfolding reconstructedChildren
     covered-left n x h e d =
         let p = given-long (2 * n + 1) (omega arith) (in-left n (omega arith) e) in
@@ -192,7 +186,7 @@ module _ (P : Primitives) (s : Shape) (f : ShapeLaws s) (root iv : List ℕ) (ro
         ∙ part-whole (givenNode s ch Opened (2 * n + 1)) (nodeBytes s) p
         ∙ given-is (2 * n + 1) d (in-left n (omega arith) e d)
 
-    covered-right : (n : ℕ) (x : List ℕ) → n < leaves s - 1 → Hides n ≡ true → Hides (2 * n + 2) ≡ false → part (Kids n x) (nodeBytes s) (nodeBytes s) ≡ nodeAt s Tree (2 * n + 2)
+    covered-right : (n : ℕ) (x : List ℕ) → n < leaves s - 1 → Hides n ≡ true → Hides (2 * n + 2) ≡ false → part (CheckedChildren n x) (nodeBytes s) (nodeBytes s) ≡ nodeAt s Tree (2 * n + 2)
     unfolding reconstructedChildren
     covered-right n x h e d =
         let p = given-long (2 * n + 1) (omega arith) (in-left n (omega arith) e) in
@@ -202,16 +196,16 @@ module _ (P : Primitives) (s : Shape) (f : ShapeLaws s) (root iv : List ℕ) (ro
         ∙ part-whole (givenNode s ch Opened (2 * n + 2)) (nodeBytes s) q
         ∙ given-is (2 * n + 2) d (in-right n (omega arith) e d)
 
-    bare : (n : ℕ) (x : List ℕ) → Hides n ≡ false → Kids n x ≡ children P s iv n x
+    bare : (n : ℕ) (x : List ℕ) → Hides n ≡ false → CheckedChildren n x ≡ children P s iv n x
     unfolding reconstructedChildren
     bare n x e = ap (λ (b : Bool). cond b (givenNode s ch Opened (2 * n + 1) ++ givenNode s ch Opened (2 * n + 2)) (children P s iv n x)) e
 
     left-same : (n : ℕ) → n < leaves s - 1 → (Hides n ≡ false → Node (Checked n) n ≡ Node (Signed n) n) → Hides (2 * n + 1) ≡ false
         → Node (Checked (suc n)) (2 * n + 1) ≡ Node (Signed (suc n)) (2 * n + 1)
     left-same n h ih d =
-        expand-left (nodeBytes s) (zeros (nodeBytes s)) Kids (leaves s - 1) (length-zeros (nodeBytes s)) again-long n (omega arith) ∙ go (Hides n) refl
+        expand-left (nodeBytes s) (zeros (nodeBytes s)) CheckedChildren (leaves s - 1) (length-zeros (nodeBytes s)) again-long n (omega arith) ∙ go (Hides n) refl
       where
-        go : (b : Bool) → Hides n ≡ b → part (Kids n (Node (Checked n) n)) 0 (nodeBytes s) ≡ Node (Signed (suc n)) (2 * n + 1)
+        go : (b : Bool) → Hides n ≡ b → part (CheckedChildren n (Node (Checked n) n)) 0 (nodeBytes s) ≡ Node (Signed (suc n)) (2 * n + 1)
         go true e = covered-left n (Node (Checked n) n) h e d ∙ tree-node (suc n) (2 * n + 1) h (omega arith)
         go false e =
             ap (λ (l : List ℕ). part l 0 (nodeBytes s)) (bare n (Node (Checked n) n) e ∙ ap (children P s iv n) (ih e))
@@ -220,9 +214,9 @@ module _ (P : Primitives) (s : Shape) (f : ShapeLaws s) (root iv : List ℕ) (ro
     right-same : (n : ℕ) → n < leaves s - 1 → (Hides n ≡ false → Node (Checked n) n ≡ Node (Signed n) n) → Hides (2 * n + 2) ≡ false
         → Node (Checked (suc n)) (2 * n + 2) ≡ Node (Signed (suc n)) (2 * n + 2)
     right-same n h ih d =
-        expand-right (nodeBytes s) (zeros (nodeBytes s)) Kids (leaves s - 1) (length-zeros (nodeBytes s)) again-long n (omega arith) ∙ go (Hides n) refl
+        expand-right (nodeBytes s) (zeros (nodeBytes s)) CheckedChildren (leaves s - 1) (length-zeros (nodeBytes s)) again-long n (omega arith) ∙ go (Hides n) refl
       where
-        go : (b : Bool) → Hides n ≡ b → part (Kids n (Node (Checked n) n)) (nodeBytes s) (nodeBytes s) ≡ Node (Signed (suc n)) (2 * n + 2)
+        go : (b : Bool) → Hides n ≡ b → part (CheckedChildren n (Node (Checked n) n)) (nodeBytes s) (nodeBytes s) ≡ Node (Signed (suc n)) (2 * n + 2)
         go true e = covered-right n (Node (Checked n) n) h e d ∙ tree-node (suc n) (2 * n + 2) h (omega arith)
         go false e =
             ap (λ (l : List ℕ). part l (nodeBytes s) (nodeBytes s)) (bare n (Node (Checked n) n) e ∙ ap (children P s iv n) (ih e))
@@ -230,7 +224,7 @@ module _ (P : Primitives) (s : Shape) (f : ShapeLaws s) (root iv : List ℕ) (ro
 
     -- every node that is not covered is the signer's
     nodes-same : (n : ℕ) → n ≤ leaves s - 1 → (c : ℕ) → c < 2 * n + 1 → Hides c ≡ false → Node (Checked n) c ≡ Node (Signed n) c
-    nodes-same zero h c l d = no-both (Hides 0) root-hides (ap Hides (let z : 0 ≡ c = omega arith in z) ∙ d)
+    nodes-same zero h c l d = contrary root-hides (ap Hides (let z : 0 ≡ c = omega arith in z) ∙ d)
     nodes-same (suc n) h c l d = go (decLt c (2 * n + 1)) (ℕ-discrete c (2 * n + 1)) (nodes-same n (omega arith))
       where
         go : Dec (c < 2 * n + 1) → Dec (c ≡ 2 * n + 1) → ((c : ℕ) → c < 2 * n + 1 → Hides c ≡ false → Node (Checked n) c ≡ Node (Signed n) c)
@@ -242,7 +236,7 @@ module _ (P : Primitives) (s : Shape) (f : ShapeLaws s) (root iv : List ℕ) (ro
             let g : c ≡ 2 * n + 2 = omega arith in
             subst (λ (m : ℕ). Node (Checked (suc n)) m ≡ Node (Signed (suc n)) m) (sym g) (right-same n h (ih n (omega arith)) (ap Hides (sym g) ∙ d))
 
-    pub node-same : (c : ℕ) → c < 2 * leaves s - 1 → Hides c ≡ false → nodeAt s Again c ≡ nodeAt s Tree c
+    pub node-same : (c : ℕ) → c < 2 * leaves s - 1 → Hides c ≡ false → nodeAt s CheckedTree c ≡ nodeAt s Tree c
     unfolding nodeAt signerTree reconstructedTree
     node-same c h d = nodes-same (leaves s - 1) (omega arith) c (omega arith) d
 
@@ -264,7 +258,7 @@ module _ (P : Primitives) (s : Shape) (f : ShapeLaws s) (root iv : List ℕ) (ro
     left-zero n h d =
         let e = above-left n (omega arith) d in
         let p = given-long (2 * n + 1) (omega arith) (in-left n (omega arith) e) in
-        expand-left (nodeBytes s) (zeros (nodeBytes s)) Kids (leaves s - 1) (length-zeros (nodeBytes s)) again-long n (omega arith)
+        expand-left (nodeBytes s) (zeros (nodeBytes s)) CheckedChildren (leaves s - 1) (length-zeros (nodeBytes s)) again-long n (omega arith)
         ∙ ap (λ (b : Bool). part (cond b (givenNode s ch Opened (2 * n + 1) ++ givenNode s ch Opened (2 * n + 2)) (children P s iv n (Node (Checked n) n))) 0 (nodeBytes s)) e
         ∙ part-front (givenNode s ch Opened (2 * n + 1)) (givenNode s ch Opened (2 * n + 2)) 0 (nodeBytes s) (omega arith)
         ∙ part-whole (givenNode s ch Opened (2 * n + 1)) (nodeBytes s) p
@@ -276,7 +270,7 @@ module _ (P : Primitives) (s : Shape) (f : ShapeLaws s) (root iv : List ℕ) (ro
         let e = above-right n (omega arith) d in
         let p = given-long (2 * n + 1) (omega arith) (in-left n (omega arith) e) in
         let q = given-long (2 * n + 2) (omega arith) (in-right n (omega arith) e) in
-        expand-right (nodeBytes s) (zeros (nodeBytes s)) Kids (leaves s - 1) (length-zeros (nodeBytes s)) again-long n (omega arith)
+        expand-right (nodeBytes s) (zeros (nodeBytes s)) CheckedChildren (leaves s - 1) (length-zeros (nodeBytes s)) again-long n (omega arith)
         ∙ ap (λ (b : Bool). part (cond b (givenNode s ch Opened (2 * n + 1) ++ givenNode s ch Opened (2 * n + 2)) (children P s iv n (Node (Checked n) n))) (nodeBytes s) (nodeBytes s)) e
         ∙ part-after (givenNode s ch Opened (2 * n + 1)) (givenNode s ch Opened (2 * n + 2)) (nodeBytes s) 0 (nodeBytes s) (omega arith)
         ∙ part-whole (givenNode s ch Opened (2 * n + 2)) (nodeBytes s) q
@@ -298,49 +292,49 @@ module _ (P : Primitives) (s : Shape) (f : ShapeLaws s) (root iv : List ℕ) (ro
             let g : c ≡ 2 * n + 2 = omega arith in
             subst (λ (m : ℕ). Node (Checked (suc n)) m ≡ zeros (nodeBytes s)) (sym g) (right-zero n h (ap Hides (sym g) ∙ d))
 
-    pub node-zero : (c : ℕ) → c < 2 * leaves s - 1 → Hides c ≡ true → nodeAt s Again c ≡ zeros (nodeBytes s)
+    pub node-zero : (c : ℕ) → c < 2 * leaves s - 1 → Hides c ≡ true → nodeAt s CheckedTree c ≡ zeros (nodeBytes s)
     unfolding nodeAt reconstructedTree
     node-zero c h d = nodes-zero (leaves s - 1) (omega arith) c (omega arith) d
 
     -- ---- leaves
 
-    pub key-same : (i j : ℕ) → i < s .tau → j < entriesOf s i → (j ≡ hiddenIndex s ch i → ⊥) → leafKey s Again i j ≡ leafKey s Tree i j
+    pub key-same : (i j : ℕ) → i < s .tau → j < entriesOf s i → (j ≡ hiddenIndex s ch i → ⊥) → leafKey s CheckedTree i j ≡ leafKey s Tree i j
     unfolding leafKey
-    key-same i j h l d = (let k = f .leaf-high i j h l in node-same (leafOf s i j) (omega arith) (leaf-bare s f ch i j h l d))
+    key-same i j h l d = (let k = f .leaf-high i j h l in node-same (leafOf s i j) (omega arith) (leaf-uncovered s f ch i j h l d))
 
-    pub commitment-of-leaf : (i j : ℕ) → i < s .tau → j < entriesOf s i → verifierLeafCommitment P s iv ch Opened Again i j ≡ signerLeafCommitment P s iv Tree i j
+    pub commitment-of-leaf : (i j : ℕ) → i < s .tau → j < entriesOf s i → verifierLeafCommitment P s iv ch Opened CheckedTree i j ≡ signerLeafCommitment P s iv Tree i j
     unfolding verifierLeafCommitment signerLeafCommitment
     commitment-of-leaf i j h l = go (ℕ-discrete j (hiddenIndex s ch i))
       where
         go : Dec (j ≡ hiddenIndex s ch i)
-            → cond (eqb j (hiddenIndex s ch i)) (hiddenLeafCommitment s Opened i) (leafCommitment P s iv i (leafKey s Again i j)) ≡ leafCommitment P s iv i (leafKey s Tree i j)
+            → cond (eqb j (hiddenIndex s ch i)) (hiddenLeafCommitment s Opened i) (leafCommitment P s iv i (leafKey s CheckedTree i j)) ≡ leafCommitment P s iv i (leafKey s Tree i j)
         go (yes e) =
-            ap (λ (b : Bool). cond b (hiddenLeafCommitment s Opened i) (leafCommitment P s iv i (leafKey s Again i j))) (eq-eqb j (hiddenIndex s ch i) e)
-            ∙ opening-hidden s f ch Tree Coms tree-length signer-commitments-length i h
+            ap (λ (b : Bool). cond b (hiddenLeafCommitment s Opened i) (leafCommitment P s iv i (leafKey s CheckedTree i j))) (eq-eqb j (hiddenIndex s ch i) e)
+            ∙ opening-hidden s f ch Tree SignerCommitments tree-length signer-commitments-length i h
             ∙ commitments-at s f (signerLeafCommitment P s iv Tree) signer-long i (hiddenIndex s ch i) h (f .hidden-in ch i)
             ∙ ap (signerLeafCommitment P s iv Tree i) (sym e)
         go (no d) =
-            ap (λ (b : Bool). cond b (hiddenLeafCommitment s Opened i) (leafCommitment P s iv i (leafKey s Again i j))) (ne-eqb j (hiddenIndex s ch i) d)
+            ap (λ (b : Bool). cond b (hiddenLeafCommitment s Opened i) (leafCommitment P s iv i (leafKey s CheckedTree i j))) (ne-eqb j (hiddenIndex s ch i) d)
             ∙ ap (leafCommitment P s iv i) (key-same i j h l d)
 
-    vector-same : (i : ℕ) → i < s .tau → vectorCommitments s (verifierLeafCommitment P s iv ch Opened Again) i ≡ vectorCommitments s (signerLeafCommitment P s iv Tree) i
+    vector-same : (i : ℕ) → i < s .tau → vectorCommitments s (verifierLeafCommitment P s iv ch Opened CheckedTree) i ≡ vectorCommitments s (signerLeafCommitment P s iv Tree) i
     unfolding vectorCommitments
-    vector-same i h = concat-same (verifierLeafCommitment P s iv ch Opened Again i) (signerLeafCommitment P s iv Tree i) (entriesOf s i) (λ j l. commitment-of-leaf i j h l)
+    vector-same i h = concat-same (verifierLeafCommitment P s iv ch Opened CheckedTree i) (signerLeafCommitment P s iv Tree i) (entriesOf s i) (λ j l. commitment-of-leaf i j h l)
 
-    pub commitment-same : commitmentOf P s (verifierLeafCommitment P s iv ch Opened Again) ≡ commitmentOf P s (signerLeafCommitment P s iv Tree)
+    pub commitment-same : commitmentOf P s (verifierLeafCommitment P s iv ch Opened CheckedTree) ≡ commitmentOf P s (signerLeafCommitment P s iv Tree)
     unfolding commitmentOf vectorHash
     commitment-same =
-        ap (P .h1 s) (concat-same (λ i. P .h1 s (vectorCommitments s (verifierLeafCommitment P s iv ch Opened Again) i)) (λ i. P .h1 s (vectorCommitments s (signerLeafCommitment P s iv Tree) i)) (s .tau)
+        ap (P .h1 s) (concat-same (λ i. P .h1 s (vectorCommitments s (verifierLeafCommitment P s iv ch Opened CheckedTree) i)) (λ i. P .h1 s (vectorCommitments s (signerLeafCommitment P s iv Tree) i)) (s .tau)
         (λ i h. ap (P .h1 s) (vector-same i h)))
 
-    pub leaf-commitments-same : leafCommitments s (verifierLeafCommitment P s iv ch Opened Again) ≡ Coms
+    pub leaf-commitments-same : leafCommitments s (verifierLeafCommitment P s iv ch Opened CheckedTree) ≡ SignerCommitments
     unfolding leafCommitments
-    leaf-commitments-same = concat-same (vectorCommitments s (verifierLeafCommitment P s iv ch Opened Again)) (vectorCommitments s (signerLeafCommitment P s iv Tree)) (s .tau) vector-same
+    leaf-commitments-same = concat-same (vectorCommitments s (verifierLeafCommitment P s iv ch Opened CheckedTree)) (vectorCommitments s (signerLeafCommitment P s iv Tree)) (s .tau) vector-same
 
     -- ---- columns
 
     module _ (b : ℕ) where
-      row-same : (i e p : ℕ) → i < s .tau → e < entriesOf s i → (e ≡ hiddenIndex s ch i → ⊥) → rowByte P s iv Again i e p ≡ rowByte P s iv Tree i e p
+      row-same : (i e p : ℕ) → i < s .tau → e < entriesOf s i → (e ≡ hiddenIndex s ch i → ⊥) → rowByte P s iv CheckedTree i e p ≡ rowByte P s iv Tree i e p
       unfolding rowByte
       row-same i e p h l d = ap (λ (k : List ℕ). P .prgByte s (leafSeed P s iv i k) iv (i + 2 ^ 31) p) (key-same i e h l d)
 
@@ -367,7 +361,7 @@ module _ (P : Primitives) (s : Shape) (f : ShapeLaws s) (root iv : List ℕ) (ro
       unfolding correctionByte uByte
       byte-rule i j p h l k =
           ap (λ (x : ℕ). bitXor x (correctionByte s b ch (corrections P s b iv Tree) i j p))
-          (hidden-unused (entriesOf s i) (λ e. rowByte P s iv Again i e p) (λ e. rowByte P s iv Tree i e p) (hiddenIndex s ch i) j (λ e m d. row-same i e p h m d))
+          (hidden-unused (entriesOf s i) (λ e. rowByte P s iv CheckedTree i e p) (λ e. rowByte P s iv Tree i e p) (hiddenIndex s ch i) j (λ e m d. row-same i e p h m d))
           ∙ go i h l
         where
           go : (i : ℕ) → i < s .tau → j < depthOf s i
@@ -386,7 +380,7 @@ module _ (P : Primitives) (s : Shape) (f : ShapeLaws s) (root iv : List ℕ) (ro
       abbrev Corrected : List ℕ
       Corrected = corrections P s b iv (signerTree P s root iv)
 
-      column-0 : (i j : ℕ) → i < s .tau → j < depthOf s i → bitAt ch (firstBit s i + j) ≡ 0 → verifierColumn P s b iv ch Corrected Again i j ≡ signerColumn P s b iv Tree i j
+      column-0 : (i j : ℕ) → i < s .tau → j < depthOf s i → bitAt ch (firstBit s i + j) ≡ 0 → verifierColumn P s b iv ch Corrected CheckedTree i j ≡ signerColumn P s b iv Tree i j
       unfolding verifierColumn signerColumn columnByte
       column-0 i j h l e =
           tabulate-same b (QByte i j) (VByte i j)
@@ -396,7 +390,7 @@ module _ (P : Primitives) (s : Shape) (f : ShapeLaws s) (root iv : List ℕ) (ro
           ∙ ap (bitXor (VByte i j p)) (zero-mul (uByte P s iv Tree 0 p)) ∙ xor-zero-r (VByte i j p))
 
       column-1 : (i j : ℕ) → i < s .tau → j < depthOf s i → bitAt ch (firstBit s i + j) ≡ 1
-          → verifierColumn P s b iv ch Corrected Again i j ≡ xorBytes (signerColumn P s b iv Tree i j) (signerU P s b iv Tree)
+          → verifierColumn P s b iv ch Corrected CheckedTree i j ≡ xorBytes (signerColumn P s b iv Tree i j) (signerU P s b iv Tree)
       unfolding verifierColumn signerColumn signerU columnByte
       column-1 i j h l e =
           tabulate-same b (QByte i j) (λ p. bitXor (VByte i j p) (uByte P s iv Tree 0 p))
@@ -406,7 +400,7 @@ module _ (P : Primitives) (s : Shape) (f : ShapeLaws s) (root iv : List ℕ) (ro
           ∙ ap (bitXor (VByte i j p)) (one-mul (uByte P s iv Tree 0 p)))
           ∙ tabulate-xor b (VByte i j) (uByte P s iv Tree 0)
 
-      q-long : (i j : ℕ) → length (verifierColumn P s b iv ch Corrected Again i j) ≡ b
+      q-long : (i j : ℕ) → length (verifierColumn P s b iv ch Corrected CheckedTree i j) ≡ b
       unfolding verifierColumn columnByte
       q-long i j = length-tabulate b (QByte i j)
 
@@ -415,7 +409,7 @@ module _ (P : Primitives) (s : Shape) (f : ShapeLaws s) (root iv : List ℕ) (ro
       v-long i j = length-tabulate b (VByte i j)
 
       abbrev MQ : List ℕ
-      MQ = matrixOf s b (verifierColumn P s b iv ch Corrected Again)
+      MQ = matrixOf s b (verifierColumn P s b iv ch Corrected CheckedTree)
 
       abbrev MV : List ℕ
       MV = matrixOf s b (signerColumn P s b iv (signerTree P s root iv))
@@ -431,14 +425,14 @@ module _ (P : Primitives) (s : Shape) (f : ShapeLaws s) (root iv : List ℕ) (ro
           zero-bit c h e (yes l) =
               let a = find s f (s .tau) c l in
               ap (λ (n : ℕ). part MQ (b * n) b) (a .is)
-              ∙ matrix-column s f b (verifierColumn P s b iv ch Corrected Again) q-long (a .i) (a .j) (a .vector) (a .within)
+              ∙ matrix-column s f b (verifierColumn P s b iv ch Corrected CheckedTree) q-long (a .i) (a .j) (a .vector) (a .within)
               ∙ column-0 (a .i) (a .j) (a .vector) (a .within) (ap (bitAt ch) (sym (a .is)) ∙ e)
               ∙ sym (matrix-column s f b (signerColumn P s b iv Tree) v-long (a .i) (a .j) (a .vector) (a .within))
               ∙ ap (λ (n : ℕ). part MV (b * n) b) (sym (a .is))
           zero-bit c h e (no l) =
               let x : c ≡ firstBit s (s .tau) + (c - firstBit s (s .tau)) = omega arith in
               ap (λ (n : ℕ). part MQ (b * n) b) x
-              ∙ matrix-rest s f b (verifierColumn P s b iv ch Corrected Again) q-long (c - firstBit s (s .tau))
+              ∙ matrix-rest s f b (verifierColumn P s b iv ch Corrected CheckedTree) q-long (c - firstBit s (s .tau))
               ∙ sym (matrix-rest s f b (signerColumn P s b iv Tree) v-long (c - firstBit s (s .tau)))
               ∙ ap (λ (n : ℕ). part MV (b * n) b) (sym x)
 
@@ -446,7 +440,7 @@ module _ (P : Primitives) (s : Shape) (f : ShapeLaws s) (root iv : List ℕ) (ro
           one-bit c h e (yes l) =
               let a = find s f (s .tau) c l in
               ap (λ (n : ℕ). part MQ (b * n) b) (a .is)
-              ∙ matrix-column s f b (verifierColumn P s b iv ch Corrected Again) q-long (a .i) (a .j) (a .vector) (a .within)
+              ∙ matrix-column s f b (verifierColumn P s b iv ch Corrected CheckedTree) q-long (a .i) (a .j) (a .vector) (a .within)
               ∙ column-1 (a .i) (a .j) (a .vector) (a .within) (ap (bitAt ch) (sym (a .is)) ∙ e)
               ∙ ap (λ (x : List ℕ). xorBytes x (signerU P s b iv Tree))
               (sym (matrix-column s f b (signerColumn P s b iv Tree) v-long (a .i) (a .j) (a .vector) (a .within)) ∙ ap (λ (n : ℕ). part MV (b * n) b) (sym (a .is)))

@@ -1,2 +1,2 @@
-pub mod Standards
+-- Demand 3, and what an opening depends on.
 pub mod Demands

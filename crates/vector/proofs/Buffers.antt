@@ -9,6 +9,8 @@ use native.Mathlib.Omega.{arith}
 use lib.Bits.{bitXor, xor-zero-l}
 use lib.ListN.{length, getD, take}
 use lib.Seq.{take-all}
+use mir.Syntax.{w64}
+use mir.Val.{Fits}
 use Rattle.spec.specs.declared.Shape.{Shape}
 use Rattle.spec.specs.Bytes.{part, tabulate, concat, zeros}
 use Rattle.spec.specs.Shapes.{shapeOk}
@@ -34,10 +36,19 @@ put-all f w n d l e = sym (take-all (w * n) d (omega arith)) ∙ e
 
 -- ---- places and sizes
 
+pub part-size : (at n : ℕ) → at + n - at ≡ n
+part-size at n = omega arith
+
 pub lent : (at n : ℕ) (l : List ℕ) → at + n ≤ length l → length (part l at (at + n - at)) ≡ n
-lent at n l h =
-    let e : at + n - at ≡ n = omega arith in
-    ap (λ (m : ℕ). length (part l at m)) e ∙ length-part l at n h
+lent at n l h = ap (λ (m : ℕ). length (part l at m)) (part-size at n) ∙ length-part l at n h
+
+-- the start and the end of a part that is lent are numbers of a word
+module _ (at n d : ℕ) (e : at + n ≤ d) (h : d < 2 ^ 64) where
+  pub start-fits : Fits w64 at
+  start-fits = record { fits = omega arith }
+
+  pub end-fits : Fits w64 (at + n)
+  end-fits = record { fits = omega arith }
 
 -- string i of n ends within a buffer that has room for all, in a part lent as v, which is w
 pub block-end : (v w i n d : ℕ) → v ≡ w → i < n → w * n ≤ d → v * i + v ≤ d
@@ -50,8 +61,8 @@ pub columns-end : (s : Shape) (b i d : ℕ) → i < s .tau → b * s .k * s .tau
 columns-end s b i d h l = block-end (b * s .k) (b * s .k) i (s .tau) d refl h l
 
 module _ (s : Shape) (e : shapeOk s ≡ true) where
-  pub columns-width : (b : ℕ) → b ≤ 8192 → b * s .k ≤ 98304
-  columns-width b h = mul-le-mul h (shape-facts s e .k-max)
+  pub columns-fit : (b : ℕ) → b ≤ 8192 → Fits w64 (b * s .k)
+  columns-fit b h = (let m : b * s .k ≤ 8192 * 12 = mul-le-mul h (shape-facts s e .k-max) in record { fits = omega arith })
 
   -- the leaf commitments of all vectors, and their columns, to which the last w are added
   pub all-commitments : 48 * 2 ^ s .k * s .tau ≡ 48 * (s .tau * 2 ^ s .k)

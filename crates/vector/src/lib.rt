@@ -38,8 +38,8 @@ pub fn add_entry(
     ensures { λ _. ⌜ Added b totals (λ j p. rowByte faest s iv (now (tree .entry)) i e p) (now (total .entry)) (now (total .exit)) ⌝ }
     ensures { λ _. ⌜ Added b (s .k) (λ j p. bit j x * rowByte faest s iv (now (tree .entry)) i e p) (now (cols .entry)) (now (cols .exit)) ⌝ }
 {
-    let a = 16 * shape::rules::leaf_of(s, i, e);
-    let tweak = leaf::leaf_tweak(i, shape::rules::leaf_count(s));
+    let a = 16 * rules::leaf_of(s, i, e);
+    let tweak = leaf::leaf_tweak(i, rules::leaf_count(s));
     let seed = leaf::commit_leaf(t, m, &tree[a..a + 16], iv, tweak, commitment);
     rows::add_row(
         t,

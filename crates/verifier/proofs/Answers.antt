@@ -1,5 +1,4 @@
--- The record that is the contract of reconstruct, by the tests that were passed: one law for each way out of the call; and what reconstruct writes, buffer
--- by buffer. s is the shape as given and t the resolved one, x what the buffers held, r the answer. Assumes nothing.
+-- The record that is the contract of reconstruct, by the tests that were passed: one law for each way out of the call. s is the shape as given and t the resolved one, x what the buffers held, r the answer. Assumes nothing.
 use Prim.Native.Nat.{ℕ, _+_, _*_, _/_, _≤_, _<_}
 use mathlib.Core.Path.{_≡_, refl, sym, ap, _∙_}
 use mathlib.Core.Bool.{Bool, true, false}
@@ -12,9 +11,7 @@ use Rattle.spec.specs.declared.Answer.{Answer}
 use Rattle.spec.specs.Bytes.{allZero}
 use Rattle.spec.specs.Shapes.{resolved, level, nodeBytes, challengeBytes, hashBytes, leafCommitmentBytes, shapeOk, grindingOk, plannedCount, treeBytes, leafCommitmentsBytes, openingBytes, matrixBytes, correctionsBytes}
 use Rattle.spec.specs.Primitives.{faest}
-use Rattle.spec.specs.Leaves.{leafCommitments, commitmentOf}
-use Rattle.spec.specs.Rows.{matrixOf}
-use Rattle.spec.specs.Verifier.{slotsOk, reconstructedTree, verifierLeafCommitment, verifierColumn}
+use Rattle.spec.specs.Verifier.{slotsOk}
 use Rattle.spec.specs.Calls.{fits, countWith, rowOk, nodesOk, Reconstructed, reconstructed, reconstructNumber, Reconstruct}
 
 -- the lengths that reconstruct compares
@@ -88,22 +85,3 @@ module _ (s t : Shape) (e : t ≡ resolved s) (n : ℕ) (iv ch cs op : List ℕ)
         count = q .1 ∙ rw e at c ∙ sym (rw (q .0) refl);
         buffers = rw (q .0) (rw e at w);
       }
-
--- ---- what is written
-
-module _ (s : Shape) (b : ℕ) (iv ch cs op : List ℕ) where
-  -- the buffers of a tree
-  from : List ℕ → Reconstructed
-  from tree =
-      record {
-        commitment = commitmentOf faest s (verifierLeafCommitment faest s iv ch op tree);
-        tree = tree;
-        leafCommitments = leafCommitments s (verifierLeafCommitment faest s iv ch op tree);
-        q = matrixOf s b (verifierColumn faest s b iv ch cs tree);
-      }
-
-  pub reconstruct-writes : (c tree l q : List ℕ) → tree ≡ reconstructedTree faest s iv ch op → c ≡ commitmentOf faest s (verifierLeafCommitment faest s iv ch op tree)
-      → l ≡ leafCommitments s (verifierLeafCommitment faest s iv ch op tree) → q ≡ matrixOf s b (verifierColumn faest s b iv ch cs tree)
-      → _≡_ {A = Reconstructed} (record { commitment = c; tree = tree; leafCommitments = l; q = q }) (reconstructed faest s b iv ch cs op)
-  unfolding reconstructed from
-  reconstruct-writes c tree l q et ec el eq = rw (ec, el, eq) (ap from et)

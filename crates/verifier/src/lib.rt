@@ -2,11 +2,11 @@
 ghost use mathlib.Core.Path.{_≡_};
 ghost use mathlib.Core.Bool.{true};
 ghost use mathlib.Core.List.{[], _∷_};
-ghost use Prim.Native.Nat.{_*_, _≤_};
+ghost use Prim.Native.Nat.{_≤_};
 ghost use lib.ListN.{length};
 ghost use Rattle.spec.specs.Shapes.{shapeOk, plannedCount, treeBytes, leafCommitmentsBytes, openingBytes, matrixBytes, correctionsBytes};
 ghost use Rattle.spec.specs.Primitives.{faest};
-ghost use Rattle.spec.specs.Calls.{fits, Reconstructed, reconstructed, Reconstruct};
+ghost use Rattle.spec.specs.Calls.{fits, Reconstruct};
 use spec::Answer;
 use spec::Shape;
 
@@ -26,8 +26,8 @@ fn reconstruct_lengths(
     requires { ⌜ (shapeOk s ≡ true) × (b ≤ 8192) ⌝ }
     ensures { λ r. ⌜ r ≡ fits ((iv, 16) ∷ (challenge, 16) ∷ (corrections, correctionsBytes s b) ∷ (opening, openingBytes s) ∷ (commitment, 32) ∷ (tree, treeBytes s) ∷ (lcs, leafCommitmentsBytes s) ∷ (q, matrixBytes s b) ∷ []) ⌝ }
 {
-    let leaves = shape::rules::leaf_count(s);
-    shape::rules::fit8(
+    let leaves = rules::leaf_count(s);
+    rules::fit8(
         iv,
         16,
         challenge,
@@ -47,96 +47,13 @@ fn reconstruct_lengths(
     )
 }
 
-// Writes what reconstruct writes; keys and hashes are room for the hash keys and the hashes of the vectors, n is the count of revealed nodes.
-fn write_all(
-    s: Shape,
-    b: usize,
-    n: usize,
-    iv: &[u8],
-    ch: &[u8],
-    corrections: &[u8],
-    opening: &[u8],
-    keys: &mut [u8],
-    hashes: &mut [u8],
-    commitment: &mut [u8],
-    tree: &mut [u8],
-    lcs: &mut [u8],
-    q: &mut [u8],
-)
-    requires { ⌜ (shapeOk s ≡ true) × (b ≤ 8192) × (n ≡ plannedCount s (now ch)) × (n ≤ s .t) × (length (now keys) ≡ 48 * s .tau) × (length (now hashes) ≡ 32 * s .tau) ⌝ }
-    requires { ⌜ (length (now iv) ≡ 16) × (length (now ch) ≡ 16) × (length (now corrections) ≡ correctionsBytes s b) × (length (now opening) ≡ openingBytes s) ⌝ }
-    requires { ⌜ (length (now commitment) ≡ 32) × (length (now tree) ≡ treeBytes s) × (length (now lcs) ≡ leafCommitmentsBytes s) × (length (now q) ≡ matrixBytes s b) ⌝ }
-    ensures { λ _. ⌜ _≡_ {A = Reconstructed} (record { commitment = now (commitment .exit); tree = now (tree .exit); leafCommitments = now (lcs .exit); q = now (q .exit) })
-        (reconstructed faest s b (now (iv .entry)) (now (ch .entry)) (now (corrections .entry)) (now (opening .entry))) ⌝ }
-{
-    let t = aes::table();
-    let x = generator::load_iv(iv);
-    shake::h0(iv, keys);
-    verifier_tree::reconstruct_tree(&t, s, ch, x, n, opening, tree);
-    verifier_vectors::write_vectors(
-        &t,
-        s,
-        b,
-        x,
-        keys,
-        ch,
-        tree,
-        corrections,
-        opening,
-        lcs,
-        q,
-        hashes,
-    );
-    shake::h1(hashes, commitment);
-}
-
-// Writes what reconstruct writes, once every test has been passed.
-fn write_reconstruction(
-    s: Shape,
-    b: usize,
-    n: usize,
-    iv: &[u8],
-    ch: &[u8],
-    corrections: &[u8],
-    opening: &[u8],
-    commitment: &mut [u8],
-    tree: &mut [u8],
-    lcs: &mut [u8],
-    q: &mut [u8],
-)
-    requires { ⌜ (shapeOk s ≡ true) × (b ≤ 8192) × (n ≡ plannedCount s (now ch)) × (n ≤ s .t) ⌝ }
-    requires { ⌜ (length (now iv) ≡ 16) × (length (now ch) ≡ 16) × (length (now corrections) ≡ correctionsBytes s b) × (length (now opening) ≡ openingBytes s) ⌝ }
-    requires { ⌜ (length (now commitment) ≡ 32) × (length (now tree) ≡ treeBytes s) × (length (now lcs) ≡ leafCommitmentsBytes s) × (length (now q) ≡ matrixBytes s b) ⌝ }
-    ensures { λ _. ⌜ _≡_ {A = Reconstructed} (record { commitment = now (commitment .exit); tree = now (tree .exit); leafCommitments = now (lcs .exit); q = now (q .exit) })
-        (reconstructed faest s b (now (iv .entry)) (now (ch .entry)) (now (corrections .entry)) (now (opening .entry))) ⌝ }
-{
-    let tau = s.tau;
-    let mut keys = [0u8; 1536];
-    let mut hashes = [0u8; 1024];
-    write_all(
-        s,
-        b,
-        n,
-        iv,
-        ch,
-        corrections,
-        opening,
-        &mut keys[0..48 * tau],
-        &mut hashes[0..32 * tau],
-        commitment,
-        tree,
-        lcs,
-        q,
-    );
-}
-
 // The count of revealed nodes.
 fn count_nodes(s: Shape, ch: &[u8]) -> usize
     requires { ⌜ (shapeOk s ≡ true) × (length (now ch) ≡ 16) ⌝ }
     ensures { λ r. ⌜ r ≡ plannedCount s (now (ch .entry)) ⌝ }
 {
     let mut nodes = [0u32; 512];
-    shape::ring::revealed_nodes(s, ch, &mut nodes)
+    planning::revealed_nodes(s, ch, &mut nodes)
 }
 
 // RECONSTRUCT: the commitment, the tree without its covered nodes, the leaf commitments and Q, from an opening. Every test comes before the first write.
@@ -157,12 +74,12 @@ pub fn reconstruct(
         (record { commitment = now (commitment .exit); tree = now (tree .exit); leafCommitments = now («leaf_commitments» .exit); q = now (q .exit) })
         r ⌝ }
 {
-    let s = shape::rules::resolve(shape);
-    if !shape::rules::is_shape(s) {
-        return shape::answer(1, 0);
+    let s = rules::resolve(shape);
+    if !rules::is_shape(s) {
+        return rules::answer(1, 0);
     }
-    if !shape::rules::is_row_length(row_bits) {
-        return shape::answer(2, 0);
+    if !rules::is_row_length(row_bits) {
+        return rules::answer(2, 0);
     }
     let b = row_bits / 8;
     if !reconstruct_lengths(
@@ -177,19 +94,19 @@ pub fn reconstruct(
         leaf_commitments.len(),
         q.len(),
     ) {
-        return shape::answer(3, 0);
+        return rules::answer(3, 0);
     }
-    if !shape::challenge::is_ground(s, challenge) {
-        return shape::answer(4, 0);
+    if !challenge::grinding_ok(s, challenge) {
+        return rules::answer(4, 0);
     }
     let n = count_nodes(s, challenge);
     if s.t < n {
-        return shape::answer(5, n);
+        return rules::answer(5, n);
     }
     if !buffers::is_clear_from(opening, 48 * s.tau + 16 * n) {
-        return shape::answer(6, n);
+        return rules::answer(6, n);
     }
-    write_reconstruction(
+    reconstruction::write_reconstruction(
         s,
         b,
         n,
@@ -202,5 +119,5 @@ pub fn reconstruct(
         leaf_commitments,
         q,
     );
-    shape::answer(0, n)
+    rules::answer(0, n)
 }

@@ -2,7 +2,7 @@
 -- read. By cases on the marks. Assumes nothing.
 use Prim.Native.Nat.{ℕ, _+_, _-_, _*_, _≤_}
 use mathlib.Core.Path.{_≡_, refl, sym, ap, ap₂, _∙_}
-use mathlib.Core.Bool.{Bool, true, false, _||_, not, cond, true≢false}
+use mathlib.Core.Bool.{Bool, true, false, _||_, not, cond}
 use mathlib.Core.List.{List, _++_, append-assoc}
 use native.Mathlib.Omega.{arith}
 use native.Mathlib.Numerals.{add-one}
@@ -14,14 +14,12 @@ use Rattle.spec.specs.Bytes.{part, zeros}
 use Rattle.spec.specs.Tree.{siblingToReveal, revealedFrom}
 use Rattle.spec.specs.Primitives.{faest}
 use Rattle.spec.specs.Leaves.{children}
+use Rattle.laws.proofs.Conjunctions.{contrary}
 use Rattle.laws.proofs.Lists.{length-zeros, length-part}
 use Rattle.laws.proofs.Putting.{behind, put-take}
 use Rattle.planning_laws.proofs.Revealed.{revealed-longer}
 use Rattle.tree.proofs.Growing.{length-children}
 use Rattle.verifier_tree.specs.ByMap.{marked, readBefore, readWith, nodeBy, childrenBy}
-
-contrary : {A : Type 0} {b : Bool} → b ≡ true → b ≡ false → A
-contrary p q = absurd (true≢false (sym p ∙ q))
 
 -- ---- parts of a buffer
 

@@ -22,7 +22,7 @@ use Rattle.planning_laws.proofs.Rising.{revealed-same}
 use Rattle.planning_laws.proofs.Revealed.{revealed-place}
 use Rattle.planning_laws.proofs.HiddenLeaves.{hidden-leaves}
 use Rattle.planning_laws.proofs.ExpandTree.{expand-same}
-use Rattle.shape.specs.Cover.{Marks, ByChildren}
+use Rattle.cover.specs.Cover.{Marks, ByChildren}
 use Rattle.verifier_tree.specs.ByMap.{marked, readBefore, nodeBy, childrenBy}
 
 module _ (s : Shape) (pos : 1 ≤ leaves s) (ch map : List ℕ) (marks : Marks (covered (hiddenLeaves s ch)) 0 (2 * leaves s - 1) map) where

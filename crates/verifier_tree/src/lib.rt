@@ -11,7 +11,7 @@ ghost use Rattle.spec.specs.Tree.{expandTree};
 ghost use Rattle.spec.specs.Shapes.{shapeOk, plannedCount, treeBytes, openingBytes};
 ghost use Rattle.spec.specs.Primitives.{faest};
 ghost use Rattle.spec.specs.Verifier.{reconstructedTree};
-ghost use Rattle.shape.specs.Cover.{ByChildren};
+ghost use Rattle.cover.specs.Cover.{ByChildren};
 ghost use Rattle.verifier_tree.specs.ByMap.{marked, readBefore, readWith, nodeBy, childrenBy};
 use spec::Shape;
 
@@ -94,9 +94,9 @@ fn write_with_map(
     requires { ⌜ (81919 ≤ length (now map)) × ((x : ℕ) → getD (now map) x 0 ≡ 0) ⌝ }
     ensures { λ _. ⌜ now (tree .exit) ≡ reconstructedTree faest s iv (now (ch .entry)) (now (opening .entry)) ⌝ }
 {
-    let l = shape::rules::leaf_count(s);
+    let l = rules::leaf_count(s);
     let nodes = 2 * l - 1;
-    shape::cover::mark_covered(s, ch, &mut map[0..nodes]);
+    cover::mark_covered(s, ch, &mut map[0..nodes]);
     let first = 48 * s.tau;
     write_tree(t, iv, &map[0..nodes], l, &opening[first..], n, tree);
 }

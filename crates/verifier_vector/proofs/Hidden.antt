@@ -7,21 +7,18 @@ use Prim.Native.Nat.{ℕ, _+_, _*_, _%_, _^_, _≤_}
 use native.Mathlib.Nat.{add-zero, zero-add, zero-mul, zero-div}
 use native.Mathlib.Omega.{arith}
 use lib.Bits.{bitXor, xor-self, xor-zero-l}
-use lib.ListN.{length, getD, take, drop, length-append, length-drop, drop-of-length-le}
+use lib.ListN.{length, take, drop, length-append, length-drop, drop-of-length-le}
 use lib.Seq.{take-at, drop-at}
 use borrow.Author.Tests.{eq-eqb, ne-eqb}
 use Rattle.spec.specs.declared.Shape.{Shape}
-use Rattle.spec.specs.Bytes.{bit, tabulate, concat, zeros, xorBelow}
-use Rattle.spec.specs.Sponge.{sponge, shake}
-use Rattle.spec.specs.Hashes.{hash0}
+use Rattle.spec.specs.Bytes.{bit, concat, xorBelow}
 use Rattle.spec.specs.Shapes.{level, nodeBytes, leafCommitmentBytes, depthOf, entriesOf, hiddenIndex}
 use Rattle.spec.specs.Primitives.{faest}
 use Rattle.spec.specs.Leaves.{leafKey, leafCommitment, vectorCommitments}
 use Rattle.spec.specs.Rows.{rowByte, columnByte}
 use Rattle.spec.specs.Verifier.{hiddenLeafCommitment, verifierLeafCommitment}
 use Rattle.laws.proofs.Lists.{length-tabulate}
-use Rattle.laws.proofs.Strings.{getD-zeros}
-use Rattle.laws.proofs.Concat.{concat-same, concat-append, even-length, is-concat}
+use Rattle.laws.proofs.Concat.{concat-same, concat-append, even-length}
 use Rattle.laws.proofs.Sums.{xor-same, xor-append}
 use Rattle.columns.specs.Columns.{Added}
 use Rattle.columns.proofs.Adding.{added-then, added-same}

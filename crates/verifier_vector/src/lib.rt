@@ -53,6 +53,7 @@ fn add_run(
     ensures { λ _. ⌜ now (lcs .exit) ≡ take (48 * from) (now (lcs .entry)) ++ (concat n (λ e. leafCommitment faest s iv i (leafKey s (now (tree .entry)) i (from + e))) ++ drop (48 * from + 48 * n) (now (lcs .entry))) ⌝ }
     ensures { λ _. ⌜ Added b (s .k) (λ j p. xorBelow n (λ e. bit j (bitXor (from + e) mask) * rowByte faest s iv (now (tree .entry)) i (from + e) p)) (now (cols .entry)) (now (cols .exit)) ⌝ }
 {
+    // the checking half has no total
     let mut none = [0u8; 1];
     let at = 48 * from;
     vector::add_entries(
@@ -96,7 +97,7 @@ fn add_visible(
         ++ (now (hidden .entry) ++ concat (2 ^ s .k - d - 1) (λ e. leafCommitment faest s iv i (leafKey s (now (tree .entry)) i (d + 1 + e)))) ⌝ }
     ensures { λ _. ⌜ Added b (s .k) (columnByte faest s iv (now (tree .entry)) (λ e. bitXor e d) i) (now (cols .entry)) (now (cols .exit)) ⌝ }
 {
-    let rest = shape::rules::entry_count(s) - d - 1;
+    let rest = rules::entry_count(s) - d - 1;
     add_run(t, m, s, i, 0, d, d, b, iv, tree, lcs, cols);
     buffers::copy_part(hidden, 0, 48, lcs, 48 * d);
     add_run(t, m, s, i, d + 1, rest, d, b, iv, tree, lcs, cols);

@@ -1,25 +1,21 @@
 -- The correction of a vector, its columns with the correction, and a vector put behind those before it. By the laws of columns and of strings laid one after
 -- another. Assumes nothing.
-use mathlib.Core.Path.{_≡_, refl, sym, ap, ap₂, _∙_}
-use mathlib.Core.List.{List, [], _++_}
+use mathlib.Core.Path.{_≡_, refl, ap, ap₂, _∙_}
+use mathlib.Core.List.{List, _++_}
 use Prim.Native.Nat.{ℕ, zero, suc, _+_, _-_, _*_, _^_, _≤_, _<_}
-use native.Mathlib.Nat.{mul-add, mul-assoc, mul-comm, mul-le-mul, mul-zero}
+use native.Mathlib.Nat.{mul-zero}
 use native.Mathlib.Omega.{arith}
-use mathlib.Core.Bool.{true}
 use lib.Bits.{bitXor}
 use lib.ListN.{length, getD, take}
-use lib.Seq.{take-all}
 use Rattle.spec.specs.declared.Shape.{Shape}
 use Rattle.spec.specs.Bytes.{bit, part, tabulate, concat}
-use Rattle.spec.specs.Shapes.{shapeOk, depthOf, hiddenIndex}
+use Rattle.spec.specs.Shapes.{depthOf, hiddenIndex}
 use Rattle.spec.specs.Primitives.{faest}
 use Rattle.spec.specs.Leaves.{vectorCommitments, vectorHash}
 use Rattle.spec.specs.Rows.{columnByte}
 use Rattle.spec.specs.Verifier.{verifierLeafCommitment, correctionByte, verifierColumn}
-use Rattle.laws.proofs.Lists.{length-part, getD-part}
-use Rattle.laws.proofs.Putting.{put-next}
-use Rattle.laws.proofs.Concat.{concat-byte, is-concat, mul-next, mul-within}
-use Rattle.planning_laws.proofs.ShapeFacts.{shape-facts}
+use Rattle.laws.proofs.Lists.{getD-part}
+use Rattle.laws.proofs.Concat.{concat-byte, is-concat, mul-within}
 use Rattle.planning_laws.proofs.ShapeLaws.{hidden-bit}
 use Rattle.columns.specs.Columns.{Added}
 use Rattle.columns.proofs.Adding.{added-none, added-same}

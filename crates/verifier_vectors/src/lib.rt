@@ -49,7 +49,7 @@ fn corrected_vector(
     ensures { λ _. ⌜ ((opening : List ℕ) → now (hidden .entry) ≡ hiddenLeafCommitment s opening i
         → Reconstructed s b iv (now (ch .entry)) (now (corrections .entry)) opening (now (tree .entry)) i (now (lcs .exit)) (now (cols .exit)) (now (hash .exit))) ⌝ }
 {
-    let d = shape::challenge::hidden_index(s, ch, i);
+    let d = challenge::hidden_index(s, ch, i);
     verifier_vector::convert(t, s, i, d, b, iv, keys, tree, hidden, lcs, cols, hash);
     correct(s, i, d, b, corrections, cols);
 }
@@ -76,7 +76,7 @@ fn next_vector(
     ensures { λ _. ⌜ (Before s b iv (now (ch .entry)) (now (corrections .entry)) (now (opening .entry)) (now (tree .entry)) i (now (lcs .entry)) (now (q .entry)) (now (hashes .entry))
         → Before s b iv (now (ch .entry)) (now (corrections .entry)) (now (opening .entry)) (now (tree .entry)) (i + 1) (now (lcs .exit)) (now (q .exit)) (now (hashes .exit))) ⌝ }
 {
-    let w = 48 * shape::rules::entry_count(s);
+    let w = 48 * rules::entry_count(s);
     let c = b * s.k;
     corrected_vector(
         t,

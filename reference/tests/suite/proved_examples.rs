@@ -1,5 +1,5 @@
 //! The examples of the primitives that are proved of the definitions in
-//! `crates/spec/proofs/Standards.antt`: the same inputs, derived here.
+//! `crates/standards/proofs/KnownAnswers.antt`: the same inputs, derived here.
 
 use reference::{bavc, prg};
 
@@ -7,7 +7,7 @@ use reference::{bavc, prg};
 fn proved(mark: &str) -> Vec<u8> {
     let path = concat!(
         env!("CARGO_MANIFEST_DIR"),
-        "/../crates/spec/proofs/Standards.antt"
+        "/../crates/standards/proofs/KnownAnswers.antt"
     );
     let text = std::fs::read_to_string(path).expect("the file of the proved examples");
     let after = text.split_once(mark).expect(mark).1;

@@ -1,4 +1,4 @@
--- `aes::add_round_key` meets its contract: `xor_word`, column by column. Assumes nothing.
+-- `xor_word`, column by column. Assumes nothing.
 use borrow.Author.Needs.{needs}
 use Rattle.spec.specs.Aes.{addRoundKey}
 use Rattle.aes.proofs.add_round_key.Statement.{statement}

@@ -1,4 +1,4 @@
--- `aes::key_schedule` meets its contract: the first round key is the key, and each step is `next_key` with the next power of {02}. Assumes nothing.
+-- The first round key is the key, and each step is `next_key` with the next power of {02}. Assumes nothing.
 use native.Mathlib.Omega.{arith}
 use borrow.Author.Needs.{needs}
 use Rattle.spec.specs.Bytes.{tabulate}

@@ -1,4 +1,4 @@
--- `aes::last_round` meets its contract: the three steps, one after the other. Assumes nothing.
+-- The three steps, one after the other. Assumes nothing.
 use borrow.Author.Needs.{needs}
 use Rattle.spec.specs.Aes.{lastRound}
 use Rattle.aes.proofs.last_round.Statement.{statement}

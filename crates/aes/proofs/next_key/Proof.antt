@@ -1,4 +1,4 @@
--- `aes::next_key` meets its contract: each word is the sum that the definition has. Assumes nothing.
+-- Each word is the sum that the definition has. Assumes nothing.
 use borrow.Author.Needs.{needs}
 use Rattle.aes.specs.RoundKeys.{nextRoundKey}
 use Rattle.aes.proofs.next_key.Statement.{statement}

@@ -1,4 +1,4 @@
--- `aes::round` meets its contract: the four steps, one after the other. Assumes nothing.
+-- The four steps, one after the other. Assumes nothing.
 use borrow.Author.Needs.{needs}
 use Rattle.spec.specs.Aes.{roundOf}
 use Rattle.aes.proofs.round.Statement.{statement}

@@ -1,4 +1,4 @@
--- `aes::round_pair` meets its contract: the four steps, one after the other, for each of the states. Assumes nothing.
+-- The four steps, one after the other, for each of the states. Assumes nothing.
 use borrow.Author.Needs.{needs}
 use Rattle.spec.specs.Aes.{roundOf}
 use Rattle.aes.proofs.round_pair.Statement.{statement}

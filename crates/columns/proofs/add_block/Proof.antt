@@ -1,9 +1,9 @@
 -- The first j columns have the block added, the others are as they were. Assumes nothing.
 use mathlib.Core.Path.{_≡_, refl, subst}
 use mathlib.Core.List.{List}
-use Prim.Native.Nat.{ℕ, _+_, _*_, _-_, _≤_}
+use Prim.Native.Nat.{ℕ, _*_, _-_, _≤_}
 use native.Mathlib.Omega.{arith}
-use lib.ListN.{length, take}
+use lib.ListN.{take}
 use Rattle.spec.specs.Bytes.{bit}
 use Rattle.laws.proofs.Concat.{mul-within}
 use Rattle.columns.specs.Columns.{placed, Added}

@@ -1,4 +1,4 @@
--- `field::window` meets its contract: what `times_alpha` and `xor` ensure, put together. Assumes nothing.
+-- What `times_alpha` and `xor` ensure, put together. Assumes nothing.
 use borrow.Author.Needs.{needs}
 use mathlib.Core.Path.{ap, _∙_}
 use mathlib.Core.List.{[]}

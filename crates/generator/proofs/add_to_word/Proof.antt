@@ -1,4 +1,4 @@
--- `generator::add_to_word` meets its contract: the sum of the number that the word writes, written out again. Assumes nothing.
+-- The sum of the number that the word writes, written out again. Assumes nothing.
 use borrow.Author.Needs.{needs}
 use Rattle.spec.specs.Generator.{addToWord}
 use Rattle.generator.proofs.add_to_word.Statement.{statement}

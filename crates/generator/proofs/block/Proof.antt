@@ -1,4 +1,4 @@
--- `generator::block` meets its contract: the counter's state, encrypted. Assumes nothing.
+-- The counter's state, encrypted. Assumes nothing.
 use borrow.Author.Needs.{needs}
 use Rattle.generator.proofs.Blocks.{block-is}
 use Rattle.generator.proofs.block.Statement.{statement}

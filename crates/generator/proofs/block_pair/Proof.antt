@@ -1,4 +1,4 @@
--- `generator::block_pair` meets its contract: two counters' states, encrypted. Assumes nothing.
+-- Two counters' states, encrypted. Assumes nothing.
 use mathlib.Core.Path.{ap, ap₂}
 use mathlib.Core.List.{List, [], _∷_}
 use Prim.Native.Nat.{ℕ, _+_}

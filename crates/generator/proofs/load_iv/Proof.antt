@@ -1,4 +1,4 @@
--- `generator::load_iv` meets its contract: a list of 16 elements is these elements. Assumes nothing.
+-- A list of 16 elements is these elements. Assumes nothing.
 use mathlib.Core.Path.{refl, sym, ap, _∙_}
 use borrow.Author.Needs.{needs}
 use lib.ListN.{getD}

@@ -1,4 +1,4 @@
--- `generator::store` meets its contract: the test says where `from` is 0. Assumes nothing.
+-- Where `from` is 0 the whole block is stored, else byte by byte; the test says which. Assumes nothing.
 use borrow.Author.Needs.{needs}
 use Rattle.generator.proofs.store.Statement.{statement}
 use Rattle.generator.proofs.store.Tie as tie

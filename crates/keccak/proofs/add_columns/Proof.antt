@@ -1,4 +1,4 @@
--- `keccak::add_columns` meets its contract: the array and the definition compute to one list. Assumes nothing.
+-- The array and the definition compute to one list. Assumes nothing.
 use mathlib.Core.Path.{refl}
 use borrow.Author.Needs.{needs}
 use Rattle.spec.specs.Bytes.{tabulate}

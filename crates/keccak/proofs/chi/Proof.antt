@@ -1,4 +1,4 @@
--- `keccak::chi` meets its contract: what `chi_row` ensures of each row, put together, computes to the definition. Assumes nothing.
+-- What `chi_row` ensures of each row, put together, computes to the definition. Assumes nothing.
 use mathlib.Core.List.{List, [], _∷_}
 use Prim.Native.Nat.{ℕ}
 use lib.ListN.{getD}

@@ -1,4 +1,4 @@
--- `keccak::round_constants` meets its contract: the rule for the constants computes to the table. Assumes nothing.
+-- The rule for the constants computes to the table. Assumes nothing.
 use mathlib.Core.Path.{refl}
 use Rattle.spec.specs.Bytes.{tabulate}
 use Rattle.spec.specs.Keccak.{register, rc, roundConstantUpTo, roundConstant}

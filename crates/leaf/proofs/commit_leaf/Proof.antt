@@ -1,16 +1,15 @@
--- `leaf::commit_leaf` meets its contract: what `fill`, `leaf_hash` and `load_iv` ensure, with the definitions of the seed and the commitment unfolded.
+-- What `fill`, `leaf_hash` and `load_iv` ensure, with the definitions of the seed and the commitment unfolded.
 -- Assumes nothing.
 use borrow.Author.Needs.{needs}
-use mathlib.Core.Path.{_≡_, sym, ap, _∙_}
+use mathlib.Core.Path.{sym, ap, _∙_}
 use mathlib.Core.List.{List}
 use Prim.Native.Nat.{ℕ}
 use native.Mathlib.Omega.{arith}
 use lib.ListN.{take, drop}
 use lib.Seq.{length-take-le}
 use Rattle.laws.proofs.Lists.{length-tabulate}
-use Rattle.spec.specs.declared.Shape.{Shape}
 use Rattle.spec.specs.Bytes.{tabulate}
-use Rattle.spec.specs.Shapes.{level, nodeBytes, leafCommitmentBytes, keyWords, fieldWidth, fieldPolynomial, leaves}
+use Rattle.spec.specs.Shapes.{level, nodeBytes, leafCommitmentBytes, keyWords, fieldWidth, fieldPolynomial}
 use Rattle.spec.specs.Generator.{generatorByte}
 use Rattle.spec.specs.LeafHash.{leafHashByte}
 use Rattle.spec.specs.Primitives.{faest, prg}

@@ -1,9 +1,9 @@
 -- A line that cannot be read prints 7, any other what the plan of its shape and challenge prints. Assumes nothing.
 use borrow.Author.Needs.{needs}
 use Rattle.laws.proofs.Tests.{failed, passed}
+use Rattle.listing_line.proofs.Lines.{line-facts}
+use Rattle.listing_text.proofs.Writing.{put-front}
 use Rattle.listing.specs.Listing.{listing}
-use Rattle.listing.proofs.Lines.{line-facts}
-use Rattle.listing.proofs.Writing.{put-front}
 use Rattle.listing.proofs.list.Statement.{statement}
 use Rattle.listing.proofs.list.Tie as tie
 

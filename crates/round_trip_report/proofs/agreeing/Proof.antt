@@ -1,8 +1,6 @@
 -- The column stays within the matrix, and no more columns agree than were seen. Assumes nothing.
 use borrow.Author.Needs.{needs}
-use Prim.Native.Nat.{ℕ, _+_, _-_, _≤_}
-use mathlib.Core.Path.{_≡_}
-use native.Mathlib.Omega.{arith}
+use Prim.Native.Nat.{_-_, _≤_}
 use lib.ListN.{length}
 use Rattle.round_trip_report.proofs.agreeing.Statement.{statement}
 use Rattle.round_trip_report.proofs.agreeing.Tie as tie

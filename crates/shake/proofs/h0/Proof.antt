@@ -1,4 +1,4 @@
--- `shake::h0` meets its contract: what `hash` ensures of the sponge that has absorbed the message. Assumes nothing.
+-- What `hash` ensures of the sponge that has absorbed the message. Assumes nothing.
 use mathlib.Core.List.{[]}
 use native.Mathlib.Omega.{arith}
 use borrow.Author.Needs.{needs}

@@ -1,4 +1,4 @@
--- `shake::h1` meets its contract: what `h1_finish` ensures, of one part. Assumes nothing.
+-- What `h1_finish` ensures, of one part. Assumes nothing.
 use mathlib.Core.List.{[]}
 use borrow.Author.Needs.{needs}
 use denote.Ref.{now}

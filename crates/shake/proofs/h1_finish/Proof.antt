@@ -1,4 +1,4 @@
--- `shake::h1_finish` meets its contract: what `hash` ensures, with the byte of H1. Assumes nothing.
+-- What `hash` ensures, with the byte of H1. Assumes nothing.
 use borrow.Author.Needs.{needs}
 use Rattle.spec.specs.Hashes.{hash1}
 use Rattle.shake.proofs.h1_finish.Statement.{statement}

@@ -1,4 +1,4 @@
--- `shake::h1_start` meets its contract: what `new` ensures, at the rate 168. Assumes nothing.
+-- What `new` ensures, at the rate 168. Assumes nothing.
 use native.Mathlib.Omega.{arith}
 use borrow.Author.Needs.{needs}
 use Rattle.shake.proofs.h1_start.Statement.{statement}

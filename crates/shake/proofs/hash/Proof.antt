@@ -1,4 +1,4 @@
--- `shake::hash` meets its contract: what `squeeze` ensures, of the state that the last byte and the padding leave. Assumes nothing.
+-- What `squeeze` ensures, of the state that the last byte and the padding leave. Assumes nothing.
 use mathlib.Core.Path.{ap, _∙_}
 use mathlib.Core.List.{List, [], _∷_, _++_}
 use Prim.Native.Nat.{ℕ}

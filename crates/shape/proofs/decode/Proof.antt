@@ -18,8 +18,8 @@ returns-2 c =
     decode-3 _ _ (sh .before .resolve .ensures) _ _ _ (passed (sh .is-shape .ensures) (ft .before .if1 .left)) (failed (ft .fit2 .ensures) (c .before .if2 .taken))
     (c .answer2 .ensures)
 
-is-ground-requires : tie.Need-is-ground-requires
-is-ground-requires c κs =
+grinding-ok-requires : tie.Need-grinding-ok-requires
+grinding-ok-requires c κs =
     let ft = c .before in
     let sh = ft .before .before in
     let a = sh .before .before .before .before .args in
@@ -32,7 +32,7 @@ returns-3 c =
     let ft = gr .before .before in
     let sh = ft .before .before in
     decode-4 _ _ (sh .before .resolve .ensures) _ _ _ (passed (sh .is-shape .ensures) (ft .before .if1 .left)) (passed (ft .fit2 .ensures) (gr .before .if2 .left))
-    (failed (gr .is-ground .ensures) (c .before .if3 .taken)) (c .answer3 .ensures)
+    (failed (gr .grinding-ok .ensures) (c .before .if3 .taken)) (c .answer3 .ensures)
 
 write-indices-requires : tie.Need-write-indices-requires
 write-indices-requires c κs =
@@ -50,7 +50,7 @@ returns-4 c =
     let ft = gr .before .before in
     let sh = ft .before .before in
     decode-0 _ _ (sh .before .resolve .ensures) _ _ _ _ (passed (sh .is-shape .ensures) (ft .before .if1 .left)) (passed (ft .fit2 .ensures) (gr .before .if2 .left))
-    (passed (gr .is-ground .ensures) (c .before .before .before .before .before .if3 .left)) (c .before .before .before .write-indices .ensures) (c .answer4 .ensures)
+    (passed (gr .grinding-ok .ensures) (c .before .before .before .before .before .if3 .left)) (c .before .before .before .write-indices .ensures) (c .answer4 .ensures)
 
 pub decode-spec : {M : Type 1} → statement M
 decode-spec =
@@ -63,7 +63,7 @@ decode-spec =
     (λ c κs. search needs)
     (λ c κs. search needs)
     returns-2
-    is-ground-requires
+    grinding-ok-requires
     (λ c κs. search needs)
     returns-3
     write-indices-requires

@@ -1,7 +1,6 @@
 -- Each way out of the call is one law of `Answers`, by the tests that led there; the local list has room for every count that is let through.
 -- Assumes nothing.
-use Prim.Native.Nat.{ℕ, _≤_}
-use mathlib.Core.Path.{_≡_, ap, _∙_}
+use mathlib.Core.Path.{_≡_}
 use native.Mathlib.Omega.{arith}
 use lib.ListN.{length, replicate, length-replicate}
 use borrow.Author.Needs.{needs}
@@ -23,8 +22,8 @@ returns-2 c =
     plan-3 _ _ (sh .before .resolve .ensures) _ _ _ (passed (sh .is-shape .ensures) (ft .before .if1 .left)) (failed (ft .fit2 .ensures) (c .before .if2 .taken))
     (c .answer2 .ensures)
 
-is-ground-requires : tie.Need-is-ground-requires
-is-ground-requires c κs =
+grinding-ok-requires : tie.Need-grinding-ok-requires
+grinding-ok-requires c κs =
     let ft = c .before in
     let sh = ft .before .before in
     let a = sh .before .before .before .before .args in
@@ -37,7 +36,7 @@ returns-3 c =
     let ft = gr .before .before in
     let sh = ft .before .before in
     plan-4 _ _ (sh .before .resolve .ensures) _ _ _ (passed (sh .is-shape .ensures) (ft .before .if1 .left)) (passed (ft .fit2 .ensures) (gr .before .if2 .left))
-    (failed (gr .is-ground .ensures) (c .before .if3 .taken)) (c .answer3 .ensures)
+    (failed (gr .grinding-ok .ensures) (c .before .if3 .taken)) (c .answer3 .ensures)
 
 revealed-nodes-requires : tie.Need-revealed-nodes-requires
 revealed-nodes-requires c κs =
@@ -56,7 +55,7 @@ returns-4 c =
     let ft = gr .before .before in
     let sh = ft .before .before in
     plan-5 _ _ (sh .before .resolve .ensures) _ _ _ (rv .revealed-nodes .result) (passed (sh .is-shape .ensures) (ft .before .if1 .left))
-    (passed (ft .fit2 .ensures) (gr .before .if2 .left)) (passed (gr .is-ground .ensures) (rv .before .before .if3 .left)) (rv .revealed-nodes .ensures .0)
+    (passed (ft .fit2 .ensures) (gr .before .if2 .left)) (passed (gr .grinding-ok .ensures) (rv .before .before .if3 .left)) (rv .revealed-nodes .ensures .0)
     (c .before .if4 .taken) (c .answer4 .ensures)
 
 copy-front-requires : tie.Need-copy-front-requires
@@ -83,7 +82,7 @@ returns-5 c =
     let within = c .before .before .before .before .before .before .if4 .left in
     let copied = c .before .before .before .copy-front .ensures in
     plan-0 _ _ (sh .before .resolve .ensures) _ _ _ (rv .revealed-nodes .result) (replicate 512 0) _ (passed (sh .is-shape .ensures) (ft .before .if1 .left))
-    (passed (ft .fit2 .ensures) (gr .before .if2 .left)) (passed (gr .is-ground .ensures) (rv .before .before .if3 .left)) (rv .revealed-nodes .ensures .0)
+    (passed (ft .fit2 .ensures) (gr .before .if2 .left)) (passed (gr .grinding-ok .ensures) (rv .before .before .if3 .left)) (rv .revealed-nodes .ensures .0)
     within (rw length-replicate (omega arith)) (rw (rv .revealed-nodes .ensures .1) at copied) (c .answer5 .ensures)
 
 pub plan-spec : {M : Type 1} → statement M
@@ -97,7 +96,7 @@ plan-spec =
     (λ c κs. search needs)
     (λ c κs. search needs)
     returns-2
-    is-ground-requires
+    grinding-ok-requires
     (λ c κs. search needs)
     returns-3
     (λ c. search needs)

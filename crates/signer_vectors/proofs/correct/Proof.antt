@@ -1,6 +1,6 @@
 -- The correction holds u when the rows are added. Assumes nothing.
 use borrow.Author.Needs.{needs}
-use mathlib.Core.Path.{_≡_, sym, _∙_}
+use mathlib.Core.Path.{sym, _∙_}
 use Rattle.signer_vectors.proofs.Steps.{copied}
 use Rattle.signer_vectors.proofs.correct.Statement.{statement}
 use Rattle.signer_vectors.proofs.correct.Tie as tie
@@ -25,8 +25,8 @@ correct-spec =
     (tie.spec
     (λ c κs. search needs)
     convert-requires
-    (λ c. search needs)
-    (λ c. search needs)
-    (λ c. search needs)
-    (λ c. search needs)
+    (λ c. c .before .before .before .before .before .before .before .before .convert .kept .1 .1 .1 .1 .1 .1 .1 .0)
+    (λ c. c .before .before .before .before .before .before .before .before .convert .kept .1 .1 .1 .1 .1 .1 .1 .1 .0 ∙ c .before .before .before .before .before .before .before .before .before .before .before .before .before .before .before .copy .kept .1 .0)
+    (λ c. c .before .before .before .before .before .before .before .before .convert .kept .1 .1 .1 .1 .1 .1 .1 .1 .1 .0)
+    (λ c. c .before .before .before .before .before .before .before .before .convert .kept .1 .1 .1 .1 .1 .1 .1 .1 .1 .1 .0)
     returns)

@@ -1,14 +1,11 @@
 -- Each way out of the call is one law of `Answers`, by the tests that led there. Assumes nothing.
 use borrow.Author.Needs.{needs}
-use Prim.Native.Nat.{ℕ, _+_, _*_, _≤_}
-use mathlib.Core.Path.{_≡_}
 use native.Mathlib.Omega.{arith}
-use lib.ListN.{length}
 use Rattle.spec.specs.Shapes.{level, nodeBytes, leafCommitmentBytes, openingBytes}
 use Rattle.laws.proofs.Tests.{failed, passed}
 use Rattle.laws.proofs.Lengths.{fits-sized}
 use Rattle.planning_laws.proofs.ShapeFacts.{shape-facts}
-use Rattle.shape.proofs.Answers.{row-max}
+use Rattle.rules.proofs.RowLength.{row-max}
 use Rattle.verifier.proofs.Answers.{Lengths, reconstruct-1, reconstruct-2, reconstruct-3, reconstruct-4, reconstruct-5, reconstruct-6, reconstruct-0}
 use Rattle.verifier.proofs.reconstruct.Statement.{statement}
 use Rattle.verifier.proofs.reconstruct.Tie as tie
@@ -37,8 +34,8 @@ returns-3 c =
     let sh = ro .before .before in
     reconstruct-3 _ _ (sh .before .resolve .ensures) _ _ _ _ _ _ _ (passed (sh .is-shape .ensures) (ro .before .if1 .left)) (passed (ro .is-row-length .ensures) (ft .before .if2 .left)) (failed (ft .reconstruct-lengths .ensures) (c .before .if3 .taken)) (c .answer3 .ensures)
 
-is-ground-requires : tie.Need-is-ground-requires
-is-ground-requires c κs =
+grinding-ok-requires : tie.Need-grinding-ok-requires
+grinding-ok-requires c κs =
     let ft = c .before in
     let ro = ft .before .before in
     let sh = ro .before .before in
@@ -56,7 +53,7 @@ returns-4 c =
     let ft = gr .before .before in
     let ro = ft .before .before in
     let sh = ro .before .before in
-    reconstruct-4 _ _ (sh .before .resolve .ensures) _ _ _ _ _ _ _ (passed (sh .is-shape .ensures) (ro .before .if1 .left)) (passed (ro .is-row-length .ensures) (ft .before .if2 .left)) (passed (ft .reconstruct-lengths .ensures) (gr .before .if3 .left)) (failed (gr .is-ground .ensures) (c .before .if4 .taken)) (c .answer4 .ensures)
+    reconstruct-4 _ _ (sh .before .resolve .ensures) _ _ _ _ _ _ _ (passed (sh .is-shape .ensures) (ro .before .if1 .left)) (passed (ro .is-row-length .ensures) (ft .before .if2 .left)) (passed (ft .reconstruct-lengths .ensures) (gr .before .if3 .left)) (failed (gr .grinding-ok .ensures) (c .before .if4 .taken)) (c .answer4 .ensures)
 
 count-nodes-requires : tie.Need-count-nodes-requires
 count-nodes-requires c κs =
@@ -79,7 +76,7 @@ returns-5 c =
     let ft = gr .before .before in
     let ro = ft .before .before in
     let sh = ro .before .before in
-    reconstruct-5 _ _ (sh .before .resolve .ensures) _ _ _ _ _ _ _ (cn .count-nodes .result) (passed (sh .is-shape .ensures) (ro .before .if1 .left)) (passed (ro .is-row-length .ensures) (ft .before .if2 .left)) (passed (ft .reconstruct-lengths .ensures) (gr .before .if3 .left)) (passed (gr .is-ground .ensures) (cn .before .if4 .left)) (cn .count-nodes .ensures) (c .before .if5 .taken) (c .answer5 .ensures)
+    reconstruct-5 _ _ (sh .before .resolve .ensures) _ _ _ _ _ _ _ (cn .count-nodes .result) (passed (sh .is-shape .ensures) (ro .before .if1 .left)) (passed (ro .is-row-length .ensures) (ft .before .if2 .left)) (passed (ft .reconstruct-lengths .ensures) (gr .before .if3 .left)) (passed (gr .grinding-ok .ensures) (cn .before .if4 .left)) (cn .count-nodes .ensures) (c .before .if5 .taken) (c .answer5 .ensures)
 
 mul-tau : tie.Need-mul-is-clear-from
 mul-tau c =
@@ -139,7 +136,7 @@ returns-6 c =
     let ft = gr .before .before in
     let ro = ft .before .before in
     let sh = ro .before .before in
-    reconstruct-6 _ _ (sh .before .resolve .ensures) _ _ _ _ _ _ _ (cn .count-nodes .result) (passed (sh .is-shape .ensures) (ro .before .if1 .left)) (passed (ro .is-row-length .ensures) (ft .before .if2 .left)) (passed (ft .reconstruct-lengths .ensures) (gr .before .if3 .left)) (passed (gr .is-ground .ensures) (cn .before .if4 .left)) (cn .count-nodes .ensures) (let h = c .before .before .before .before .if5 .left in omega arith)
+    reconstruct-6 _ _ (sh .before .resolve .ensures) _ _ _ _ _ _ _ (cn .count-nodes .result) (passed (sh .is-shape .ensures) (ro .before .if1 .left)) (passed (ro .is-row-length .ensures) (ft .before .if2 .left)) (passed (ft .reconstruct-lengths .ensures) (gr .before .if3 .left)) (passed (gr .grinding-ok .ensures) (cn .before .if4 .left)) (cn .count-nodes .ensures) (let h = c .before .before .before .before .if5 .left in omega arith)
     (failed (c .before .before .is-clear-from .ensures) (c .before .if6 .taken)) (c .answer6 .ensures)
 
 write-reconstruction-requires : tie.Need-write-reconstruction-requires
@@ -167,7 +164,7 @@ returns-7 c =
     let ft = gr .before .before in
     let ro = ft .before .before in
     let sh = ro .before .before in
-    reconstruct-0 _ _ (sh .before .resolve .ensures) _ _ _ _ _ _ _ (cn .count-nodes .result) _ (passed (sh .is-shape .ensures) (ro .before .if1 .left)) (passed (ro .is-row-length .ensures) (ft .before .if2 .left)) (passed (ft .reconstruct-lengths .ensures) (gr .before .if3 .left)) (passed (gr .is-ground .ensures) (cn .before .if4 .left)) (cn .count-nodes .ensures) (let h = c .before .before .before .before .before .before .before .before .before .before .before .before .before .before .before .before .before .if5 .left in omega arith)
+    reconstruct-0 _ _ (sh .before .resolve .ensures) _ _ _ _ _ _ _ (cn .count-nodes .result) _ (passed (sh .is-shape .ensures) (ro .before .if1 .left)) (passed (ro .is-row-length .ensures) (ft .before .if2 .left)) (passed (ft .reconstruct-lengths .ensures) (gr .before .if3 .left)) (passed (gr .grinding-ok .ensures) (cn .before .if4 .left)) (cn .count-nodes .ensures) (let h = c .before .before .before .before .before .before .before .before .before .before .before .before .before .before .before .before .before .if5 .left in omega arith)
     (passed (c .before .before .before .before .before .before .before .before .before .before .before .before .before .before .before .is-clear-from .ensures) (c .before .before .before .before .before .before .before .before .before .before .before .before .before .before .if6 .left)) (c .before .before .before .before .before .before .before .before .before .write-reconstruction .ensures) (c .answer7 .ensures)
 
 pub reconstruct-spec : {M : Type 1} → statement M
@@ -184,7 +181,7 @@ reconstruct-spec =
     reconstruct-lengths-requires
     (λ c κs. search needs)
     returns-3
-    is-ground-requires
+    grinding-ok-requires
     (λ c κs. search needs)
     returns-4
     count-nodes-requires

@@ -1,4 +1,4 @@
--- `verifier_vector::add_visible` meets its contract: the entries before the hidden one, the hidden one as lent, and the entries behind it, one after another.
+-- The entries before the hidden one, the hidden one as lent, and the entries behind it, one after another.
 -- Assumes nothing.
 use borrow.Author.Needs.{needs}
 use mathlib.Core.Path.{_≡_, sym, ap, ap₂, _∙_}

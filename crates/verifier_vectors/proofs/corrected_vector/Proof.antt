@@ -1,4 +1,4 @@
--- `verifier_vectors::corrected_vector` meets its contract: what `convert` ensures, and the correction added to the columns. Assumes nothing.
+-- What `convert` ensures, and the correction added to the columns. Assumes nothing.
 use borrow.Author.Needs.{needs}
 use mathlib.Core.Path.{_∙_}
 use Rattle.spec.specs.Shapes.{depthOf, entriesOf}

@@ -1,60 +1,45 @@
--- `verifier_vectors::next_vector` meets its contract: what `corrected_vector` ensures of the parts lent, each behind those before it. Assumes nothing.
+-- What `corrected_vector` ensures of the parts lent, each behind those before it. That a part ends within its
+-- buffer answers the needs of its start and its end. Assumes nothing.
 use borrow.Author.Needs.{needs}
-use mathlib.Core.Path.{_≡_, ap, _∙_}
-use Prim.Native.Nat.{ℕ, _+_, _-_, _*_, _^_}
-use native.Mathlib.Omega.{arith}
-use lib.ListN.{length-take, length-drop}
+use mathlib.Core.Path.{_≡_, refl, ap, _∙_}
+use Prim.Native.Nat.{ℕ, _-_, _*_, _^_}
+use native.Mathlib.Nat.{le-add-right}
+use lib.ListN.{length}
 use Rattle.spec.specs.Bytes.{part}
 use Rattle.spec.specs.Shapes.{level, nodeBytes, leafCommitmentBytes}
 use Rattle.spec.specs.Verifier.{hiddenLeafCommitment}
-use Rattle.vector.proofs.Buffers.{lent, columns-width, commitments-end, columns-end}
+use Rattle.vector.proofs.Buffers.{part-size, lent, start-fits, end-fits, block-end, commitments-end, columns-end, columns-fit}
 use Rattle.verifier_vectors.proofs.Steps.{before-more}
 use Rattle.verifier_vectors.proofs.next_vector.Statement.{statement}
 use Rattle.verifier_vectors.proofs.next_vector.Tie as tie
 
-mul-c : tie.Need-mul-c
-mul-c c = (let h = columns-width (c .before .before .before .before .before .before .before .before .before .before .args .s) (c .before .before .before .before .before .before .before .before .before .before .pre .1 .0 .0) (c .before .before .before .before .before .before .before .before .before .before .args .b) (c .before .before .before .before .before .before .before .before .before .before .pre .1 .0 .2) in omega arith)
+opening-end : tie.Need-part-corrected-vector-end
+opening-end c = (let start = c .before .before .before .before .before .before .before .before .before .before in block-end 48 48 (start .args .i) (start .args .s .tau) (length (start .args .opening .now)) refl (start .pre .1 .0 .1) (start .pre .1 .0 .7))
 
-mul-lcs : tie.Need-mul-corrected-vector-3
-mul-lcs c = (let p = c .before .before .before .before .before .before .before .before .before .before .before .pre in let h = commitments-end (c .before .before .before .before .before .before .before .before .before .before .before .args .s) _ (c .before .before .before .before .before .before .before .before .before .before .before .args .i) _ (c .before .before .entry-count .ensures .0) (p .1 .0 .1) (p .1 .1 .0) in omega arith)
+lcs-end : tie.Need-part-corrected-vector-end-2
+lcs-end c = (let start = c .before .before .before .before .before .before .before .before .before .before .before in let n = c .before .before .entry-count in commitments-end (start .args .s) (n .result) (start .args .i) (length (start .args .lcs .now)) (n .ensures .0) (start .pre .1 .0 .1) (start .pre .1 .1 .0))
 
-mul-lcs-2 : tie.Need-mul-corrected-vector-4
-mul-lcs-2 c = (let p = c .before .before .before .before .before .before .before .before .before .before .before .pre in let h = commitments-end (c .before .before .before .before .before .before .before .before .before .before .before .args .s) _ (c .before .before .before .before .before .before .before .before .before .before .before .args .i) _ (c .before .before .entry-count .ensures .0) (p .1 .0 .1) (p .1 .1 .0) in omega arith)
+q-end : tie.Need-part-corrected-vector-end-3
+q-end c = (let start = c .before .before .before .before .before .before .before .before .before .before .before .before in columns-end (start .args .s) (start .args .b) (start .args .i) (length (start .args .q .now)) (start .pre .1 .0 .1) (start .pre .1 .1 .1))
 
-add-lcs : tie.Need-add-corrected-vector-2
-add-lcs c = (let p = c .before .before .before .before .before .before .before .before .before .before .before .pre in let h = commitments-end (c .before .before .before .before .before .before .before .before .before .before .before .args .s) _ (c .before .before .before .before .before .before .before .before .before .before .before .args .i) _ (c .before .before .entry-count .ensures .0) (p .1 .0 .1) (p .1 .1 .0) in omega arith)
-
-end-lcs : tie.Need-part-corrected-vector-end-2
-end-lcs c = (let p = c .before .before .before .before .before .before .before .before .before .before .before .pre in let h = commitments-end (c .before .before .before .before .before .before .before .before .before .before .before .args .s) _ (c .before .before .before .before .before .before .before .before .before .before .before .args .i) _ (c .before .before .entry-count .ensures .0) (p .1 .0 .1) (p .1 .1 .0) in omega arith)
-
-mul-q : tie.Need-mul-corrected-vector-5
-mul-q c = (let p = c .before .before .before .before .before .before .before .before .before .before .before .before .pre in let h = columns-end (c .before .before .before .before .before .before .before .before .before .before .before .before .args .s) (c .before .before .before .before .before .before .before .before .before .before .before .before .args .b) (c .before .before .before .before .before .before .before .before .before .before .before .before .args .i) _ (p .1 .0 .1) (p .1 .1 .1) in omega arith)
-
-mul-q-2 : tie.Need-mul-corrected-vector-6
-mul-q-2 c = (let p = c .before .before .before .before .before .before .before .before .before .before .before .before .pre in let h = columns-end (c .before .before .before .before .before .before .before .before .before .before .before .before .args .s) (c .before .before .before .before .before .before .before .before .before .before .before .before .args .b) (c .before .before .before .before .before .before .before .before .before .before .before .before .args .i) _ (p .1 .0 .1) (p .1 .1 .1) in omega arith)
-
-add-q : tie.Need-add-corrected-vector-3
-add-q c = (let p = c .before .before .before .before .before .before .before .before .before .before .before .before .pre in let h = columns-end (c .before .before .before .before .before .before .before .before .before .before .before .before .args .s) (c .before .before .before .before .before .before .before .before .before .before .before .before .args .b) (c .before .before .before .before .before .before .before .before .before .before .before .before .args .i) _ (p .1 .0 .1) (p .1 .1 .1) in omega arith)
-
-end-q : tie.Need-part-corrected-vector-end-3
-end-q c = (let p = c .before .before .before .before .before .before .before .before .before .before .before .before .pre in let h = columns-end (c .before .before .before .before .before .before .before .before .before .before .before .before .args .s) (c .before .before .before .before .before .before .before .before .before .before .before .before .args .b) (c .before .before .before .before .before .before .before .before .before .before .before .before .args .i) _ (p .1 .0 .1) (p .1 .1 .1) in omega arith)
+hashes-end : tie.Need-part-corrected-vector-end-4
+hashes-end c = (let start = c .before .before .before .before .before .before .before .before .before .before .before .before .before in block-end 32 32 (start .args .i) (start .args .s .tau) (length (start .args .hashes .now)) refl (start .pre .1 .0 .1) (start .pre .1 .1 .2))
 
 corrected-vector-requires : tie.Need-corrected-vector-requires
 corrected-vector-requires c κs =
-    let g = c .before .before .before .before .before .before .before .before .before .before .before .before .before .before .args in
-    let p = c .before .before .before .before .before .before .before .before .before .before .before .before .before .before .pre in
-    let i = g .i in
+    let start = c .before .before .before .before .before .before .before .before .before .before .before .before .before .before in
+    let g = start .args in
+    let p = start .pre .1 .0 in
     let count = c .before .before .before .before .before .entry-count in
-    let n = g .b * g .s .k in
-    let lt = p .1 .0 .1 in (
-      p .0,
+    let n = g .b * g .s .k in (
+      start .pre .0,
       (
-        (p .1 .0 .0, p .1 .0 .1, p .1 .0 .2, p .1 .0 .3, p .1 .0 .4, p .1 .0 .5, p .1 .0 .6),
+        (p .0, p .1, p .2, p .3, p .4, p .5, p .6),
         (
-          simp (length-take, length-drop) (omega (arith, p .1 .0 .7)),
-          lent (48 * count .result * i) (48 * count .result) (g .lcs .now) (commitments-end (g .s) _ i _ (count .ensures .0) lt (p .1 .1 .0)) ∙ ap (λ (m : ℕ). 48 * m) (count .ensures .0),
-          lent (n * i) n (g .q .now) (columns-end (g .s) (g .b) i _ lt (p .1 .1 .1)),
-          lent (32 * i) 32 (g .hashes .now) (omega (arith, p .1 .1 .2)),
+          lent (48 * g .i) 48 (g .opening .now) (opening-end (c .before .before .before .before)),
+          lent (48 * count .result * g .i) (48 * count .result) (g .lcs .now) (lcs-end (c .before .before .before)) ∙ ap (λ (m : ℕ). 48 * m) (count .ensures .0),
+          lent (n * g .i) n (g .q .now) (q-end (c .before .before)),
+          lent (32 * g .i) 32 (g .hashes .now) (hashes-end (c .before)),
         ),
       ),
     )
@@ -62,8 +47,9 @@ corrected-vector-requires c κs =
 returns : tie.Need-returns
 unfolding level nodeBytes leafCommitmentBytes hiddenLeafCommitment
 returns c before =
-    let g = c .before .before .before .before .before .before .before .before .before .before .before .before .before .before .before .before .before .before .before .before .before .args in
-    let p = c .before .before .before .before .before .before .before .before .before .before .before .before .before .before .before .before .before .before .before .before .before .pre in
+    let start = c .before .before .before .before .before .before .before .before .before .before .before .before .before .before .before .before .before .before .before .before .before in
+    let g = start .args in
+    let p = start .pre .1 in
     let s = g .s in
     let i = g .i in
     let opening = g .opening .now in
@@ -71,51 +57,48 @@ returns c before =
     let v = 48 * count .result in
     let w : v ≡ 48 * 2 ^ s .k = ap (λ (m : ℕ). 48 * m) (count .ensures .0) in
     let n = g .b * s .k in
-    let lt = p .1 .0 .1 in
-    let kept = c .before .before .before .before .before .before .corrected-vector .kept in
-    let last = c .before .before .before .before .before .before .corrected-vector .last in
-    let one : 48 * i + 48 - 48 * i ≡ 48 = omega arith in
-    let made = c .before .before .before .before .before .before .corrected-vector .ensures opening (ap (part opening (48 * i)) one) in
-    before-more s (g .b) (g .iv) (g .ch .now) (g .corrections .now) opening (g .tree .now) v i (g .lcs .now) (g .q .now) (g .hashes .now)
-    (last .1 .1 .1 .1 .1 .1 .1 .1 .1 .1 .0) (last .1 .1 .1 .1 .1 .1 .1 .1 .1 .1 .1 .0) (last .1 .1 .1 .1 .1 .1 .1 .1 .1 .1 .1 .1 .0) _ _ _ w lt (p .1 .1 .0) (p .1 .1 .1) (p .1 .1 .2)
-    (kept .1 .1 .1 .1 .1 .1 .1 .1 .1 .1 .0 ∙ (lent (v * i) v (g .lcs .now) (commitments-end s _ i _ (count .ensures .0) lt (p .1 .1 .0)) ∙ w))
-    (kept .1 .1 .1 .1 .1 .1 .1 .1 .1 .1 .1 .0 ∙ lent (n * i) n (g .q .now) (columns-end s (g .b) i _ lt (p .1 .1 .1)))
-    (kept .1 .1 .1 .1 .1 .1 .1 .1 .1 .1 .1 .1 .0 ∙ lent (32 * i) 32 (g .hashes .now) (omega (arith, p .1 .1 .2)))
-    made before
+    let made = c .before .before .before .before .before .before .corrected-vector in
+    let kept = made .kept .1 .1 .1 .1 .1 .1 .1 .1 .1 .1 in
+    let last = made .last .1 .1 .1 .1 .1 .1 .1 .1 .1 .1 in
+    before-more s (g .b) (g .iv) (g .ch .now) (g .corrections .now) opening (g .tree .now) v i (g .lcs .now) (g .q .now) (g .hashes .now) (last .0) (last .1 .0) (last .1 .1 .0) _ _ _ w (p .0 .1) (p .1 .0) (p .1 .1) (p .1 .2)
+    (kept .0 ∙ (lent (v * i) v (g .lcs .now) (lcs-end (c .before .before .before .before .before .before .before .before .before .before)) ∙ w))
+    (kept .1 .0 ∙ lent (n * i) n (g .q .now) (q-end (c .before .before .before .before .before .before .before .before .before)))
+    (kept .1 .1 .0 ∙ lent (32 * i) 32 (g .hashes .now) (hashes-end (c .before .before .before .before .before .before .before .before)))
+    (made .ensures opening (ap (part opening (48 * i)) (part-size (48 * i) 48))) before
 
 pub next-vector-spec : {M : Type 1} → statement M
 next-vector-spec =
     tie.close
     (tie.spec
-    (λ c κs. search needs)
+    (λ c κs. c .before .before .before .before .before .before .before .before .pre .1 .0 .0)
     (λ c. search needs)
-    mul-c
-    (λ c. search needs)
-    (λ c. search needs)
-    (λ c. search needs)
-    (λ c. search needs)
-    (λ c. search needs)
-    (λ c. search needs)
-    mul-lcs
-    mul-lcs-2
-    add-lcs
-    (λ c. search needs)
-    (λ c. search needs)
-    end-lcs
-    mul-q
-    mul-q-2
-    add-q
-    (λ c. search needs)
-    (λ c. search needs)
-    end-q
-    (λ c. search needs)
-    (λ c. search needs)
-    (λ c. search needs)
-    (λ c. search needs)
-    (λ c. search needs)
-    (λ c. search needs)
+    (λ c. (let start = c .before .before .before .before .before .before .before .before .before .before in columns-fit (start .args .s) (start .pre .1 .0 .0) (start .args .b) (start .pre .1 .0 .2)))
+    (λ c. start-fits _ _ _ (opening-end c) (c .before .before .before .before .before .before .before .before .before .before .good .1 .1 .1 .1 .1 .1 .1 .1 .1 .0 .0))
+    (λ c. start-fits _ _ _ (opening-end c) (c .before .before .before .before .before .before .before .before .before .before .good .1 .1 .1 .1 .1 .1 .1 .1 .1 .0 .0))
+    (λ c. end-fits _ _ _ (opening-end c) (c .before .before .before .before .before .before .before .before .before .before .good .1 .1 .1 .1 .1 .1 .1 .1 .1 .0 .0))
+    (λ c. le-add-right _ _)
+    (λ c. le-add-right _ _)
+    opening-end
+    (λ c. start-fits _ _ _ (lcs-end c) (c .before .before .before .before .before .before .before .before .before .before .before .good .1 .1 .1 .1 .1 .1 .1 .1 .1 .1 .0 .0))
+    (λ c. start-fits _ _ _ (lcs-end c) (c .before .before .before .before .before .before .before .before .before .before .before .good .1 .1 .1 .1 .1 .1 .1 .1 .1 .1 .0 .0))
+    (λ c. end-fits _ _ _ (lcs-end c) (c .before .before .before .before .before .before .before .before .before .before .before .good .1 .1 .1 .1 .1 .1 .1 .1 .1 .1 .0 .0))
+    (λ c. le-add-right _ _)
+    (λ c. le-add-right _ _)
+    lcs-end
+    (λ c. start-fits _ _ _ (q-end c) (c .before .before .before .before .before .before .before .before .before .before .before .before .good .1 .1 .1 .1 .1 .1 .1 .1 .1 .1 .1 .0 .0))
+    (λ c. start-fits _ _ _ (q-end c) (c .before .before .before .before .before .before .before .before .before .before .before .before .good .1 .1 .1 .1 .1 .1 .1 .1 .1 .1 .1 .0 .0))
+    (λ c. end-fits _ _ _ (q-end c) (c .before .before .before .before .before .before .before .before .before .before .before .before .good .1 .1 .1 .1 .1 .1 .1 .1 .1 .1 .1 .0 .0))
+    (λ c. le-add-right _ _)
+    (λ c. le-add-right _ _)
+    q-end
+    (λ c. start-fits _ _ _ (hashes-end c) (c .before .before .before .before .before .before .before .before .before .before .before .before .before .good .1 .1 .1 .1 .1 .1 .1 .1 .1 .1 .1 .1 .0 .0))
+    (λ c. start-fits _ _ _ (hashes-end c) (c .before .before .before .before .before .before .before .before .before .before .before .before .before .good .1 .1 .1 .1 .1 .1 .1 .1 .1 .1 .1 .1 .0 .0))
+    (λ c. end-fits _ _ _ (hashes-end c) (c .before .before .before .before .before .before .before .before .before .before .before .before .before .good .1 .1 .1 .1 .1 .1 .1 .1 .1 .1 .1 .1 .0 .0))
+    (λ c. le-add-right _ _)
+    (λ c. le-add-right _ _)
+    hashes-end
     corrected-vector-requires
-    (λ c. search needs)
-    (λ c. search needs)
-    (λ c. search needs)
+    (λ c. c .before .before .before .before .before .lcs .given .1)
+    (λ c. c .before .before .before .q .given .1)
+    (λ c. c .before .hashes .given .1)
     returns)

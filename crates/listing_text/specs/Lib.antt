@@ -1,0 +1,3 @@
+-- The texts, and how a function puts one.
+pub mod Text
+pub mod Put

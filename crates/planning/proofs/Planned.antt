@@ -1,0 +1,20 @@
+-- The planned nodes at the front of a list that has room for them. By what a written list is. Assumes nothing.
+use Prim.Native.Nat.{ℕ, _+_, _≤_}
+use mathlib.Core.Path.{_≡_, refl, sym, ap, _∙_}
+use mathlib.Core.List.{List}
+use native.Mathlib.Omega.{arith}
+use lib.ListN.{length, take, drop}
+use lib.Seq.{sets, sets-eq, take-at}
+use Rattle.spec.specs.declared.Shape.{Shape}
+use Rattle.spec.specs.Tree.{nodeCount}
+use Rattle.spec.specs.Shapes.{planned, plannedCount}
+
+pub planned-length : (s : Shape) (ch : List ℕ) → length (planned s ch) ≡ plannedCount s ch
+unfolding planned plannedCount nodeCount
+planned-length s ch = refl
+
+-- the planned nodes, stored at the front of a list that has room
+pub planned-front : (s : Shape) (ch list : List ℕ) (n : ℕ) → n ≡ plannedCount s ch → n ≤ length list → take n (sets list 0 (planned s ch)) ≡ planned s ch
+planned-front s ch list n c l =
+    let size : length (planned s ch) ≡ n = planned-length s ch ∙ sym c in
+    ap (take n) (sets-eq (planned s ch) list 0 (omega arith)) ∙ take-at (planned s ch) (drop (0 + length (planned s ch)) list) n size

@@ -1,0 +1,92 @@
+// What reconstruct writes, from hash keys to the commitment; the tests of the call stand in `verifier`.
+ghost use mathlib.Core.Path.{_≡_};
+ghost use mathlib.Core.Bool.{true};
+ghost use Prim.Native.Nat.{_*_, _≤_};
+ghost use lib.ListN.{length};
+ghost use Rattle.spec.specs.Shapes.{shapeOk, plannedCount, treeBytes, leafCommitmentsBytes, openingBytes, matrixBytes, correctionsBytes};
+ghost use Rattle.spec.specs.Primitives.{faest};
+ghost use Rattle.spec.specs.Calls.{Reconstructed, reconstructed};
+use spec::Shape;
+
+// Writes what reconstruct writes; keys and hashes are room for the hash keys and the hashes of the vectors, n is the count of revealed nodes.
+fn write_all(
+    s: Shape,
+    b: usize,
+    n: usize,
+    iv: &[u8],
+    ch: &[u8],
+    corrections: &[u8],
+    opening: &[u8],
+    keys: &mut [u8],
+    hashes: &mut [u8],
+    commitment: &mut [u8],
+    tree: &mut [u8],
+    lcs: &mut [u8],
+    q: &mut [u8],
+)
+    requires { ⌜ (shapeOk s ≡ true) × (b ≤ 8192) × (n ≡ plannedCount s (now ch)) × (n ≤ s .t) × (length (now keys) ≡ 48 * s .tau) × (length (now hashes) ≡ 32 * s .tau) ⌝ }
+    requires { ⌜ (length (now iv) ≡ 16) × (length (now ch) ≡ 16) × (length (now corrections) ≡ correctionsBytes s b) × (length (now opening) ≡ openingBytes s) ⌝ }
+    requires { ⌜ (length (now commitment) ≡ 32) × (length (now tree) ≡ treeBytes s) × (length (now lcs) ≡ leafCommitmentsBytes s) × (length (now q) ≡ matrixBytes s b) ⌝ }
+    ensures { λ _. ⌜ _≡_ {A = Reconstructed} (record { commitment = now (commitment .exit); tree = now (tree .exit); leafCommitments = now (lcs .exit); q = now (q .exit) })
+        (reconstructed faest s b (now (iv .entry)) (now (ch .entry)) (now (corrections .entry)) (now (opening .entry))) ⌝ }
+{
+    let t = aes::table();
+    let x = generator::load_iv(iv);
+    shake::h0(iv, keys);
+    verifier_tree::reconstruct_tree(&t, s, ch, x, n, opening, tree);
+    verifier_vectors::write_vectors(
+        &t,
+        s,
+        b,
+        x,
+        keys,
+        ch,
+        tree,
+        corrections,
+        opening,
+        lcs,
+        q,
+        hashes,
+    );
+    shake::h1(hashes, commitment);
+}
+
+// Writes what reconstruct writes, once every test has been passed.
+pub fn write_reconstruction(
+    s: Shape,
+    b: usize,
+    n: usize,
+    iv: &[u8],
+    ch: &[u8],
+    corrections: &[u8],
+    opening: &[u8],
+    commitment: &mut [u8],
+    tree: &mut [u8],
+    lcs: &mut [u8],
+    q: &mut [u8],
+)
+    requires { ⌜ (shapeOk s ≡ true) × (b ≤ 8192) × (n ≡ plannedCount s (now ch)) × (n ≤ s .t) ⌝ }
+    requires { ⌜ (length (now iv) ≡ 16) × (length (now ch) ≡ 16) × (length (now corrections) ≡ correctionsBytes s b) × (length (now opening) ≡ openingBytes s) ⌝ }
+    requires { ⌜ (length (now commitment) ≡ 32) × (length (now tree) ≡ treeBytes s) × (length (now lcs) ≡ leafCommitmentsBytes s) × (length (now q) ≡ matrixBytes s b) ⌝ }
+    ensures { λ _. ⌜ _≡_ {A = Reconstructed} (record { commitment = now (commitment .exit); tree = now (tree .exit); leafCommitments = now (lcs .exit); q = now (q .exit) })
+        (reconstructed faest s b (now (iv .entry)) (now (ch .entry)) (now (corrections .entry)) (now (opening .entry))) ⌝ }
+{
+    let tau = s.tau;
+    let mut keys = [0u8; 1536];
+    let mut hashes = [0u8; 1024];
+    write_all(
+        s,
+        b,
+        n,
+        iv,
+        ch,
+        corrections,
+        opening,
+        &mut keys[0..48 * tau],
+        &mut hashes[0..32 * tau],
+        commitment,
+        tree,
+        lcs,
+        q,
+    );
+}

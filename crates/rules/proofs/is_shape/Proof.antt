@@ -1,0 +1,54 @@
+-- A limit that is broken refutes the facts of a shape; with all kept the sum decides. Assumes nothing.
+use Prim.Native.Nat.{_*_, _≤_}
+use native.Mathlib.Omega.{arith}
+use native.Mathlib.Nat.{mul-le-mul}
+use Rattle.planning_laws.proofs.ShapeFacts.{shape-refused, shape-by-sum}
+use Rattle.rules.proofs.is_shape.Statement.{statement}
+use Rattle.rules.proofs.is_shape.Tie as tie
+
+returns : tie.Need-returns
+returns c = shape-refused (c .before .before .args .s) (λ f. omega arith)
+
+returns-2 : tie.Need-returns-2
+returns-2 c = shape-refused (c .before .before .before .before .args .s) (λ f. omega arith)
+
+returns-3 : tie.Need-returns-3
+returns-3 c = shape-refused (c .before .before .before .before .before .before .args .s) (λ f. omega arith)
+
+returns-4 : tie.Need-returns-4
+returns-4 c = shape-refused (c .before .before .before .before .before .before .before .before .args .s) (λ f. omega arith)
+
+returns-5 : tie.Need-returns-5
+returns-5 c = shape-refused (c .before .before .before .before .before .before .before .before .before .before .args .s) (λ f. omega arith)
+
+returns-6 : tie.Need-returns-6
+returns-6 c = shape-refused (c .before .before .before .before .before .before .before .before .before .before .before .before .args .s) (λ f. omega arith)
+
+returns-7 : tie.Need-returns-7
+returns-7 c =
+    shape-refused (c .before .before .before .before .before .before .before .before .before .before .before .before .before .before .args .s) (λ f. omega arith)
+
+mul-result : tie.Need-mul-result
+mul-result c =
+    let s = c .before .before .before .before .before .before .before .before .before .before .before .before .before .before .before .args .s in
+    let h : s .tau ≤ 32 = omega arith in
+    let k : s .k ≤ 12 = omega arith in
+    let p : s .tau * s .k ≤ 32 * 12 = mul-le-mul h k in
+    omega arith
+
+add-result : tie.Need-add-result
+add-result c =
+    let s = c .before .before .before .before .before .before .before .before .before .before .before .before .before .before .before .before .args .s in
+    let h : s .tau ≤ 32 = omega arith in
+    let k : s .k ≤ 12 = omega arith in
+    let p : s .tau * s .k ≤ 32 * 12 = mul-le-mul h k in
+    omega arith
+
+returns-8 : tie.Need-returns-8
+returns-8 c =
+    shape-by-sum (c .before .before .before .before .before .before .before .before .before .before .before .before .before .before .before .before .args .s)
+    (omega arith) (omega arith) (omega arith) (omega arith) (omega arith) (omega arith) (omega arith)
+
+pub is-shape-spec : {M : Type 1} → statement M
+is-shape-spec =
+    tie.close (tie.spec returns returns-2 returns-3 returns-4 returns-5 returns-6 returns-7 mul-result add-result returns-8)

@@ -1,0 +1,63 @@
+-- Each buffer by what its callee ensures. Assumes nothing.
+use borrow.Author.Needs.{needs}
+use Prim.Native.Nat.{ℕ, _-_}
+use mathlib.Core.Path.{sym, ap, ap₂, _∙_}
+use mathlib.Core.List.{List}
+use native.Mathlib.Omega.{arith}
+use Rattle.spec.specs.Hashes.{hash0, hash1}
+use Rattle.spec.specs.Shapes.{level, nodeBytes, hashBytes, rate, treeBytes}
+use Rattle.spec.specs.Primitives.{faest}
+use Rattle.spec.specs.Leaves.{commitmentOf}
+use Rattle.spec.specs.Calls.{committed}
+use Rattle.signer_commit.proofs.Answers.{commit-writes}
+use Rattle.signer_commit.proofs.write_all.Statement.{statement}
+use Rattle.signer_commit.proofs.write_all.Tie as tie
+
+grow-requires : tie.Need-grow-requires
+unfolding level nodeBytes treeBytes
+grow-requires c κs =
+    let start = c .before .before .before .before .before .before .before .before .before .before .before .before .before .before .before .before .before .before .before in
+    let l = c .before .leaf-count .ensures in
+    (c .before .before .before .before .before .before .before .before .table .ensures, (start .pre .0 .2, l .1, omega arith, omega arith))
+
+write-vectors-requires : tie.Need-write-vectors-requires
+unfolding rate faest
+write-vectors-requires c κs =
+    let start = c .before .before .before .before .before .before .before .before .before .before .before .before .before .before .before .before .before .before .before .before .before .before .before .before .before .before .before .before .before .before in
+    let p = start .pre .0 in
+    let q = start .pre .1 in
+    let keys = c .before .before .before .before .before .before .before .before .before .before .before .before .before .before .before .before .h0 .ensures ∙ ap₂ (λ (m : List ℕ) (n : ℕ). hash0 168 m n) (sym (c .before .before .before .before .before .before .before .before .before .before .before .before .before .before .before .before .before .before .load-iv .ensures)) (p .4) in
+    (c .before .before .before .before .before .before .before .before .before .before .before .before .before .before .before .before .before .before .before .table .ensures, ((p .0, p .1, keys, c .before .before .before .before .before .before .before .before .before .before .grow .kept .1 .1 .1 .1 .0 ∙ q .1), (q .2, q .3, q .4, q .5, p .5)))
+
+returns : tie.Need-returns
+unfolding level nodeBytes hashBytes rate faest commitmentOf
+returns c =
+    let start = c .before .before .before .before .before .before .before .before .before .before .before .before .before .before .before .before .before .before .before .before .before .before .before .before .before .before .before .before .before .before .before .before .before .before .before .before .before .before .before .before .before .before .before .before .before .before in
+    let g = start .args in
+    let x = c .before .before .before .before .before .before .before .before .before .before .before .before .before .before .before .before .before .before .before .before .before .before .before .before .before .before .before .before .before .before .before .before .before .before .load-iv in
+    let made = c .before .before .before .before .before .before .before .before .before .before .before .before .before .before .before .write-vectors .ensures in
+    let tree = c .before .before .before .before .before .before .before .before .before .before .before .before .before .before .before .before .before .before .before .before .before .before .before .before .before .before .grow .ensures (g .s) (sym (c .before .before .before .before .before .before .before .before .before .before .before .before .before .before .before .before .before .before .before .before .before .before .before .before .before .before .before .before .leaf-count .ensures .0)) in
+    let hash = c .before .before .h1 .ensures ∙ ap₂ (λ (m : List ℕ) (n : ℕ). hash1 168 m n) (made .1 .1 .1 .1) (start .pre .1 .0) in
+    commit-writes (g .s) (g .b) (g .root .now) (x .result) _ _ _ _ _ _ tree hash (made .0) (made .1 .0) (made .1 .1 .0) (made .1 .1 .1 .0)
+    ∙ ap (committed faest (g .s) (g .b) (g .root .now)) (x .ensures)
+
+pub write-all-spec : {M : Type 1} → statement M
+write-all-spec =
+    tie.close
+    (tie.spec
+    (λ c κs. search needs)
+    (λ c κs. search needs)
+    (λ c κs. search needs)
+    (λ c κs. search needs)
+    grow-requires
+    write-vectors-requires
+    (λ c κs. search needs)
+    (λ c. search needs)
+    (λ c. search needs)
+    (λ c. search needs)
+    (λ c. search needs)
+    (λ c. search needs)
+    (λ c. search needs)
+    (λ c. search needs)
+    (λ c. search needs)
+    returns)

@@ -1,0 +1,61 @@
+-- u was cleared when the rows are added; the parts lent stand at the front of the buffers. Assumes nothing.
+use borrow.Author.Needs.{needs}
+use Prim.Native.Nat.{ℕ, _-_, _*_}
+use mathlib.Core.Path.{_≡_, ap, _∙_}
+use native.Mathlib.Omega.{arith}
+use lib.ListN.{length}
+use Rattle.spec.specs.Bytes.{zeros}
+use Rattle.laws.proofs.Lists.{length-part}
+use Rattle.signer_vectors.proofs.Steps.{fronts}
+use Rattle.signer_vectors.proofs.vector_of_u.Statement.{statement}
+use Rattle.signer_vectors.proofs.vector_of_u.Tie as tie
+
+convert-requires : tie.Need-convert-requires
+convert-requires c κs =
+    let start = c .before .before .before .before .before .before .before .before .before .before .before .before .before .before .before .before in
+    let g = start .args in
+    let n = c .before .before .before .before .before .before .before .before .before .entry-count in
+    let w = 48 * n .result in (
+      start .pre .0,
+      (
+        start .pre .1 .0,
+        (
+          length-part (g .lcs .now) 0 (w - 0) (omega arith) ∙ (let z : w - 0 ≡ w = omega arith in z) ∙ ap (λ (x : ℕ). 48 * x) (n .ensures .0),
+          search needs,
+          length-part (g .v .now) 0 (g .b * g .s .k - 0) (omega arith) ∙ (let z : g .b * g .s .k - 0 ≡ g .b * g .s .k = omega arith in z),
+          length-part (g .hashes .now) 0 (32 - 0) (omega arith),
+        ),
+      ),
+    )
+
+returns : tie.Need-returns
+returns c =
+    let start = c .before .before .before .before .before .before .before .before .before .before .before .before .before .before .before .before .before .before .before .before .before .before .before .before .before in
+    let g = start .args in
+    let all : length (g .u .now) - 0 ≡ g .b = omega arith in
+    let cleared = c .before .before .before .before .before .before .before .before .before .before .before .before .before .before .before .clear-from .ensures ∙ ap zeros all in
+    fronts (g .s) (g .b) (g .iv) (g .tree .now) (g .i) _ _ (g .lcs .now) (g .v .now) (g .hashes .now) _ _ _ _ _ _ (rw cleared at (c .before .before .before .before .before .before .before .before .convert .ensures))
+
+pub vector-of-u-spec : {M : Type 1} → statement M
+vector-of-u-spec =
+    tie.close
+    (tie.spec
+    (λ c κs. search needs)
+    (λ c. search needs)
+    (λ c. search needs)
+    (λ c κs. search needs)
+    (λ c. search needs)
+    (λ c. search needs)
+    (λ c. search needs)
+    (λ c. search needs)
+    (λ c. search needs)
+    (λ c. search needs)
+    (λ c. search needs)
+    (λ c. search needs)
+    (λ c. search needs)
+    convert-requires
+    (λ c. c .before .before .before .before .before .before .before .lcs .given .1)
+    (λ c. c .before .before .before .before .before .before .before .before .convert .kept .1 .1 .1 .1 .1 .1 .1 .1 .0 ∙ c .before .before .before .before .before .before .before .before .before .before .before .before .before .before .before .clear-from .kept .0)
+    (λ c. c .before .before .before .v .given .1)
+    (λ c. c .before .hashes .given .1)
+    returns)

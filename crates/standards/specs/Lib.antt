@@ -1,0 +1,2 @@
+-- Laws by which a reader recognises the standards.
+pub mod Recognition

@@ -1,0 +1,76 @@
+// The exact lengths of the buffers of a shape. Of a shape that is refused any lengths will do.
+ghost use Prim.Native.Nat.{_≤_};
+use spec::Shape;
+
+pub struct Lengths {
+    pub commitment: usize,
+    pub tree: usize,
+    pub leaf_commitments: usize,
+    pub u: usize,
+    pub v: usize,
+    pub corrections: usize,
+    pub opening: usize,
+}
+
+// The number n, or the limit where n is larger.
+pub fn at_most(n: usize, limit: usize) -> usize
+    ensures { λ r. ⌜ r ≤ limit ⌝ }
+{
+    if limit < n {
+        return limit;
+    }
+    n
+}
+
+// The leaves of a shape.
+fn leaves(s: Shape) -> usize
+    ensures { λ r. ⌜ (1 ≤ r) × (r ≤ 40960) ⌝ }
+{
+    let tau = s.tau;
+    let k = s.k;
+    if 12 < k {
+        return 1;
+    }
+    let n = at_most(tau, 32) << k;
+    if n < 1 {
+        return 1;
+    }
+    if 40960 < n {
+        return 1;
+    }
+    n
+}
+
+// The product of a number of vectors and a number of bytes or bits.
+pub fn product(a: usize, b: usize) -> usize {
+    at_most(a, 32) * at_most(b, 8192)
+}
+
+// The corrections of a shape, for rows of b bytes.
+fn corrections(s: Shape, b: usize) -> usize {
+    if s.tau < 1 {
+        return 0;
+    }
+    product(s.tau - 1, b)
+}
+
+// The opening of a shape.
+fn opening(s: Shape) -> usize {
+    48 * at_most(s.tau, 32) + 16 * at_most(s.t, 512)
+}
+
+// The lengths for a shape and a row length.
+pub fn of(shape: Shape, row_bits: usize) -> Lengths {
+    let s = rules::resolve(shape);
+    let b = at_most(row_bits / 8, 8192);
+    let n = leaves(s);
+    Lengths {
+        commitment: 32,
+        tree: 16 * (2 * n - 1),
+        leaf_commitments: 48 * n,
+        u: b,
+        v: 128 * b,
+        corrections: corrections(s, b),
+        opening: opening(s),
+    }
+}

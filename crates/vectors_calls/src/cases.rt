@@ -1,0 +1,164 @@
+// A case: commit, open and reconstruct one after another, and what the command line of reference/ prints of each.
+use crate::calls::call_commit;
+use crate::calls::call_open;
+use crate::calls::call_reconstruct;
+use crate::inputs::numbered;
+use crate::print::print_answer;
+use crate::print::print_buffer;
+use spec::Answer;
+use spec::Shape;
+use test_support::lengths::Lengths;
+
+// What both halves write of the tree.
+fn print_leaves(l: Lengths, commitment: &[u8], tree: &[u8], leaf_commitments: &[u8]) {
+    print_buffer(b"commitment ", commitment, l.commitment);
+    print_buffer(b"tree ", tree, l.tree);
+    print_buffer(b"leaf_commitments ", leaf_commitments, l.leaf_commitments);
+}
+
+// What commit writes of the rows.
+fn print_rows(l: Lengths, u: &[u8], v: &[u8], corrections: &[u8]) {
+    print_buffer(b"u ", u, l.u);
+    print_buffer(b"v ", v, l.v);
+    print_buffer(b"corrections ", corrections, l.corrections);
+}
+
+// Commit, and what `reference commit` prints.
+fn commit_case(
+    s: Shape,
+    row_bits: usize,
+    l: Lengths,
+    root: &[u8; 16],
+    iv: &[u8; 16],
+    commitment: &mut [u8; 32],
+    tree: &mut [u8; 1310704],
+    leaf_commitments: &mut [u8; 1966080],
+    u: &mut [u8; 8192],
+    v: &mut [u8; 1048576],
+    corrections: &mut [u8; 253952],
+) -> Answer {
+    let r = call_commit(
+        s,
+        row_bits,
+        l,
+        root,
+        iv,
+        commitment,
+        tree,
+        leaf_commitments,
+        u,
+        v,
+        corrections,
+    );
+    print_answer(r);
+    if r.number == 0 {
+        print_leaves(l, commitment, tree, leaf_commitments);
+        print_rows(l, u, v, corrections);
+    }
+    r
+}
+
+// Open, and what `reference open` prints; then the byte `at` of the opening is flipped, where there is one.
+fn open_case(
+    s: Shape,
+    l: Lengths,
+    challenge: &[u8; 16],
+    tree: &[u8; 1310704],
+    leaf_commitments: &[u8; 1966080],
+    opening: &mut [u8; 9728],
+    at: usize,
+) -> Answer {
+    let r = call_open(s, l, challenge, tree, leaf_commitments, opening);
+    print_answer(r);
+    if r.number == 0 {
+        print_buffer(b"opening ", opening, l.opening);
+    }
+    if at < 9728 {
+        opening[at] = opening[at] ^ 1;
+    }
+    r
+}
+
+// Reconstruct, and what `reference reconstruct` prints. It is lent the buffers that commit wrote, with these bytes in them.
+fn reconstruct_case(
+    s: Shape,
+    row_bits: usize,
+    l: Lengths,
+    iv: &[u8; 16],
+    challenge: &[u8; 16],
+    corrections: &[u8; 253952],
+    opening: &[u8; 9728],
+    commitment: &mut [u8; 32],
+    tree: &mut [u8; 1310704],
+    leaf_commitments: &mut [u8; 1966080],
+    q: &mut [u8; 1048576],
+) {
+    let r = call_reconstruct(
+        s,
+        row_bits,
+        l,
+        iv,
+        challenge,
+        corrections,
+        opening,
+        commitment,
+        tree,
+        leaf_commitments,
+        q,
+    );
+    print_answer(r);
+    if r.number == 0 {
+        print_leaves(l, commitment, tree, leaf_commitments);
+        print_buffer(b"q ", q, l.v);
+    }
+}
+
+// The three calls, with the byte `at` of the opening flipped before reconstruct. Where one is refused its answer stands for those after it.
+pub fn run_case(s: Shape, row_bits: usize, known: usize, challenge: [u8; 16], at: usize) {
+    let root = numbered(known / 10);
+    let iv = numbered(known % 10);
+    let l = test_support::lengths::of(s, row_bits);
+    let mut commitment = [0u8; 32];
+    let mut tree = [0u8; 1310704];
+    let mut leaf_commitments = [0u8; 1966080];
+    let mut u = [0u8; 8192];
+    let mut v = [0u8; 1048576];
+    let mut corrections = [0u8; 253952];
+    let mut opening = [0u8; 9728];
+    let made = commit_case(
+        s,
+        row_bits,
+        l,
+        &root,
+        &iv,
+        &mut commitment,
+        &mut tree,
+        &mut leaf_commitments,
+        &mut u,
+        &mut v,
+        &mut corrections,
+    );
+    if made.number != 0 {
+        print_answer(made);
+        print_answer(made);
+        return;
+    }
+    let opened = open_case(s, l, &challenge, &tree, &leaf_commitments, &mut opening, at);
+    if opened.number != 0 {
+        print_answer(opened);
+        return;
+    }
+    reconstruct_case(
+        s,
+        row_bits,
+        l,
+        &iv,
+        &challenge,
+        &corrections,
+        &opening,
+        &mut commitment,
+        &mut tree,
+        &mut leaf_commitments,
+        &mut v,
+    );
+}

@@ -1,0 +1,29 @@
+// The inputs of a case: its shape, its root and its IV.
+use spec::Shape;
+use test_support::lengths::at_most;
+use test_support::lengths::product;
+use test_support::parts::words;
+
+// A shape with the grinding bits that the vectors leave of 128 bits, or 0 where tau is 0: four zeros stand for the default.
+pub fn shape_of(tau: usize, k: usize, t: usize) -> Shape {
+    let w = if tau == 0 {
+        0
+    } else {
+        128 - at_most(product(tau, k), 128)
+    };
+    Shape { tau, k, w, t }
+}
+
+// The roots and IVs by their digit: bytes that count up and mixed ones; of IVs also those whose first and last word of 32 bits wrap at the first
+// sum, and such that wrap later; all ones; all zeros.
+pub fn numbered(n: usize) -> [u8; 16] {
+    match n {
+        1 => words(0x0706050403020100, 0x0f0e0d0c0b0a0908),
+        2 => words(0x5bd1e995c2b2ae3d, 0x9e3779b97f4a7c15),
+        3 => words(0x1716151413121110, 0x1f1e1d1c1b1a1918),
+        4 => words(0x01234567ffffffff, 0xffffffff89abcdef),
+        5 => words(0xfedcba98fffffff0, 0xfffffffe76543210),
+        9 => words(0xffffffffffffffff, 0xffffffffffffffff),
+        _ => words(0, 0),
+    }
+}

@@ -1,0 +1,42 @@
+// Commit, open and reconstruct on lent buffers, and cases of the three: what the command line of reference/ prints of each call.
+// A case has a shape and a row length in bits, and by two digits a root and an IV (inputs.rt).
+mod calls;
+mod cases;
+mod inputs;
+mod print;
+
+pub use calls::call_commit;
+pub use calls::call_open;
+pub use calls::call_reconstruct;
+use cases::run_case;
+use inputs::shape_of;
+pub use print::print_answer;
+use spec::Shape;
+use test_support::parts::words;
+
+// Root and IV with bytes that count up.
+const COUNTING: usize = 13;
+
+// No byte of an opening.
+const NONE: usize = 0xffff;
+
+// A case; the challenge is two words, the least byte first.
+pub fn case(tau: usize, k: usize, t: usize, row_bits: usize, known: usize, c0: u64, c1: u64) {
+    run_case(shape_of(tau, k, t), row_bits, known, words(c0, c1), NONE);
+}
+
+// A case with any four numbers for a shape, and a challenge of zeros.
+pub fn refused_shape(tau: usize, k: usize, w: usize, t: usize, row_bits: usize) {
+    run_case(
+        Shape { tau, k, w, t },
+        row_bits,
+        COUNTING,
+        words(0, 0),
+        NONE,
+    );
+}
+
+// A case with a challenge of zeros, and the byte `at` of the opening flipped before reconstruct.
+pub fn flipped(tau: usize, k: usize, t: usize, row_bits: usize, at: usize) {
+    run_case(shape_of(tau, k, t), row_bits, COUNTING, words(0, 0), at);
+}
