@@ -3,8 +3,8 @@
 use mathlib.Core.Path.{_≡_, refl, sym, ap, ap₂, _∙_, subst}
 use mathlib.Core.Bool.{Bool, cond}
 use mathlib.Core.List.{List}
-use Prim.Native.Nat.{ℕ, _+_, _-_, _*_, _/_, _^_, _≤_, _<_}
-use native.Mathlib.Nat.{mod-lt, mul-zero}
+use Prim.Native.Nat.{ℕ, _+_, _-_, _*_, _≤_, _<_}
+use native.Mathlib.Nat.{mul-zero}
 use native.Mathlib.Numerals.{add-one}
 use native.Mathlib.Decide.{decLt, ℕ-discrete}
 use native.Mathlib.Omega.{arith}
@@ -14,6 +14,7 @@ use lib.ListN.{length, getD, take, set, length-take, length-set, List·getD-eq-d
 use lib.Seq.{getD-take, length-take-le, getD-set-same, getD-set-other}
 use borrow.Author.Tests.{lt-ltb, le-ltb}
 use Rattle.spec.specs.Bytes.{bit, xorBelow}
+use Rattle.laws.proofs.Digits.{bit-lt}
 use Rattle.laws.proofs.Xor.{xor-assoc, digit-xor}
 use Rattle.laws.proofs.Concat.{mul-within}
 use Rattle.columns.specs.Columns.{placed, Xored, Added}
@@ -151,9 +152,6 @@ pub added-more : (b k n : ℕ) (f : ℕ → ℕ → ℕ → ℕ) (old mid new : 
     → Added b k (λ j p. xorBelow n (λ e. f e j p)) old mid → Added b k (f n) mid new → Added b k (λ j p. xorBelow (n + 1) (λ e. f e j p)) old new
 unfolding xorBelow
 added-more b k n f old mid new r s = rw add-one (added-then b k (λ j p. xorBelow n (λ e. f e j p)) (f n) old mid new r s)
-
-bit-lt : (j n : ℕ) → bit j n < 2
-bit-lt j n = mod-lt (n / 2 ^ j) (omega arith)
 
 -- ---- a row that is added block by block
 

@@ -1,7 +1,7 @@
 -- Strings laid one after another: where each stands, and its bytes. `at i` is where string i begins. By induction on the number of strings.
 -- Assumes nothing.
 use Prim.Native.Nat.{ℕ, zero, suc, _+_, _-_, _*_, _/_, _%_, _≤_, _<_}
-use mathlib.Core.Path.{_≡_, refl, sym, ap, ap₂, _∙_, subst}
+use mathlib.Core.Path.{_≡_, refl, sym, ap, ap₂, _∙_}
 use mathlib.Core.List.{List, _++_, append-nil, append-assoc}
 use native.Mathlib.Omega.{arith}
 use native.Mathlib.Nat.{add-zero, add-suc, zero-mul, mul-suc, mul-zero, mul-le-mul, lt-of-mul-lt-mul-left, le-refl, mod-lt, div-add-mod}
@@ -10,6 +10,7 @@ use native.Mathlib.Decide.{decLt}
 use lib.ListN.{length, getD, take, drop, length-append, length-drop}
 use lib.Seq.{take-append-le, drop-append-le, drop-append-add, take-all, ext-getD}
 use Rattle.spec.specs.Bytes.{part, tabulate, concat}
+use Rattle.laws.proofs.Stretches.{stretch-before}
 use Rattle.laws.proofs.Lists.{length-tabulate, getD-tabulate, getD-part}
 
 -- ---- a part of two strings
@@ -31,14 +32,7 @@ module _ (f : ℕ → List ℕ) (at : ℕ → ℕ) (none : at 0 ≡ 0) where
   Laid n = (i : ℕ) → i < n → at (suc i) ≡ at i + length (f i)
 
   before : (n i : ℕ) → Laid n → i < n → at i + length (f i) ≤ at n
-  before zero i h l = absurd (omega arith)
-  before (suc n) i h l = go (decLt i n) (λ m. before n i (λ a k. h a (omega arith)) m)
-    where
-      go : Dec (i < n) → (i < n → at i + length (f i) ≤ at n) → at i + length (f i) ≤ at (suc n)
-      go (yes m) ih = (let a = ih m in let b = h n (omega arith) in omega arith)
-      go (no m) ih =
-          let e : i ≡ n = omega arith in
-          subst (λ (x : ℕ). at i + length (f i) ≤ at (suc x)) e (let b = h i l in omega arith)
+  before n i h l = stretch-before at (λ i. length (f i)) n i h l
 
   pub laid-length : (n : ℕ) → Laid n → length (concat n f) ≡ at n
   unfolding concat

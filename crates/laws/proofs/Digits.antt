@@ -3,15 +3,18 @@
 use mathlib.Core.Path.{_≡_, refl, sym, ap, ap₂, _∙_}
 use mathlib.Core.List.{List, [], _∷_}
 use Prim.Native.Nat.{ℕ, zero, suc, _+_, _*_, _/_, _%_, _^_, _<_}
-use native.Mathlib.Nat.{add-comm, mul-zero, mul-suc, div-one}
+use native.Mathlib.Nat.{add-comm, mul-zero, mul-suc, div-one, mod-lt}
 use native.Mathlib.Omega.{arith}
 use lib.Arith.{digits-div, digits-mod}
 use lib.Bits.{bitXor, xor-shr, xor-mod}
 use lib.ListN.{length}
 use lib.Pow.{shr-shr, shr-lt, split}
-use Rattle.spec.specs.Bytes.{tabulate, number, digits}
+use Rattle.spec.specs.Bytes.{bit, tabulate, number, digits}
 use Rattle.laws.proofs.Lists.{tabulate-same}
 use Rattle.laws.proofs.Numbers.{Digits}
+
+pub bit-lt : (j n : ℕ) → bit j n < 2
+bit-lt j n = mod-lt (n / 2 ^ j) (omega arith)
 
 -- the lowest digit, and the others
 pub digits-suc : (k n x : ℕ) → digits k (suc n) x ≡ x % 2 ^ k ∷ digits k n (x / 2 ^ k)

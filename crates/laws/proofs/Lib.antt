@@ -6,6 +6,7 @@ pub mod Tests
 pub mod Lists
 pub mod Front
 pub mod Concat
+pub mod Stretches
 pub mod Numbers
 pub mod Polynomials
 pub mod FieldProduct

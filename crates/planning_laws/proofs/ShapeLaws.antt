@@ -1,10 +1,9 @@
 -- What the laws of the two halves know of a shape: its vectors' bits, columns and entries follow one another, each entry has a leaf of its own, a hidden
 -- index is an entry. Nothing that cites this record looks into a shape. By the shape rules. Assumes nothing.
 use Prim.Native.Nat.{ℕ, zero, suc, _+_, _-_, _*_, _/_, _%_, _^_, _≤_, _<_}
-use mathlib.Core.Path.{_≡_, refl, sym, ap, _∙_, subst}
+use mathlib.Core.Path.{_≡_, refl, sym, ap, _∙_}
 use mathlib.Core.Bool.{true}
 use mathlib.Core.List.{List, [], _∷_}
-use native.Mathlib.Decide.{decLt}
 use native.Mathlib.Omega.{arith}
 use native.Mathlib.Nat.{mul-comm, zero-mul, suc-mul, pow-succ', div-one, div-div-eq-div-mul}
 use lib.Arith.{digits-div, digits-mod}
@@ -16,6 +15,7 @@ use Rattle.spec.specs.Bytes.{bit, tabulate, allZero}
 use Rattle.spec.specs.Challenge.{bitAt, bitsAt, indexAt, clearAt}
 use Rattle.spec.specs.Shapes.{shapeOk, level, depthOf, entriesOf, firstBit, firstEntry, leaves, leafOf, hiddenIndex, hiddenLeaf, hiddenLeaves, grindingOk}
 use Rattle.laws.proofs.Conjunctions.{both-true}
+use Rattle.laws.proofs.Stretches.{stretch-before}
 use Rattle.laws.proofs.Lists.{length-tabulate, getD-tabulate}
 use Rattle.planning_laws.proofs.Bits.{bit-lt, index-more, index-lt}
 use Rattle.planning_laws.proofs.ShapeFacts.{shape-facts, leaves-pos}
@@ -111,13 +111,5 @@ unfolding hiddenLeaves hiddenLeaf
 hidden-at s ch i h = getD-tabulate (s .tau) (λ i. leafOf s i (hiddenIndex s ch i)) i 0 h
 
 -- the entry after those of the vectors before i, and j more, is an entry
-entry-before : (s : Shape) → ShapeLaws s → (n i : ℕ) → i < n → firstEntry s i + entriesOf s i ≤ firstEntry s n
-entry-before s f zero i h = absurd (omega arith)
-entry-before s f (suc n) i h = go (decLt i n) (λ l. entry-before s f n i l)
-  where
-    go : Dec (i < n) → (i < n → firstEntry s i + entriesOf s i ≤ firstEntry s n) → firstEntry s i + entriesOf s i ≤ firstEntry s (suc n)
-    go (yes l) ih = (let a = ih l in let b = f .entry-next n in omega arith)
-    go (no l) ih = subst (λ (x : ℕ). firstEntry s i + entriesOf s i ≤ firstEntry s (suc x)) (let z : i ≡ n = omega arith in z) (let b = f .entry-next i in omega arith)
-
 pub entry-in : (s : Shape) → ShapeLaws s → (i j : ℕ) → i < s .tau → j < entriesOf s i → firstEntry s i + j < leaves s
-entry-in s f i j h l = (let a = entry-before s f (s .tau) i h in let b = f .entry-all in omega arith)
+entry-in s f i j h l = (let a = stretch-before (firstEntry s) (entriesOf s) (s .tau) i (λ n m. f .entry-next n) h in let b = f .entry-all in omega arith)

@@ -74,21 +74,21 @@ pub fn is_row_length(n: usize) -> bool
     (n % 8 == 0) & ((8 <= n) & (n <= 65536))
 }
 
-// Whether two buffers have their lengths.
+// Whether two buffers have their lengths: a must be x, b must be y.
 pub fn fit2(a: usize, x: usize, b: usize, y: usize) -> bool
     ensures { λ r. ⌜ r ≡ fits ((a, x) ∷ (b, y) ∷ []) ⌝ }
 {
     (a == x) & ((b == y) & true)
 }
 
-// Whether four buffers have their lengths.
+// The same of four buffers.
 pub fn fit4(a: usize, x: usize, b: usize, y: usize, c: usize, z: usize, d: usize, v: usize) -> bool
     ensures { λ r. ⌜ r ≡ fits ((a, x) ∷ (b, y) ∷ (c, z) ∷ (d, v) ∷ []) ⌝ }
 {
     (a == x) & ((b == y) & ((c == z) & ((d == v) & true)))
 }
 
-// Whether eight buffers have their lengths.
+// The same of eight buffers.
 pub fn fit8(
     a: usize,
     x: usize,

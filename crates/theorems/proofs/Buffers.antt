@@ -1,7 +1,7 @@
 -- Where things stand in the buffers: a leaf commitment among all, the parts of an opening, a column of a matrix. Each buffer is a concatenation of blocks, so
 -- each by the law of blocks laid one after another. Assumes nothing.
 use Prim.Native.Nat.{ℕ, zero, suc, _+_, _-_, _*_, _≤_, _<_}
-use mathlib.Core.Path.{_≡_, refl, sym, ap, ap₂, _∙_, subst}
+use mathlib.Core.Path.{_≡_, refl, sym, ap, ap₂, _∙_}
 use mathlib.Core.Bool.{true}
 use mathlib.Core.List.{List, _++_}
 use native.Mathlib.Omega.{arith}
@@ -17,6 +17,7 @@ use Rattle.spec.specs.Leaves.{nodeAt, vectorCommitments, leafCommitments}
 use Rattle.spec.specs.Rows.{matrixOf}
 use Rattle.spec.specs.Signer.{leafCommitmentAt, openingOf}
 use Rattle.spec.specs.Verifier.{hiddenLeafCommitment, slot, slotsOk}
+use Rattle.laws.proofs.Stretches.{stretch-before}
 use Rattle.laws.proofs.Lists.{length-part, length-zeros}
 use Rattle.laws.proofs.Concat.{part-front, part-after, laid-length, laid-part, even-length, even-part, concat-same, mul-within}
 use Rattle.planning_laws.proofs.Revealed.{revealed-low}
@@ -159,19 +160,11 @@ module _ (s : Shape) (f : ShapeLaws s) (b : ℕ) (column : ℕ → ℕ → List 
   m-length : length (concat (s .tau) Stretch) ≡ b * firstBit s (s .tau)
   m-length = laid-length Stretch (λ i. b * firstBit s i) m-none (s .tau) m-laid
 
-  bit-before : (n i : ℕ) → i < n → firstBit s i + depthOf s i ≤ firstBit s n
-  bit-before zero i h = absurd (omega arith)
-  bit-before (suc n) i h = go (decLt i n) (λ l. bit-before n i l)
-    where
-      go : Dec (i < n) → (i < n → firstBit s i + depthOf s i ≤ firstBit s n) → firstBit s i + depthOf s i ≤ firstBit s (suc n)
-      go (yes l) ih = (let x = ih l in let y = f .bit-next n in omega arith)
-      go (no l) ih = subst (λ (x : ℕ). firstBit s i + depthOf s i ≤ firstBit s (suc x)) (let z : i ≡ n = omega arith in z) (let y = f .bit-next i in omega arith)
-
   pub matrix-column : (i j : ℕ) → i < s .tau → j < depthOf s i → part (matrixOf s b column) (b * (firstBit s i + j)) b ≡ column i j
   unfolding matrixOf
   matrix-column i j h l =
       let a = m-length in
-      let c = bit-before (s .tau) i h in
+      let c = stretch-before (firstBit s) (depthOf s) (s .tau) i (λ n m. f .bit-next n) h in
       let d = mul-within b (firstBit s i + j) (firstBit s (s .tau)) (omega arith) in
       let e = stretch-length i in
       let g = mul-within b j (depthOf s i) l in

@@ -2,16 +2,13 @@
 -- one numbered by e by the hidden index's bit times the sum of all rows. By the laws of xor. Assumes nothing.
 use mathlib.Core.Path.{_≡_, refl, sym, ap, ap₂, _∙_}
 use Prim.Native.Nat.{ℕ, zero, suc, _*_, _/_, _%_, _^_, _<_}
-use native.Mathlib.Nat.{mod-lt, zero-mul, mul-zero, zero-div}
+use native.Mathlib.Nat.{zero-mul, mul-zero, zero-div}
 use native.Mathlib.Decide.{ℕ-discrete}
-use native.Mathlib.Omega.{arith}
 use lib.Bits.{bitXor, differ, xor-self, xor-shr, xor-comm}
 use Rattle.spec.specs.Bytes.{bit, xorBelow}
+use Rattle.laws.proofs.Digits.{bit-lt}
 use Rattle.laws.proofs.Xor.{xor-assoc, xor-swap, xor-odd, xor-cancel-r, digit-xor, differ-mul}
 use Rattle.laws.proofs.Sums.{xor-same}
-
-bit-lt : (j n : ℕ) → bit j n < 2
-bit-lt j n = mod-lt (n / 2 ^ j) (omega arith)
 
 bit-zero : (j : ℕ) → bit j 0 ≡ 0
 bit-zero j = ap (λ (n : ℕ). n % 2) (zero-div (2 ^ j))
