@@ -1,5 +1,4 @@
 -- Document 01's examples P1 to P10, as entries of one table about the definitions; each is computed.
--- Assumes nothing.
 use Prim.Native.Nat.{ℕ}
 use mathlib.Core.Path.{_≡_, refl}
 use mathlib.Core.List.{List, [], _∷_, _++_}

@@ -1,5 +1,5 @@
 -- Document 01's "Misreadings to exclude": each misread rule is written out, and at a small shape it gives something else than the definitions do.
--- By computing one element in which the two differ. Assumes nothing.
+-- By computing one element in which the two differ.
 use Prim.Native.Nat.{ℕ, zero, suc, _+_, _-_, _*_}
 use mathlib.Core.Path.{_≡_, subst}
 use mathlib.Core.Bool.{Bool, not, cond}

@@ -1,5 +1,5 @@
 -- The rules of the primitives at one value each, with the cipher and the sponge left as they are: which block the cipher is given, which message the
--- sponge, and what alpha^384 is. By computing; crates/standards computes the primitives themselves. Assumes nothing.
+-- sponge, and what alpha^384 is. By computing; crates/standards computes the primitives themselves.
 use mathlib.Core.Path.{_≡_, refl}
 use mathlib.Core.List.{List, [], _∷_}
 use Prim.Native.Nat.{ℕ, _+_, _^_}

@@ -1,5 +1,5 @@
 -- Document 01's refusals and limits, computed: each number where its condition holds alone and where a later one holds too, the counts that go with
--- them, the borders of shapes and row lengths. Assumes nothing.
+-- them, the borders of shapes and row lengths.
 use Prim.Native.Nat.{ℕ, _+_, _*_}
 use mathlib.Core.Path.{_≡_, refl}
 use mathlib.Core.Bool.{true, false}

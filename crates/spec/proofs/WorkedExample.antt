@@ -1,5 +1,5 @@
 -- Commit, open and reconstruct at P4's shape with rows of two bytes, over stand-in primitives that a prover can compute: every byte of every buffer.
--- The lists are those that reference/worked_example.py derives. Assumes nothing.
+-- The lists are those that reference/worked_example.py derives.
 use Prim.Native.Nat.{ℕ, _+_, _*_, _/_, _%_}
 use mathlib.Core.Path.{_≡_, refl}
 use mathlib.Core.List.{List, [], _∷_}

@@ -1,5 +1,5 @@
 -- Worked examples of the primitives, computed by the definitions: FIPS 197's, SHAKE128 of the empty message, and one of each primitive of sections 3.3 and 5.1 of document
--- 000, whose values reference/ derives too (reference/tests). Assumes nothing.
+-- 000, whose values reference/ derives too (reference/tests).
 use mathlib.Core.Path.{_≡_, refl, ap}
 use mathlib.Core.List.{List, [], _∷_}
 use Prim.Native.Nat.{ℕ, _+_, _*_, _/_, _%_, _^_}

@@ -1,5 +1,5 @@
 -- The statements of ../specs/Recognition.antt. The inverse by one test over 256 bytes; the product by the laws of remainders; the sponge's blocks byte by
--- byte, byte i standing in block i / r; the count by the law of covered nodes. Assumes nothing.
+-- byte, byte i standing in block i / r; the count by the law of covered nodes.
 use Prim.Native.Nat.{ℕ, zero, suc, _+_, _-_, _*_, _/_, _%_, _^_, _≤_, _<_}
 use mathlib.Core.Path.{_≡_, sym, ap, _∙_}
 use mathlib.Core.Bool.{Bool}
