@@ -4,9 +4,10 @@
 #include <string.h>
 #include <time.h>
 
-/* the default shape, with rows of 1,680 bits */
+/* FAEST-128s, with rows of 1,680 bits */
 enum { TAU = 11, DEPTH = 11, ALLOWED = 102, LEAVES = TAU << DEPTH, BITS = 1680, ROW = BITS / 8 };
-static const size_t shape[4] = {TAU, DEPTH, 128 - TAU * DEPTH, ALLOWED};
+#define SHAPE TAU, DEPTH, 128 - TAU * DEPTH, ALLOWED
+static const size_t shape[4] = {SHAPE};
 
 static uint8_t table[256], key[16], iv[16], message[98304], challenge[16], clear[16], accepted[16];
 static uint64_t multiples[16][6];
@@ -42,9 +43,9 @@ static void h0_rattle(void) { rattle_h0(iv, 16, keys[1], 528); }
 static void h1_c(void) { c_shake(message, sizeof message, 1, hash[0], 32); }
 static void h1_rattle(void) { rattle_h1(message, sizeof message, hash[1], 32); }
 static void plan_c(void) { count[0] = c_plan(shape, challenge, nodes[0]); }
-static void plan_rattle(void) { count[1] = rattle_plan(challenge, 16, nodes[1], ALLOWED); }
+static void plan_rattle(void) { count[1] = rattle_plan(SHAPE, challenge, 16, nodes[1], ALLOWED); }
 static void few_c(void) { few_count[0] = c_plan(shape, clear, few[0]); }
-static void few_rattle(void) { few_count[1] = rattle_plan(clear, 16, few[1], ALLOWED); }
+static void few_rattle(void) { few_count[1] = rattle_plan(SHAPE, clear, 16, few[1], ALLOWED); }
 
 /* the next leaf to be hashed depends on this one */
 static void next_leaf(int side)
@@ -76,14 +77,14 @@ static void commit_c(void)
 }
 static void commit_rattle(void)
 {
-    rattle_commit(0, 0, 0, 0, BITS, key, 16, iv, 16, made[1].commitment, sizeof made[1].commitment, made[1].tree, sizeof made[1].tree,
+    rattle_commit(SHAPE, BITS, key, 16, iv, 16, made[1].commitment, sizeof made[1].commitment, made[1].tree, sizeof made[1].tree,
                   made[1].leaf_commitments, sizeof made[1].leaf_commitments, made[1].u, sizeof made[1].u, made[1].v, sizeof made[1].v,
                   made[1].corrections, sizeof made[1].corrections);
 }
 static void open_c(void) { opened[0] = c_open(shape, accepted, made[0].tree, made[0].leaf_commitments, opening[0]); }
 static void open_rattle(void)
 {
-    opened[1] = rattle_open(accepted, 16, made[1].tree, sizeof made[1].tree, made[1].leaf_commitments, sizeof made[1].leaf_commitments, opening[1],
+    opened[1] = rattle_open(SHAPE, accepted, 16, made[1].tree, sizeof made[1].tree, made[1].leaf_commitments, sizeof made[1].leaf_commitments, opening[1],
                             sizeof opening[1]);
 }
 static void reconstruct_c(void)
@@ -93,7 +94,7 @@ static void reconstruct_c(void)
 }
 static void reconstruct_rattle(void)
 {
-    reconstructed[1] = rattle_reconstruct(BITS, iv, 16, accepted, 16, made[1].corrections, sizeof made[1].corrections, opening[1], sizeof opening[1],
+    reconstructed[1] = rattle_reconstruct(SHAPE, BITS, iv, 16, accepted, 16, made[1].corrections, sizeof made[1].corrections, opening[1], sizeof opening[1],
                                           again[1].commitment, sizeof again[1].commitment, again[1].tree, sizeof again[1].tree,
                                           again[1].leaf_commitments, sizeof again[1].leaf_commitments, again[1].q, sizeof again[1].q);
 }

@@ -1,5 +1,5 @@
 #!/usr/bin/env python3
-"""What the second implementation prints for the cases of crates/vectors, the program that makes the three calls of both halves.
+"""What the second implementation prints for the cases of crates/vectors, the program that makes the five calls.
 
     derive_vectors.py            compares it with crates/vectors/stdout; exit status 1 at the first line that differs
     derive_vectors.py --write    writes that file
@@ -10,6 +10,8 @@ The cases are the calls of these forms in crates/vectors/src/main.rt, whose firs
     refused_shape(TAU, K, W, T, ROWBITS)                       the same
     flipped(TAU, K, T, ROWBITS, FLIP)                          the same
     probe_commit(..), probe_open(..), probe_reconstruct(..)    the command of this name
+    decode(TAU, K, W, T, CHALLENGE, CHALLENGE), plan(..)       the command of this name
+    probe_decode(..), probe_plan(..)                           the command of this name
 
 The roots and IVs are the lines `DIGIT => words(WORD, WORD)` of crates/vectors_calls/src/inputs.rt.
 For each the release build of this folder is run with these commands.
@@ -25,7 +27,8 @@ CRATES = HERE.parent / 'crates'
 STORED = CRATES / 'vectors' / 'stdout'
 SOURCE = re.sub(r'//[^\n]*', '', (CRATES / 'vectors' / 'src' / 'main.rt').read_text())
 INPUTS = (CRATES / 'vectors_calls' / 'src' / 'inputs.rt').read_text()
-LENGTHS = {'case': 7, 'refused_shape': 5, 'flipped': 5, 'probe_commit': 7, 'probe_open': 7, 'probe_reconstruct': 9}
+LENGTHS = {'case': 7, 'refused_shape': 5, 'flipped': 5, 'probe_commit': 7, 'probe_open': 7, 'probe_reconstruct': 9,
+           'decode': 6, 'plan': 6, 'probe_decode': 7, 'probe_plan': 7}
 
 
 def cases():
@@ -48,6 +51,8 @@ NUMBERED[0] = words(0, 0)
 def commands(form, case):
     if form.startswith('probe'):
         return [[form, *map(str, case)]]
+    if form in ('decode', 'plan'):
+        return [[form, *map(str, case[:4]), words(*case[4:])]]
     known, challenge, flip = 13, (0, 0), []
     if form == 'refused_shape':
         tau, k, w, t, row_bits = case

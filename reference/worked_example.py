@@ -1,22 +1,29 @@
 #!/usr/bin/env python3
-"""The worked example of crates/spec/proofs/WorkedExample.antt, derived from document 000 with stand-in primitives.
+"""The worked examples of the definitions, derived from document 000 with stand-in primitives; each has the name of its file.
 
-    worked_example.py            prints each list by its name
+    worked_example.py NAME       prints each list of this example by its name
     worked_example.py FILE       compares them with the lists of the same names in FILE; exit status 1 where one differs or is missing
 
-Commit, open and reconstruct follow figures 5.4, 5.5, 5.8 and 5.9 at the shape 2, 2, 124, 4, with rows of 2 bytes. The generator, the two hashes and the
-leaf hash are simple sums in place of AES, SHAKE and the field, so that a prover can compute the whole example.
+Commit, open and reconstruct follow figures 5.4, 5.5, 5.8 and 5.9. The generator, the two hashes and the leaf hash are simple sums in place of AES, SHAKE
+and the field, as in crates/spec/proofs/StandIns.antt, so that a prover can compute the whole example. Of V and Q only the columns of the vectors are
+listed: the others are zeros. The commitment and the leaf commitments of the verifier must be the signer's.
 """
 import re
 import sys
 from functools import reduce
+from pathlib import Path
 
-TAU, K, W, T, B = 2, 2, 124, 4, 2
+# tau, k, w, T, the bytes of a row, and the bytes of the challenge before its zeros
+EXAMPLES = {
+    'WorkedExample': (3, 2, 122, 7, 2, [0x1E]),
+    'LongRowsExample': (3, 3, 119, 9, 18, [0x5E, 0x01]),
+}
+TAU, K, W, T, B, FIRST = EXAMPLES[Path(sys.argv[1]).stem]
 N = 1 << K
 L = TAU * N
 ROOT = [(7 * i + 1) % 256 for i in range(16)]
 IV = [(11 * i + 3) % 256 for i in range(16)]
-CHALLENGE = [0x0C] + [0] * 15
+CHALLENGE = FIRST + [0] * (16 - len(FIRST))
 
 
 # ---- the stand-in primitives
@@ -26,7 +33,7 @@ def weight(xs):
 
 
 def prg(key, tweak, n):
-    a = weight(key) + 7 * tweak + weight(IV)
+    a = (weight(key) + 7 * tweak + weight(IV)) % 65521
     return [(a + 13 * p + a // 256 * p * p) % 256 for p in range(n)]
 
 
@@ -97,7 +104,7 @@ def commit():
         'signer-tree': joined(nodes),
         'signer-leaf-commitments': joined(joined(vector) for vector in coms),
         'signer-u': voles[0][0],
-        'signer-v': joined(joined(columns) for _, columns in voles) + [0] * (W * B),
+        'signer-v': joined(joined(columns) for _, columns in voles),
         'signer-corrections': joined(xor(voles[0][0], u) for u, _ in voles[1:]),
     }
 
@@ -144,25 +151,22 @@ def reconstruct(opening, corrections):
             c = corrections[B * (i - 1):B * i]
             columns = [xor(column, c) if delta >> j & 1 else column for j, column in enumerate(columns)]
         q += joined(columns)
-    return {
-        'verifier-commitment': hashed(coms),
-        'verifier-tree': joined(nodes),
-        'verifier-leaf-commitments': joined(joined(vector) for vector in coms),
-        'verifier-q': q + [0] * (W * B),
-    }
+    return hashed(coms), joined(joined(vector) for vector in coms), {'verifier-tree': joined(nodes), 'verifier-q': q}
 
 
 def example():
     lists = {'root': ROOT, 'iv': IV, 'challenge': CHALLENGE}
     lists.update(commit())
     lists['opening'] = opened(lists['signer-tree'], lists['signer-leaf-commitments'])
-    lists.update(reconstruct(lists['opening'], lists['signer-corrections']))
+    commitment, leaf_commitments, rest = reconstruct(lists['opening'], lists['signer-corrections'])
+    assert commitment == lists['signer-commitment'] and leaf_commitments == lists['signer-leaf-commitments']
+    lists.update(rest)
     return lists
 
 
 def main():
     lists = example()
-    if len(sys.argv) == 1:
+    if not sys.argv[1].endswith('.antt'):
         for name, xs in lists.items():
             print(name, '=', ' ∷ '.join(map(str, xs)), '∷ []')
         return
@@ -172,7 +176,7 @@ def main():
         found = re.search(rf'^{name} =([\d\s∷]+)\[\]$', text, re.M)
         if not found or [int(x) for x in re.findall(r'\d+', found.group(1))] != xs:
             wrong.append(name)
-    print(f'worked example: {len(lists) - len(wrong)} of {len(lists)} lists as derived' + ''.join(f'; wrong: {n}' for n in wrong))
+    print(f'{Path(sys.argv[1]).stem}: {len(lists) - len(wrong)} of {len(lists)} lists as derived' + ''.join(f'; wrong: {n}' for n in wrong))
     sys.exit(bool(wrong))
 
 

@@ -18,6 +18,8 @@ usage: reference decode      TAU K W T CHALLENGE
        reference probe_commit      TAU K W T ROWBITS WHICH MORE
        reference probe_open        TAU K W T BYTE WHICH MORE
        reference probe_reconstruct TAU K W T ROWBITS BYTE WHICH MORE SET
+       reference probe_decode      TAU K W T BYTE WHICH MORE
+       reference probe_plan        TAU K W T BYTE WHICH MORE
        reference list        (its line on standard input)
 Numbers are decimal; ROOT, IV and CHALLENGE are hexadecimal, byte 0 first.
 ";
@@ -284,6 +286,45 @@ fn bytes_command(command: &str, mut rest: Arguments) -> Option<Outcome> {
 /// The byte that a probe fills the outputs with.
 const PATTERN: u8 = 0xa5;
 
+/// The length of a buffer of a probe: the exact one, or where it is the one that
+/// is changed one less, or more where MORE is not 0.
+fn probed_length(exact: usize, changed: bool, more: usize) -> usize {
+    match (changed, more) {
+        (false, _) => exact,
+        (true, 0) => exact.saturating_sub(1),
+        (true, _) => exact + 1,
+    }
+}
+
+/// What a probe prints: the answer, and whether the outputs are as they were.
+fn probe_lines(answer: Answer, kept: bool) -> String {
+    let word = if kept { "kept" } else { "written" };
+    format!("{}outputs {word}\n", answer_lines(answer))
+}
+
+/// `probe_decode` and `probe_plan`: one call, on a challenge and a list of which
+/// the one numbered WHICH is too short or too long, with the pattern in each byte
+/// of the list.
+fn probe_numbers_command(command: &str, mut rest: Arguments) -> Option<Outcome> {
+    let shape = rest.shape()?;
+    let first_byte = u8::try_from(rest.number()?).ok()?;
+    let (which, more) = (rest.number()?, rest.number()?);
+    rest.end()?;
+
+    let mut challenge = vec![0; probed_length(16, which == 0, more)];
+    challenge[0] = first_byte;
+    let meant = shape.resolve();
+    let (call, exact): (fn(Shape, &[u8], &mut [u32]) -> Answer, usize) = match command {
+        "probe_decode" => (decode, meant.map_or(0, |meant| meant.tau)),
+        _ => (plan, meant.map_or(0, |meant| meant.t)),
+    };
+    let pattern = u32::from_le_bytes([PATTERN; 4]);
+    let mut list = vec![pattern; probed_length(exact, which == 1, more)];
+    let answer = call(shape, &challenge, &mut list);
+    let kept = list.iter().all(|number| *number == pattern);
+    Some((probe_lines(answer, kept).into_bytes(), true))
+}
+
 /// `probe_commit`, `probe_open` and `probe_reconstruct`: one call, on buffers of
 /// which the one numbered WHICH, in the order of the call, is a byte shorter than
 /// the exact length, or longer where MORE is not 0.
@@ -306,12 +347,7 @@ fn probe_command(command: &str, mut rest: Arguments) -> Option<Outcome> {
 
     let exact = Run::new(shape, row_bits);
     let buffer = |place: usize, exact: usize, content: u8| {
-        let length = match (place == which, more) {
-            (false, _) => exact,
-            (true, 0) => exact.saturating_sub(1),
-            (true, _) => exact + 1,
-        };
-        vec![content; length]
+        vec![content; probed_length(exact, place == which, more)]
     };
     let challenge = |place: usize| {
         let mut challenge = buffer(place, 16, 0);
@@ -389,9 +425,7 @@ fn probe_command(command: &str, mut rest: Arguments) -> Option<Outcome> {
         }
     };
     let kept = outputs.concat().iter().all(|byte| *byte == PATTERN);
-    let word = if kept { "kept" } else { "written" };
-    let text = format!("{}outputs {word}\n", answer_lines(answer));
-    Some((text.into_bytes(), true))
+    Some((probe_lines(answer, kept).into_bytes(), true))
 }
 
 /// Carries out a command; nothing where the arguments cannot be read.
@@ -403,6 +437,7 @@ pub fn run(args: &[String], input: &mut impl Read) -> Option<Outcome> {
         "decode" | "plan" => numbers_command(command, rest),
         "commit" | "open" | "reconstruct" | "roundtrip" => bytes_command(command, rest),
         "probe_commit" | "probe_open" | "probe_reconstruct" => probe_command(command, rest),
+        "probe_decode" | "probe_plan" => probe_numbers_command(command, rest),
         _ => None,
     }
 }

@@ -1,4 +1,4 @@
--- The key schedule, word by word and by whole round keys. By induction on the number of words. Assumes nothing.
+-- The key schedule, word by word and by whole round keys. By induction on the number of words.
 use mathlib.Core.Path.{_≡_, refl, sym, ap, _∙_}
 use mathlib.Core.List.{List, [], _∷_}
 use Prim.Native.Nat.{ℕ, zero, suc, _+_, _*_, _/_, _%_, _-_, _≤_, _<_}

@@ -1,4 +1,4 @@
--- The rounds of the cipher, one by one, with round keys that are made beforehand. Assumes nothing.
+-- The rounds of the cipher, one by one, with round keys that are made beforehand.
 use mathlib.Core.Path.{_≡_, ap, ap₂, _∙_}
 use mathlib.Core.List.{List, []}
 use Prim.Native.Nat.{ℕ, zero, suc, _+_, _-_, _<_}

@@ -1,4 +1,4 @@
--- MIXCOLUMNS as the code has it: {02} times the sum of two bytes next to each other, plus the three other bytes. Assumes nothing.
+-- MIXCOLUMNS as the code has it: {02} times the sum of two bytes next to each other, plus the three other bytes.
 use mathlib.Core.Path.{_≡_, ap, ap₂, _∙_}
 use mathlib.Core.List.{List, [], _∷_}
 use Prim.Native.Nat.{ℕ, _<_}

@@ -1,4 +1,4 @@
--- Four bytes packed into one number: what a step on the number does to the bytes. The masks and the bits that move are taken byte by byte. Assumes nothing.
+-- Four bytes packed into one number: what a step on the number does to the bytes. The masks and the bits that move are taken byte by byte.
 use mathlib.Core.Path.{_≡_, refl, sym, ap, _∙_}
 use mathlib.Core.Bool.{Bool}
 use mathlib.Core.List.{List, [], _∷_}

@@ -1,4 +1,4 @@
--- The table is the S-box: one test, computed at each of the 256 entries. Assumes nothing.
+-- The table is the S-box: one test, computed at each of the 256 entries.
 use mathlib.Core.Path.{_≡_}
 use mathlib.Core.List.{List, [], _∷_}
 use mathlib.Core.Bool.{Bool}

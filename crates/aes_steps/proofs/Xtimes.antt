@@ -1,4 +1,4 @@
--- Products with {02} and {03} in GF(2^8). What concerns one byte is computed at all 256; from the rule for {02}, that it is additive. Assumes nothing.
+-- Products with {02} and {03} in GF(2^8). What concerns one byte is computed at all 256; from the rule for {02}, that it is additive.
 use mathlib.Core.Path.{_≡_, refl, sym, ap, ap₂, _∙_}
 use mathlib.Core.Bool.{Bool}
 use Prim.Native.Nat.{ℕ, suc, _*_, _/_, _%_, _<_}

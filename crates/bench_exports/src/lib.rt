@@ -1,13 +1,31 @@
-// The primitives, plan, commit, open and reconstruct as C calls them, for bench/ alone. The host lends the table that `rattle_table` wrote.
+// The primitives, plan, commit, open and reconstruct as C calls them, for bench/ alone, each with the promise of what it calls. The host lends the table that
+// `rattle_table` wrote.
 ghost use mathlib.Core.Path.{_≡_};
-ghost use Prim.Native.Nat.{_+_, _*_, _^_, _≤_, _<_};
-ghost use lib.ListN.{length};
+ghost use mathlib.Core.List.{List};
+ghost use Prim.Native.Nat.{ℕ, _+_, _*_, _^_, _≤_, _<_};
+ghost use lib.ListN.{length, take, drop};
+ghost use Rattle.spec.specs.declared.Shape.{Shape};
+ghost use Rattle.spec.specs.declared.Answer.{Answer};
+ghost use Rattle.spec.specs.Bytes.{bit, tabulate, number};
 ghost use Rattle.spec.specs.Gf256.{SboxTable};
+ghost use Rattle.spec.specs.Aes.{encrypt};
+ghost use Rattle.spec.specs.Keccak.{keccakF};
+ghost use Rattle.spec.specs.Generator.{generatorByte};
+ghost use Rattle.spec.specs.Hashes.{hash0, hash1};
+ghost use Rattle.spec.specs.LeafHash.{leafHashByte};
+ghost use Rattle.spec.specs.Shapes.{leaves};
+ghost use Rattle.spec.specs.Primitives.{faest};
+ghost use Rattle.spec.specs.Signer.{signerTree};
+ghost use Rattle.spec.specs.Calls.{Plan, Commit, Open, Reconstruct};
+ghost use Rattle.field.specs.Field.{Multiples, p384};
+ghost use Rattle.columns.specs.Columns.{Added};
 use spec::Answer;
 use spec::Shape;
 
 #[no_mangle]
-pub extern "C" fn rattle_table(out: &mut [u8; 256]) {
+pub extern "C" fn rattle_table(out: &mut [u8; 256])
+    ensures { λ _. ⌜ SboxTable (now (out .exit)) ⌝ }
+{
     let t = aes::table();
     *out = t;
 }
@@ -16,6 +34,7 @@ pub extern "C" fn rattle_table(out: &mut [u8; 256]) {
 #[no_mangle]
 pub extern "C" fn rattle_schedule_and_block(t: &[u8; 256], key: &[u8; 16], out: &mut [u8; 16])
     requires { ⌜ SboxTable (now t) ⌝ }
+    ensures { λ _. ⌜ now (out .exit) ≡ encrypt 4 (now (key .entry)) (now (key .entry)) ⌝ }
 {
     let keys = aes::key_schedule(t, key);
     let r = aes::bytes_of(aes::encrypt(t, &keys, aes::load_state(key)));
@@ -26,6 +45,7 @@ pub extern "C" fn rattle_schedule_and_block(t: &[u8; 256], key: &[u8; 16], out: 
 #[no_mangle]
 pub extern "C" fn rattle_node(t: &[u8; 256], key: &[u8; 16], iv: &[u8; 16], out: &mut [u8; 32])
     requires { ⌜ SboxTable (now t) ⌝ }
+    ensures { λ _. ⌜ now (out .exit) ≡ tabulate (length (now (out .entry))) (generatorByte 4 (now (key .entry)) (now (iv .entry)) 5) ⌝ }
 {
     generator::fill(t, key, *iv, 5, out);
 }
@@ -34,35 +54,46 @@ pub extern "C" fn rattle_node(t: &[u8; 256], key: &[u8; 16], iv: &[u8; 16], out:
 #[no_mangle]
 pub extern "C" fn rattle_row(t: &[u8; 256], key: &[u8; 16], iv: &[u8; 16], out: &mut [u8; 224])
     requires { ⌜ SboxTable (now t) ⌝ }
+    ensures { λ _. ⌜ now (out .exit) ≡ tabulate (length (now (out .entry))) (generatorByte 4 (now (key .entry)) (now (iv .entry)) 5) ⌝ }
 {
     generator::fill(t, key, *iv, 5, out);
 }
 
 #[no_mangle]
-pub extern "C" fn rattle_keccak(a: &mut [u64; 25]) {
+pub extern "C" fn rattle_keccak(a: &mut [u64; 25])
+    ensures { λ _. ⌜ now (a .exit) ≡ keccakF (now (a .entry)) ⌝ }
+{
     let s = *a;
     let r = keccak::keccak_f(s);
     *a = r;
 }
 
 #[no_mangle]
-pub extern "C" fn rattle_h0(iv: &[u8], out: &mut [u8]) {
+pub extern "C" fn rattle_h0(iv: &[u8], out: &mut [u8])
+    ensures { λ _. ⌜ now (out .exit) ≡ hash0 168 (now (iv .entry)) (length (now (out .entry))) ⌝ }
+{
     shake::h0(iv, out);
 }
 
 #[no_mangle]
-pub extern "C" fn rattle_h1(message: &[u8], out: &mut [u8]) {
+pub extern "C" fn rattle_h1(message: &[u8], out: &mut [u8])
+    ensures { λ _. ⌜ now (out .exit) ≡ hash1 168 (now (message .entry)) (length (now (out .entry))) ⌝ }
+{
     shake::h1(message, out);
 }
 
 #[no_mangle]
-pub extern "C" fn rattle_multiples(key: &[u8; 48], m: &mut [[u64; 6]; 16]) {
+pub extern "C" fn rattle_multiples(key: &[u8; 48], m: &mut [[u64; 6]; 16])
+    ensures { λ _. ⌜ Multiples 384 p384 (number 8 (now (key .entry))) (now (m .exit)) ⌝ }
+{
     let r = field::multiples(key);
     *m = r;
 }
 
 #[no_mangle]
-pub extern "C" fn rattle_leaf_hash(m: &[[u64; 6]; 16], stretched: &[u8; 64], out: &mut [u8; 48]) {
+pub extern "C" fn rattle_leaf_hash(m: &[[u64; 6]; 16], stretched: &[u8; 64], out: &mut [u8; 48])
+    ensures { λ _. ⌜ ((u : List ℕ) → Multiples 384 p384 (number 8 u) (now (m .entry)) → now (out .exit) ≡ tabulate 48 (leafHashByte 384 p384 u (take 16 (now (stretched .entry))) (drop 16 (now (stretched .entry))))) ⌝ }
+{
     field::leaf_hash(m, stretched, out);
 }
 
@@ -71,6 +102,7 @@ pub extern "C" fn rattle_leaf_hash(m: &[[u64; 6]; 16], stretched: &[u8; 64], out
 pub extern "C" fn rattle_grow(t: &[u8; 256], root: &[u8], iv: &[u8; 16], l: usize, tree: &mut [u8])
     requires { ⌜ SboxTable (now t) ⌝ }
     requires { ⌜ (length (now root) ≡ 16) × (1 ≤ l) × (length (now tree) + 16 ≡ 32 * l) × (length (now tree) < 2 ^ 32) ⌝ }
+    ensures { λ _. ⌜ ((s : Shape) → leaves s ≡ l → now (tree .exit) ≡ signerTree faest s (now (root .entry)) (now (iv .entry))) ⌝ }
 {
     signer_tree::grow(t, root, *iv, l, tree);
 }
@@ -90,34 +122,40 @@ pub extern "C" fn rattle_add_row(
 )
     requires { ⌜ SboxTable (now t) ⌝ }
     requires { ⌜ (length (now seed) ≡ 16) × (b ≤ 8192) × (k ≤ 12) × (length (now total) ≡ b * 1) × (length (now cols) ≡ b * k) ⌝ }
+    ensures { λ _. ⌜ Added b 1 (λ j p. generatorByte 4 (now (seed .entry)) (now (iv .entry)) tweak p) (now (total .entry)) (now (total .exit)) ⌝ }
+    ensures { λ _. ⌜ Added b k (λ j p. bit j number * generatorByte 4 (now (seed .entry)) (now (iv .entry)) tweak p) (now (cols .entry)) (now (cols .exit)) ⌝ }
 {
     rows::add_row(t, seed, *iv, tweak, b, k, number, 1, total, cols);
 }
 
-fn number_of(r: Answer) -> usize {
+fn number_of(r: Answer) -> usize
+    ensures { λ n. ⌜ n ≡ r .number ⌝ }
+{
     r.number
 }
 
-fn count_of(r: Answer) -> usize {
+fn count_of(r: Answer) -> usize
+    ensures { λ n. ⌜ n ≡ r .count ⌝ }
+{
     r.count
 }
 
-// The plan of a challenge under the default shape.
+// The four public calls, each with the number or the count of its answer.
+
 #[no_mangle]
-pub extern "C" fn rattle_plan(challenge: &[u8], nodes: &mut [u32]) -> usize {
-    count_of(shape::plan(
-        Shape {
-            tau: 0,
-            k: 0,
-            w: 0,
-            t: 0,
-        },
-        challenge,
-        nodes,
-    ))
+pub extern "C" fn rattle_plan(
+    tau: usize,
+    k: usize,
+    w: usize,
+    t: usize,
+    challenge: &[u8],
+    nodes: &mut [u32],
+) -> usize
+    ensures { λ r. ⌜ ((a : Answer) × Plan (record { tau = tau; k = k; w = w; t = t }) (now (challenge .entry)) (now (nodes .entry)) (now (nodes .exit)) a × (r ≡ a .count)) ⌝ }
+{
+    count_of(shape::plan(Shape { tau, k, w, t }, challenge, nodes))
 }
 
-// The number that commit answers; the shape is given, since commit is measured under several.
 #[no_mangle]
 pub extern "C" fn rattle_commit(
     tau: usize,
@@ -133,7 +171,12 @@ pub extern "C" fn rattle_commit(
     u: &mut [u8],
     v: &mut [u8],
     corrections: &mut [u8],
-) -> usize {
+) -> usize
+    ensures { λ r. ⌜ ((a : Answer) × Commit faest (record { tau = tau; k = k; w = w; t = t }) «row_bits» (now (root .entry)) (now (iv .entry))
+        (record { commitment = now (commitment .entry); tree = now (tree .entry); leafCommitments = now («leaf_commitments» .entry); u = now (u .entry); v = now (v .entry); corrections = now (corrections .entry) })
+        (record { commitment = now (commitment .exit); tree = now (tree .exit); leafCommitments = now («leaf_commitments» .exit); u = now (u .exit); v = now (v .exit); corrections = now (corrections .exit) })
+        a × (r ≡ a .number)) ⌝ }
+{
     number_of(signer::commit(
         Shape { tau, k, w, t },
         row_bits,
@@ -148,21 +191,21 @@ pub extern "C" fn rattle_commit(
     ))
 }
 
-// The count of the opening of a challenge under the default shape.
 #[no_mangle]
 pub extern "C" fn rattle_open(
+    tau: usize,
+    k: usize,
+    w: usize,
+    t: usize,
     challenge: &[u8],
     tree: &[u8],
     leaf_commitments: &[u8],
     opening: &mut [u8],
-) -> usize {
+) -> usize
+    ensures { λ r. ⌜ ((a : Answer) × Open (record { tau = tau; k = k; w = w; t = t }) (now (challenge .entry)) (now (tree .entry)) (now («leaf_commitments» .entry)) (now (opening .entry)) (now (opening .exit)) a × (r ≡ a .count)) ⌝ }
+{
     count_of(signer::open(
-        Shape {
-            tau: 0,
-            k: 0,
-            w: 0,
-            t: 0,
-        },
+        Shape { tau, k, w, t },
         challenge,
         tree,
         leaf_commitments,
@@ -170,9 +213,12 @@ pub extern "C" fn rattle_open(
     ))
 }
 
-// The count of the reconstruction from an opening under the default shape.
 #[no_mangle]
 pub extern "C" fn rattle_reconstruct(
+    tau: usize,
+    k: usize,
+    w: usize,
+    t: usize,
     row_bits: usize,
     iv: &[u8],
     challenge: &[u8],
@@ -182,14 +228,14 @@ pub extern "C" fn rattle_reconstruct(
     tree: &mut [u8],
     leaf_commitments: &mut [u8],
     q: &mut [u8],
-) -> usize {
+) -> usize
+    ensures { λ r. ⌜ ((a : Answer) × Reconstruct faest (record { tau = tau; k = k; w = w; t = t }) «row_bits» (now (iv .entry)) (now (challenge .entry)) (now (corrections .entry)) (now (opening .entry))
+        (record { commitment = now (commitment .entry); tree = now (tree .entry); leafCommitments = now («leaf_commitments» .entry); q = now (q .entry) })
+        (record { commitment = now (commitment .exit); tree = now (tree .exit); leafCommitments = now («leaf_commitments» .exit); q = now (q .exit) })
+        a × (r ≡ a .count)) ⌝ }
+{
     count_of(verifier::reconstruct(
-        Shape {
-            tau: 0,
-            k: 0,
-            w: 0,
-            t: 0,
-        },
+        Shape { tau, k, w, t },
         row_bits,
         iv,
         challenge,

@@ -1,5 +1,5 @@
 -- Xoring a block into a buffer byte by byte, into columns one after another, and a row block by block. `placed` by comparing the byte asked for with the
--- block's place; the relations by composing xors. Assumes nothing.
+-- block's place; the relations by composing xors.
 use mathlib.Core.Path.{_≡_, refl, sym, ap, ap₂, _∙_, subst}
 use mathlib.Core.Bool.{Bool, cond}
 use mathlib.Core.List.{List}

@@ -1,4 +1,4 @@
--- One step of each loop that marks a map of nodes. By comparing the place asked for with the place written. Assumes nothing.
+-- One step of each loop that marks a map of nodes. By comparing the place asked for with the place written.
 use Prim.Native.Nat.{ℕ, _+_, _-_, _*_, _≤_, _<_}
 use mathlib.Core.Path.{_≡_, refl, sym, ap, ap₂, _∙_}
 use mathlib.Core.Bool.{Bool, true, false, _||_, cond, or-true, or-false}

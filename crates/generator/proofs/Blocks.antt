@@ -1,4 +1,4 @@
--- The bytes of a block, as bytes of the output. Assumes nothing.
+-- The bytes of a block, as bytes of the output.
 use mathlib.Core.Path.{_≡_, ap, ap₂, _∙_}
 use mathlib.Core.List.{List, [], _∷_}
 use Prim.Native.Nat.{ℕ, zero, suc, _+_, _*_, _<_}

@@ -1,4 +1,4 @@
--- The bytes of a block, stored one by one. Assumes nothing.
+-- The bytes of a block, stored one by one.
 use mathlib.Core.Path.{_≡_, _∙_, subst}
 use mathlib.Core.List.{List}
 use Prim.Native.Nat.{ℕ, _+_, _<_}

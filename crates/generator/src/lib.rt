@@ -1,7 +1,7 @@
 // The generator PRG of document 000, section 3.3, figure 3.6, for keys of 128 bits: AES in counter mode, with a tweak.
 ghost use mathlib.Core.Path.{_≡_};
 ghost use mathlib.Core.List.{List, [], _∷_};
-ghost use Prim.Native.Nat.{ℕ, _+_, _^_, _≤_, _<_, min};
+ghost use Prim.Native.Nat.{ℕ, _+_, _^_, _≤_, _<_};
 ghost use lib.ListN.{length};
 ghost use Rattle.spec.specs.Bytes.{tabulate};
 ghost use Rattle.spec.specs.Gf256.{SboxTable};
@@ -60,12 +60,6 @@ pub fn block_pair(
     [aes::bytes_of(pair[0]), aes::bytes_of(pair[1])]
 }
 
-fn least(a: usize, b: usize) -> usize
-    ensures { λ r. ⌜ r ≡ min a b ⌝ }
-{
-    if a < b { a } else { b }
-}
-
 // Stores a whole block at place p of out: a copy of 16 bytes, which is quicker where their number is a constant.
 fn store_whole(block: [u8; 16], p: usize, out: &mut [u8]) -> usize
     requires { ⌜ p + 16 ≤ length (now out) ⌝ }
@@ -82,7 +76,7 @@ fn store_part(block: [u8; 16], from: usize, p: usize, out: &mut [u8]) -> usize
     requires { ⌜ (from < 16) × (p ≤ length (now out)) ⌝ }
     ensures { λ r. ⌜ Stored block from p r (now (out .entry)) (now (out .exit)) ⌝ }
 {
-    let n = least(16 - from, out.len() - p);
+    let n = numbers::min(16 - from, out.len() - p);
     for k in 0..n {
         out[p + k] = block[from + k];
     }

@@ -1,5 +1,4 @@
 -- Two shifts of a lane joined by `|` are a rotation: the low bits of x, moved up, have zeros where the high bits of x come to stand.
--- Assumes nothing.
 use mathlib.Core.Path.{_≡_, subst}
 use Prim.Native.Nat.{ℕ, zero, suc, _+_, _-_, _*_, _/_, _%_, _^_, _<_}
 use native.Mathlib.Nat.{mul-mod-left, add-zero, sub-add-cancel, add-comm}

@@ -1,5 +1,4 @@
 -- Strings laid one after another: where each stands, and its bytes. `at i` is where string i begins. By induction on the number of strings.
--- Assumes nothing.
 use Prim.Native.Nat.{ℕ, zero, suc, _+_, _-_, _*_, _/_, _%_, _≤_, _<_}
 use mathlib.Core.Path.{_≡_, refl, sym, ap, ap₂, _∙_}
 use mathlib.Core.List.{List, _++_, append-nil, append-assoc}

@@ -1,4 +1,4 @@
--- Tests joined by `&&`, a test that cannot succeed, and one that both succeeds and fails. By the cases of the tests. Assumes nothing.
+-- Tests joined by `&&`, a test that cannot succeed, and one that both succeeds and fails. By the cases of the tests.
 use mathlib.Core.Path.{_≡_, refl, sym, _∙_}
 use mathlib.Core.Bool.{Bool, true, false, _&&_, true≢false}
 

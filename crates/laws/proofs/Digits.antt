@@ -1,5 +1,5 @@
 -- The digits of a number in base 2 ^ k: a list of digits and the number that it writes determine each other, and a xor is taken digit by digit.
--- By induction on the digits. Assumes nothing.
+-- By induction on the digits.
 use mathlib.Core.Path.{_≡_, refl, sym, ap, ap₂, _∙_}
 use mathlib.Core.List.{List, [], _∷_}
 use Prim.Native.Nat.{ℕ, zero, suc, _+_, _*_, _/_, _%_, _^_, _<_}

@@ -1,4 +1,4 @@
--- Quotient and remainder of r * q + f, where f is below r. By the digits' laws of lib.Arith, with the factors the other way round. Assumes nothing.
+-- Quotient and remainder of r * q + f, where f is below r. By the digits' laws of lib.Arith, with the factors the other way round.
 use mathlib.Core.Path.{_≡_, ap, _∙_}
 use Prim.Native.Nat.{ℕ, _+_, _*_, _/_, _%_, _<_}
 use native.Mathlib.Nat.{mul-comm}

@@ -1,7 +1,6 @@
 -- The product in a field of polynomials modulo m, by parts of the second factor. Polynomials are congruent where they differ by a multiple of m. Sums and
 -- shifts keep this, and only one polynomial of degree below that of m is congruent to a given one: so a sum of the right degree that is congruent to the
 -- product is the product in the field.
--- Assumes nothing.
 use mathlib.Core.Path.{_≡_, refl, sym, ap, ap₂, _∙_}
 use Prim.Native.Nat.{ℕ, zero, suc, _+_, _-_, _*_, _/_, _%_, _^_, _≤_, _<_}
 use native.Mathlib.Nat.{mod-lt, mul-assoc, zero-mul, one-mul, mul-one, add-zero, zero-add, suc-add, add-comm, pow-suc, pow-succ', le-add-right, sub-add-cancel, lt-of-lt-of-le}

@@ -1,4 +1,4 @@
--- A list that is filled from its front by a rule, element by element or part by part, as a loop does it. By the laws of lists. Assumes nothing.
+-- A list that is filled from its front by a rule, element by element or part by part, as a loop does it. By the laws of lists.
 use mathlib.Core.Path.{_≡_, refl, sym, ap, _∙_}
 use mathlib.Core.List.{List, _∷_, _++_, append-nil, append-assoc}
 use Prim.Native.Nat.{ℕ, zero, suc, _+_, _-_, _≤_, _<_}

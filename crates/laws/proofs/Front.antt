@@ -1,5 +1,4 @@
 -- A buffer written from the front on: nothing, one element more, all of it. By comparing the index with the last one written.
--- Assumes nothing.
 use Prim.Native.Nat.{ℕ, _+_, _≤_, _<_}
 use mathlib.Core.Path.{_≡_, refl, sym, _∙_, subst}
 use mathlib.Core.List.{List}

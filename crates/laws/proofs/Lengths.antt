@@ -1,4 +1,4 @@
--- The test `fits` of spec is passed exactly by the buffers that have their lengths. By induction on the buffers. Assumes nothing.
+-- The test `fits` of spec is passed exactly by the buffers that have their lengths. By induction on the buffers.
 use Prim.Native.Nat.{ℕ}
 use mathlib.Core.Path.{_≡_, refl, ap₂}
 use mathlib.Core.Bool.{true, _&&_}

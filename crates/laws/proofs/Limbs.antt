@@ -1,20 +1,22 @@
 -- Numbers held as limbs, digits in base 2 ^ k, least first: what a store, a shift and a xor of limbs do to the number, and how shorter digits are read off.
 -- By induction on the limbs.
--- Assumes nothing.
-use mathlib.Core.Path.{_≡_, sym, ap, ap₂, _∙_, subst}
+use mathlib.Core.Path.{_≡_, refl, sym, ap, ap₂, _∙_, subst}
 use mathlib.Core.List.{List, [], _∷_}
 use Prim.Native.Nat.{ℕ, zero, suc, _+_, _-_, _*_, _/_, _%_, _^_, _≤_, _<_}
 use native.Mathlib.Nat.{add-mul, mul-assoc, mul-comm, mul-zero, mul-one, zero-mul, zero-add, add-zero, add-comm, mul-mod-left, add-mul-mod-self-right, add-mul-div-right, div-eq-of-lt, sub-add-cancel, mul-suc, zero-div, div-one, mod-eq-of-lt, mul-add, mul-le-mul-left, mod-lt, mod-add-div}
 use native.Mathlib.Omega.{arith}
+use native.Mathlib.Decide.{ℕ-discrete}
 use lib.Arith.{digits-lt}
-use lib.ListN.{length, getD, take, set, replicate, length-set}
+use lib.ListN.{length, getD, take, set, length-set}
 use lib.Pow.{pow-pos, pow-add, split, shl-exact, shl-shr, shr-shr, mod-pow-add, field}
-use lib.Seq.{take-set-le, getD-set-same, take-nil}
+use lib.Seq.{take-set-le, getD-set-same, getD-set-other, take-nil, take-all}
 use lib.Bits.{bitXor, bitOr, xor-block, xor-comm, xor-mod, xor-shifted, xor-shr, xor-zero-r, or-shifted}
 use mir.Syntax.{Width}
 use mir.Val.{bits, Fits}
-use Rattle.spec.specs.Bytes.{number}
+use Rattle.spec.specs.Bytes.{zeros, number}
 use Rattle.laws.proofs.Numbers.{Digits, pow-next, number-more, number-lt}
+use Rattle.laws.proofs.Lists.{length-zeros}
+use Rattle.laws.proofs.Strings.{getD-zeros, digits-zeros, number-xor}
 
 -- the elements of a program's array are digits
 pub fits-digits : (w : Width) (xs : List ℕ) → ((k : ℕ) → Fits w (getD xs k 0)) → Digits (bits w) xs
@@ -41,11 +43,6 @@ digits-set k (x ∷ xs) zero v h hv (suc j) = h (suc j)
 digits-set k (x ∷ xs) (suc i) v h hv zero = h zero
 digits-set k (x ∷ xs) (suc i) v h hv (suc j) = digits-set k xs i v (λ m. h (suc m)) hv j
 
-pub digits-zero : (k n : ℕ) → Digits k (replicate n 0)
-digits-zero k zero i = pow-pos k
-digits-zero k (suc n) zero = pow-pos k
-digits-zero k (suc n) (suc i) = digits-zero k n i
-
 -- one limb more of a xor
 pub xor-stored : (k : ℕ) (a b r : List ℕ) (i : ℕ) → i < length a → i < length b → i < length r → Digits k a → Digits k b
     → number k (take i r) ≡ bitXor (number k (take i a)) (number k (take i b))
@@ -61,29 +58,42 @@ xor-stored k a b r i la lb lr da db e =
     ∙ sym (xor-block (k * i) x y A B (take-lt k a i da) (take-lt k b i db))
     ∙ ap₂ bitXor (add-comm (x * 2 ^ (k * i)) A ∙ sym (number-more k a i la)) (add-comm (y * 2 ^ (k * i)) B ∙ sym (number-more k b i lb))
 
+number-zeros : (k n : ℕ) → number k (zeros n) ≡ 0
+unfolding number zeros
+number-zeros k zero = refl
+number-zeros k (suc n) = rw (number-zeros k n) (zero-add (0 * 2 ^ k) ∙ zero-mul (2 ^ k))
+
+-- a number with one limb other than 0
+number-one : (k n i v : ℕ) → i < n → number k (set (zeros n) i v) ≡ v * 2 ^ (k * i)
+unfolding number zeros
+number-one k zero i v h = absurd (omega arith)
+number-one k (suc n) zero v h = ap (λ (m : ℕ). v + m * 2 ^ k) (number-zeros k n) ∙ simp (zero-mul, add-zero, mul-zero, mul-one)
+number-one k (suc n) (suc i) v h =
+    zero-add (number k (set (zeros n) i v) * 2 ^ k)
+    ∙ ap (λ (m : ℕ). m * 2 ^ k) (number-one k n i v (omega arith))
+    ∙ mul-assoc v (2 ^ (k * i)) (2 ^ k)
+    ∙ ap (λ (m : ℕ). v * m) (sym (pow-next k i))
+
 -- limb i xored with v
-pub number-xor : (k : ℕ) (xs : List ℕ) (i v : ℕ) → i < length xs → Digits k xs → v < 2 ^ k
+pub limb-xor : (k : ℕ) (xs : List ℕ) (i v : ℕ) → i < length xs → Digits k xs → v < 2 ^ k
     → number k (set xs i (bitXor (getD xs i 0) v)) ≡ bitXor (number k xs) (v * 2 ^ (k * i))
-unfolding number
-number-xor k [] i v l h hv = absurd (omega arith)
-number-xor k (x ∷ xs) zero v l h hv =
-    let N = number k xs in
-    sym
-    (ap₂ bitXor (add-comm x (N * 2 ^ k))
-    (ap (λ (n : ℕ). v * 2 ^ n) (mul-zero k) ∙ mul-one v ∙ sym (zero-add v) ∙ ap (λ (n : ℕ). n + v) (sym (zero-mul (2 ^ k))))
-    ∙ xor-block k N 0 x v (h zero) hv
-    ∙ ap (λ (n : ℕ). n * 2 ^ k + bitXor x v) (xor-zero-r N)
-    ∙ add-comm (N * 2 ^ k) (bitXor x v))
-number-xor k (x ∷ xs) (suc i) v l h hv =
-    let N = number k xs in
-    let U = v * 2 ^ (k * i) in
-    ap (λ (n : ℕ). x + n * 2 ^ k) (number-xor k xs i v (omega arith) (λ j. h (suc j)) hv)
-    ∙ sym
-    (ap₂ bitXor (add-comm x (N * 2 ^ k))
-    (ap (λ (n : ℕ). v * n) (pow-next k i) ∙ sym (mul-assoc v (2 ^ (k * i)) (2 ^ k)) ∙ sym (add-zero (U * 2 ^ k)))
-    ∙ xor-block k N U x 0 (h zero) (pow-pos k)
-    ∙ ap (λ (n : ℕ). bitXor N U * 2 ^ k + n) (xor-zero-r x)
-    ∙ add-comm (bitXor N U * 2 ^ k) x)
+limb-xor k xs i v l h hv =
+    let n = length xs in
+    let one = set (zeros n) i v in
+    let ys = set xs i (bitXor (getD xs i 0) v) in
+    ap (number k) (sym (take-all n ys (omega (arith, length-set xs i (bitXor (getD xs i 0) v)))))
+    ∙ number-xor k xs one ys h (digits-set k (zeros n) i v (digits-zeros k n) hv) (λ j. at j (ℕ-discrete j i)) 0 n
+    ∙ ap₂ bitXor (ap (number k) (take-all n xs (omega arith)))
+    (ap (number k) (take-all n one (omega (arith, length-set (zeros n) i v, length-zeros n))) ∙ number-one k n i v l)
+  where
+    at : (j : ℕ) → Dec (j ≡ i) → getD (set xs i (bitXor (getD xs i 0) v)) j 0 ≡ bitXor (getD xs j 0) (getD (set (zeros (length xs)) i v) j 0)
+    at j (yes e) =
+        ap (λ (m : ℕ). getD (set xs i (bitXor (getD xs i 0) v)) m 0) e
+        ∙ getD-set-same xs i (bitXor (getD xs i 0) v) 0 l
+        ∙ sym (ap₂ bitXor (ap (λ (m : ℕ). getD xs m 0) e) (ap (λ (m : ℕ). getD (set (zeros (length xs)) i v) m 0) e ∙ getD-set-same (zeros (length xs)) i v 0 (rw length-zeros l)))
+    at j (no d) =
+        getD-set-other xs i j (bitXor (getD xs i 0) v) 0 d
+        ∙ sym (ap (bitXor (getD xs j 0)) (getD-set-other (zeros (length xs)) i j v 0 d ∙ getD-zeros (length xs) j) ∙ xor-zero-r (getD xs j 0))
 
 -- ---- a shift by n, in limbs of k = t + n bits
 
@@ -186,7 +196,7 @@ joined-more l d s r p hd ls lr ds dr e =
     let room : l + j ≤ l * d = rw (add-comm, ← mul-suc) (mul-le-mul-left l (mod-lt p hd)) in
     let place : j + l * d * (p / d) ≡ l * p =
     ap (λ (n : ℕ). j + n) (mul-assoc l d (p / d)) ∙ sym (mul-add l (p % d) (d * (p / d))) ∙ ap (λ (n : ℕ). l * n) (mod-add-div p d) in
-    number-xor (l * d) r (p / d) (b * 2 ^ j % 2 ^ (l * d)) lr dr (mod-lt (b * 2 ^ j) (pow-pos (l * d)))
+    limb-xor (l * d) r (p / d) (b * 2 ^ j % 2 ^ (l * d)) lr dr (mod-lt (b * 2 ^ j) (pow-pos (l * d)))
     ∙ ap₂ bitXor e
     (ap (λ (n : ℕ). n * 2 ^ (l * d * (p / d))) (shl-exact l j (l * d) (ds p) room)
     ∙ mul-assoc b (2 ^ j) (2 ^ (l * d * (p / d)))

@@ -1,5 +1,4 @@
 -- Lists that are given by a rule for each index: length, elements, and that a list with the right elements is the rule's. By induction on the length.
--- Assumes nothing.
 use mathlib.Core.Path.{_≡_, refl, sym, ap, ap₂, _∙_}
 use mathlib.Core.List.{List, [], _∷_, _++_}
 use Prim.Native.Nat.{ℕ, zero, suc, _+_, _-_, _≤_, _<_}

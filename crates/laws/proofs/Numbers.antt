@@ -1,5 +1,4 @@
 -- Numbers and their digits in base 2 ^ k: a number is fixed by its digits, and each digit can be read off. By induction on the digits.
--- Assumes nothing.
 use mathlib.Core.Path.{_≡_, sym, ap, _∙_}
 use mathlib.Core.List.{List, [], _∷_}
 use Prim.Native.Nat.{ℕ, zero, suc, _+_, _-_, _*_, _^_, _<_}

@@ -1,4 +1,4 @@
--- Parts of a list: from a place to the end, and a first part that has the length asked for. By induction on the place. Assumes nothing.
+-- Parts of a list: from a place to the end, and a first part that has the length asked for. By induction on the place.
 use Prim.Native.Nat.{ℕ, zero, suc, _-_, _≤_}
 use mathlib.Core.Path.{_≡_}
 use mathlib.Core.List.{List, [], _∷_}

@@ -1,6 +1,5 @@
 -- Polynomials over GF(2): the product is linear in each factor; `remainder` leaves a polynomial of degree below that of m, which differs from the one it
 -- was given by a multiple of m, and only one polynomial does. By induction on the number of terms; the top term decides.
--- Assumes nothing.
 use mathlib.Core.Path.{_≡_, refl, sym, ap, ap₂, _∙_, subst}
 use Prim.Native.Nat.{ℕ, zero, suc, _+_, _-_, _*_, _/_, _%_, _^_, _≤_, _<_}
 use native.Mathlib.Nat.{mod-lt, mul-comm, mul-assoc, zero-mul, one-mul, add-zero, zero-add, zero-div, mul-one, div-lt-iff-lt-mul, div-eq-of-lt, pow-suc, add-comm, lt-of-lt-of-le}

@@ -1,5 +1,4 @@
 -- Lists that are written from the front: what the first elements are after one store more. By induction on the length.
--- Assumes nothing.
 use mathlib.Core.Path.{_≡_, sym, ap, ap₂, _∙_}
 use mathlib.Core.List.{List, [], _∷_, _++_, append-assoc}
 use Prim.Native.Nat.{ℕ, _+_, _<_}

@@ -1,5 +1,4 @@
 -- A part of a buffer that is lent and comes back with other bytes, and strings put one behind another in this way. By the laws of `take` and `++`.
--- Assumes nothing.
 use Prim.Native.Nat.{ℕ, _+_, _-_, _≤_}
 use mathlib.Core.Path.{_≡_, sym, ap, _∙_}
 use mathlib.Core.List.{List, _++_, append-assoc}

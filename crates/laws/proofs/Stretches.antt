@@ -1,4 +1,4 @@
--- Stretches that follow one another: each ends where a later one starts, or before. By induction on the later one. Assumes nothing.
+-- Stretches that follow one another: each ends where a later one starts, or before. By induction on the later one.
 use Prim.Native.Nat.{ℕ, zero, suc, _+_, _≤_, _<_}
 use mathlib.Core.Path.{_≡_, subst}
 use native.Mathlib.Decide.{decLt}

@@ -1,5 +1,5 @@
 -- Strings of digits: strings of zeros, a string put together of two, the number that a part of a string writes, and the xor of strings that stand side by side.
--- By induction on the strings. Assumes nothing.
+-- By induction on the strings.
 use mathlib.Core.Path.{_≡_, refl, sym, ap, ap₂, _∙_}
 use mathlib.Core.List.{List, [], _∷_, _++_}
 use Prim.Native.Nat.{ℕ, zero, suc, _+_, _-_, _*_, _^_, _≤_, _<_}

@@ -1,4 +1,4 @@
--- The xor of a run of numbers: with equal members, and of a run in two parts. By induction on the run. Assumes nothing.
+-- The xor of a run of numbers: with equal members, and of a run in two parts. By induction on the run.
 use mathlib.Core.Path.{_≡_, refl, sym, ap, ap₂, _∙_}
 use Prim.Native.Nat.{ℕ, zero, suc, _+_, _<_}
 use native.Mathlib.Nat.{add-zero, add-suc}

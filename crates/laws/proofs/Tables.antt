@@ -1,5 +1,4 @@
 -- A rule that holds at every entry of a table, or at every number below a bound, from one test that is computed. By induction on the entries.
--- Assumes nothing.
 use mathlib.Core.Path.{_≡_, _∙_, subst, sym}
 use mathlib.Core.Bool.{Bool, true, false}
 use mathlib.Core.List.{List, [], _∷_}

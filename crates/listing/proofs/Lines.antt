@@ -1,4 +1,4 @@
--- What is longer than any line is refused, so the first 64 bytes of an input tell what it lists: a line has at most 57 (`line-length`). Assumes nothing.
+-- What is longer than any line is refused, so the first 64 bytes of an input tell what it lists: a line has at most 57 (`line-length`).
 use Prim.Native.Nat.{ℕ, _<_}
 use mathlib.Core.Path.{_≡_, refl, sym, ap, _∙_}
 use mathlib.Core.List.{List}

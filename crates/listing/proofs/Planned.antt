@@ -1,5 +1,5 @@
 -- What the listing prints of a plan: a refusal depends on the lent list only by its length, and of a plan that is let through at most 512 nodes are listed,
--- each below 81,920. By cases on the tests of plan, and by induction on the nodes that reveal. Assumes nothing.
+-- each below 81,920. By cases on the tests of plan, and by induction on the nodes that reveal.
 use Prim.Native.Nat.{ℕ, zero, suc, _+_, _*_, _≤_, _<_}
 use mathlib.Core.Path.{_≡_, refl, sym, ap, _∙_}
 use mathlib.Core.Bool.{Bool, true, false}
@@ -11,10 +11,11 @@ use borrow.Author.Tests.{leb-true, ne-eqb}
 use Rattle.spec.specs.declared.Shape.{Shape}
 use Rattle.spec.specs.declared.Answer.{Answer}
 use Rattle.spec.specs.Bytes.{zeros}
-use Rattle.spec.specs.Tree.{siblingToReveal, revealedFrom, revealed}
+use Rattle.spec.specs.Tree.{revealed}
 use Rattle.spec.specs.Shapes.{resolved, shapeOk, challengeBytes, grindingOk, planned, plannedCount}
 use Rattle.spec.specs.Calls.{firstRefusal, fits, nodesOk, countWith, planNumber, Plan}
 use Rattle.laws.proofs.Lists.{length-zeros}
+use Rattle.planning_laws.proofs.Revealed.{revealed-below}
 use Rattle.planning_laws.proofs.ShapeFacts.{shape-facts, leaves-max}
 use Rattle.planning.proofs.Planned.{planned-length}
 use Rattle.listing_text.specs.Text.{refusedText, nodesText}
@@ -49,22 +50,9 @@ number-same s ch xs size = go (shapeOk s) refl
 
 -- ---- the nodes
 
-revealed-lt : (c : ℕ → Bool) (n b : ℕ) → 2 * n < b → (m : ℕ) → getD (revealedFrom c n) m 0 < b
-unfolding revealedFrom siblingToReveal
-revealed-lt c zero b h m = omega arith
-revealed-lt c (suc a) b h m = go (c (2 * a + 1)) (c (2 * a + 2)) m (revealed-lt c a b (omega arith))
-  where
-    go : (x y : Bool) (m : ℕ) → ((m : ℕ) → getD (revealedFrom c a) m 0 < b) → getD (siblingToReveal x y a ++ revealedFrom c a) m 0 < b
-    go true true m ih = ih m
-    go false false m ih = ih m
-    go true false zero ih = omega arith
-    go true false (suc m) ih = ih m
-    go false true zero ih = omega arith
-    go false true (suc m) ih = ih m
-
 planned-lt : (s : Shape) (ch : List ℕ) → shapeOk s ≡ true → (m : ℕ) → getD (planned s ch) m 0 < 81920
 unfolding planned revealed
-planned-lt s ch e = revealed-lt _ _ 81920 (omega (arith, leaves-max s (shape-facts s e)))
+planned-lt s ch e = revealed-below _ _ 81920 (omega (arith, leaves-max s (shape-facts s e)))
 
 -- ---- a plan of the shape s as given, lent the list xs, which is ys afterwards
 

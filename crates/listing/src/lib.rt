@@ -1,21 +1,12 @@
 // The listing program of document 01, from the bytes of its input to the bytes of its output.
 ghost use mathlib.Core.Path.{_≡_};
-ghost use Prim.Native.Nat.{_≤_};
+ghost use mathlib.Core.List.{List};
+ghost use Prim.Native.Nat.{ℕ, _≤_};
 ghost use lib.ListN.{length, take};
 ghost use Rattle.spec.specs.Shapes.{resolved};
 ghost use Rattle.listing_text.specs.Put.{Put};
 ghost use Rattle.listing.specs.Listing.{planText, listing};
 use spec::Shape;
-
-// The smaller of two numbers.
-fn smaller_of(a: usize, b: usize) -> usize
-    ensures { λ r. ⌜ (r ≤ a) × (r ≤ b) × ((a ≤ b) → r ≡ a) ⌝ }
-{
-    if a < b {
-        return a;
-    }
-    b
-}
 
 // Writes the nodes of a plan or its refusal. `nodes` has room for every T that is allowed; a larger one is refused whatever the list's length.
 fn put_plan(out: &mut [u8], shape: Shape, challenge: &[u8], nodes: &mut [u32]) -> usize
@@ -23,7 +14,7 @@ fn put_plan(out: &mut [u8], shape: Shape, challenge: &[u8], nodes: &mut [u32]) -
     ensures { λ r. ⌜ Put (planText (resolved shape) (now (challenge .entry))) 0 (now (out .entry)) (now (out .exit)) r ⌝ }
 {
     let s = rules::resolve(shape);
-    let t = smaller_of(s.t, 512);
+    let t = numbers::min(s.t, 512);
     let answer = shape::plan(shape, challenge, &mut nodes[..t]);
     if answer.number != 0 {
         return listing_text::put_refused(out, answer.number);
@@ -43,4 +34,12 @@ pub fn list(input: &[u8], out: &mut [u8]) -> usize
     let challenge = listing_line::challenge_of(listing_line::behind(input, 4));
     let mut nodes = [0u32; 512];
     put_plan(out, listing_line::shape_of(input), &challenge, &mut nodes)
+}
+
+// The listing of an input of which the first n bytes, at most 64, have been read: of a longer one 64 are enough.
+pub fn list_read(read: [u8; 64], n: usize, out: &mut [u8]) -> usize
+    requires { ⌜ (n ≤ 64) × (4096 ≤ length (now out)) ⌝ }
+    ensures { λ r. ⌜ (r ≤ length (now (out .exit))) × ((input : List ℕ) → take 64 input ≡ take n read → take r (now (out .exit)) ≡ listing input) ⌝ }
+{
+    list(&read[..n], out)
 }

@@ -1,4 +1,4 @@
--- The challenge of a line: 32 hexadecimal digits, and at most a line feed behind them. By induction on the place, and by the length. Assumes nothing.
+-- The challenge of a line: 32 hexadecimal digits, and at most a line feed behind them. By induction on the place, and by the length.
 use Prim.Native.Nat.{ℕ, zero, suc, _+_, _≤_, _<_}
 use mathlib.Core.Path.{_≡_, refl, sym, ap, ap₂, _∙_, subst}
 use mathlib.Core.Bool.{Bool, true, false, _&&_, _||_, true≢false}

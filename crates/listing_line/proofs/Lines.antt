@@ -1,5 +1,5 @@
 -- A whole line: its parts can be read, and together they have at most 57 bytes. By adding up: a number has at most five digits and a space, the challenge 32
--- digits and a line feed. Assumes nothing.
+-- digits and a line feed.
 use Prim.Native.Nat.{ℕ, _+_, _≤_}
 use mathlib.Core.Path.{_≡_}
 use mathlib.Core.Bool.{true}

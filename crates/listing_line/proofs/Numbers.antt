@@ -1,5 +1,5 @@
 -- The numbers of a line: a run of digits is told by its digits and by what ends it, and i digits make a number below 10 ^ i. By induction on the text or
--- on the place in it. Assumes nothing.
+-- on the place in it.
 use Prim.Native.Nat.{ℕ, zero, suc, _+_, _-_, _*_, _^_, _≤_, _<_}
 use mathlib.Core.Path.{_≡_, refl, sym, ap, _∙_}
 use mathlib.Core.Bool.{Bool, true, false, _&&_, cond}

@@ -1,5 +1,4 @@
 -- A number in decimal: one digit, or the digits of its tenth part and one more. By induction on the steps allowed, which more than suffice.
--- Assumes nothing.
 use Prim.Native.Nat.{ℕ, zero, suc, _+_, _/_, _%_, _^_, _≤_, _<_}
 use mathlib.Core.Path.{_≡_, refl, ap, _∙_}
 use mathlib.Core.Bool.{cond}

@@ -1,4 +1,4 @@
--- Texts put one after another: nothing, one byte, one text behind another. Assumes nothing.
+-- Texts put one after another: nothing, one byte, one text behind another.
 use Prim.Native.Nat.{ℕ, _+_, _≤_, _<_}
 use mathlib.Core.Path.{_≡_, refl, sym, ap, _∙_}
 use mathlib.Core.List.{List, [], _∷_, _++_, append-assoc, append-nil}

@@ -1,5 +1,5 @@
 -- The nodes that a list has at its front are those of the plan: each stands in the tree, and written behind the hidden leaf commitments, with zeros in the unused
--- slots, they make the opening. Assumes nothing.
+-- slots, they make the opening.
 use Prim.Native.Nat.{ℕ, _-_, _*_, _<_}
 use mathlib.Core.Path.{_≡_, sym, ap, ap₂, _∙_}
 use mathlib.Core.Bool.{true}

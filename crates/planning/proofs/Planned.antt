@@ -1,4 +1,4 @@
--- The planned nodes at the front of a list that has room for them. By what a written list is. Assumes nothing.
+-- The planned nodes at the front of a list that has room for them. By what a written list is.
 use Prim.Native.Nat.{ℕ, _+_, _≤_}
 use mathlib.Core.Path.{_≡_, refl, sym, ap, _∙_}
 use mathlib.Core.List.{List}

@@ -1,5 +1,4 @@
 -- A node is above x exactly if it is x or one of its children is above x; nothing but itself is beneath a leaf; the root is above every node. By induction on the steps up.
--- Assumes nothing.
 use Prim.Native.Nat.{ℕ, zero, suc, _+_, _-_, _*_, _≤_, _<_}
 use mathlib.Core.Path.{_≡_, refl, sym, ap, ap₂, _∙_}
 use mathlib.Core.Bool.{Bool, true, false, _||_, or-true}

@@ -1,5 +1,4 @@
 -- The bits of a challenge taken one at a time: one step of the index that n bits make, and of the test that n bits are 0. By the first of the bits.
--- Assumes nothing.
 use Prim.Native.Nat.{ℕ, zero, suc, _+_, _-_, _*_, _/_, _%_, _^_, _≤_, _<_}
 use mathlib.Core.Path.{_≡_, refl, sym, ap, ap₂, _∙_}
 use mathlib.Core.Bool.{true, false, _&&_}

@@ -1,6 +1,6 @@
 -- The node count is the number of covered nodes, less twice the hidden leaves, plus one (document 000, figure 5.4, line 16). Each covered inner node has one
 -- covered child and reveals the other, or has two and reveals nothing; so count + covered = 2 * covered inner + 1, and the covered leaves are the hidden
--- ones. By induction on the nodes. Assumes nothing.
+-- ones. By induction on the nodes.
 use Prim.Native.Nat.{ℕ, zero, suc, _+_, _-_, _*_, _≤_, _<_}
 use mathlib.Core.Path.{_≡_, refl, sym, ap, _∙_}
 use mathlib.Core.Bool.{Bool, true, false, _||_, _&&_, not, cond}

@@ -1,5 +1,5 @@
 -- A leaf is covered exactly if it is hidden, an inner node exactly if one of its children is covered; the root is covered where anything is hidden.
--- By induction on the list of hidden leaves. Assumes nothing.
+-- By induction on the list of hidden leaves.
 use Prim.Native.Nat.{ℕ, _+_, _*_, _≤_, _<_}
 use mathlib.Core.Path.{_≡_, refl, ap, ap₂, _∙_}
 use mathlib.Core.Bool.{Bool, true, false, _||_}

@@ -1,5 +1,5 @@
 -- The bytes of a tree that is expanded node after node: its length, and that a node's bytes never change once they stand. By induction on the nodes
--- expanded; w bytes a node, the children of nodes below N being 2 w bytes. Assumes nothing.
+-- expanded; w bytes a node, the children of nodes below N being 2 w bytes.
 use Prim.Native.Nat.{ℕ, zero, suc, _+_, _-_, _*_, _≤_, _<_}
 use mathlib.Core.Path.{_≡_, refl, ap, _∙_}
 use mathlib.Core.List.{List, _++_}

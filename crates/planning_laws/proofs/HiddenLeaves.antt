@@ -1,5 +1,5 @@
 -- The hidden leaves of a shape and a challenge are leaves of its tree, one for each vector, and distinct: leaf numbers of different vectors differ modulo
--- tau. By induction on the vectors. Assumes nothing.
+-- tau. By induction on the vectors.
 use Prim.Native.Nat.{ℕ, zero, suc, _+_, _-_, _*_, _^_, _≤_, _<_}
 use mathlib.Core.Path.{_≡_, refl, ap₂}
 use mathlib.Core.Bool.{false, _||_}

@@ -1,5 +1,5 @@
 -- The revealed nodes: a child that is not covered, of a covered node, is revealed; a revealed node is a node; and where it stands in the list. By induction
--- on the nodes that reveal. Assumes nothing.
+-- on the nodes that reveal.
 use Prim.Native.Nat.{ℕ, zero, suc, _+_, _-_, _*_, _≤_, _<_}
 use mathlib.Core.Path.{_≡_, refl, sym, ap, _∙_, subst}
 use mathlib.Core.Bool.{Bool, true, false, _||_}
@@ -79,31 +79,23 @@ right-revealed L a hs ls h p q =
 
 -- ---- a revealed node is a node
 
-append-below : (n : ℕ) (xs ys : List ℕ) → ((m : ℕ) → m < length xs → getD xs m 0 < n) → ((m : ℕ) → m < length ys → getD ys m 0 < n)
-    → (m : ℕ) → m < length (xs ++ ys) → getD (xs ++ ys) m 0 < n
-append-below n [] ys f g m h = g m h
-append-below n (x ∷ xs) ys f g zero h = f 0 (omega arith)
-append-below n (x ∷ xs) ys f g (suc m) h = append-below n xs ys (λ m l. f (suc m) (omega arith)) g m (omega arith)
-
-sibling-low : (x y : Bool) (a m : ℕ) → m < length (siblingToReveal x y a) → getD (siblingToReveal x y a) m 0 < 2 * a + 3
-unfolding siblingToReveal
-sibling-low true true a m h = absurd (omega arith)
-sibling-low false false a m h = absurd (omega arith)
-sibling-low true false a zero h = omega arith
-sibling-low true false a (suc m) h = absurd (omega arith)
-sibling-low false true a zero h = omega arith
-sibling-low false true a (suc m) h = absurd (omega arith)
-
-from-low : (c : ℕ → Bool) (n m : ℕ) → m < length (revealedFrom c n) → getD (revealedFrom c n) m 0 < 2 * n + 1
-unfolding revealedFrom
-from-low c zero m h = absurd (omega arith)
-from-low c (suc n) m h =
-    append-below (2 * suc n + 1) (siblingToReveal (c (2 * n + 1)) (c (2 * n + 2)) n) (revealedFrom c n)
-    (λ m l. (let r = sibling-low (c (2 * n + 1)) (c (2 * n + 2)) n m l in omega arith)) (λ m l. (let r = from-low c n m l in omega arith)) m h
+-- what nodes n - 1 down to 0 reveal is below any number past 2 n, as is the 0 behind the end of the list
+pub revealed-below : (c : ℕ → Bool) (n b : ℕ) → 2 * n < b → (m : ℕ) → getD (revealedFrom c n) m 0 < b
+unfolding revealedFrom siblingToReveal
+revealed-below c zero b h m = omega arith
+revealed-below c (suc a) b h m = go (c (2 * a + 1)) (c (2 * a + 2)) m (revealed-below c a b (omega arith))
+  where
+    go : (x y : Bool) (m : ℕ) → ((m : ℕ) → getD (revealedFrom c a) m 0 < b) → getD (siblingToReveal x y a ++ revealedFrom c a) m 0 < b
+    go true true m ih = ih m
+    go false false m ih = ih m
+    go true false zero ih = omega arith
+    go true false (suc m) ih = ih m
+    go false true zero ih = omega arith
+    go false true (suc m) ih = ih m
 
 pub revealed-low : (L : ℕ) (hs : List ℕ) (m : ℕ) → 1 ≤ L → m < nodeCount L hs → getD (revealed L hs) m 0 < 2 * L - 1
 unfolding revealed nodeCount
-revealed-low L hs m p h = (let r = from-low (covered hs) (L - 1) m h in omega arith)
+revealed-low L hs m p h = revealed-below (covered hs) (L - 1) (2 * L - 1) (omega arith) m
 
 -- ---- the place of a revealed node in the list
 
@@ -144,8 +136,7 @@ revealed-place c (suc m) a x h e = go (decLt a m) (λ l. revealed-place c m a x 
     go : Dec (a < m) → (a < m → indexOf x (revealedFrom c m) + length (revealedFrom c (suc a)) ≡ length (revealedFrom c m))
         → indexOf x (revealedFrom c (suc m)) + length (revealedFrom c (suc a)) ≡ length (revealedFrom c (suc m))
     go (yes l) ih =
-        let low : 0 < length (x ∷ []) → getD (x ∷ []) 0 0 < 2 * a + 3 = rw e at (sibling-low (c (2 * a + 1)) (c (2 * a + 2)) a 0) in
-        let below : x < 2 * a + 3 = low (omega arith) in
+        let below : x < 2 * a + 3 = rw e at (revealed-below c (suc a) (2 * a + 3) (omega arith) 0) in
         let p = sibling-before (c (2 * m + 1)) (c (2 * m + 2)) m x (revealedFrom c m) (omega arith) in
         let q = ih l in
         omega arith

@@ -1,6 +1,5 @@
 -- Planning one node at a time. A tree whose last inner node is p, with p in place of the children of p, is a tree with one leaf less; up to node
 -- 2 p the same nodes are covered. So what the nodes up to p reveal is what p reveals and what the smaller tree reveals. By induction on the list.
--- Assumes nothing.
 use Prim.Native.Nat.{ℕ, zero, suc, _+_, _-_, _*_, _/_, _≤_, _<_}
 use mathlib.Core.Path.{_≡_, refl, sym, ap, ap₂, _∙_}
 use mathlib.Core.Bool.{Bool, false, _||_, cond}

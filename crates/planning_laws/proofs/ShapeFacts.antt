@@ -1,5 +1,5 @@
 -- The shape rules as facts, and the numbers that follow: a vector's bits lie in the challenge, its leaves in the tree, and no tree is large. By taking the
--- conjunction of the rules apart. Assumes nothing.
+-- conjunction of the rules apart.
 use Prim.Native.Nat.{ℕ, zero, suc, _+_, _-_, _*_, _^_, _≤_, _<_}
 use mathlib.Core.Path.{_≡_, refl, sym}
 use mathlib.Core.Bool.{Bool, true, false, _&&_, true≢false}

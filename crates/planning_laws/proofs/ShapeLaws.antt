@@ -1,5 +1,5 @@
 -- What the laws of the two halves know of a shape: its vectors' bits, columns and entries follow one another, each entry has a leaf of its own, a hidden
--- index is an entry. Nothing that cites this record looks into a shape. By the shape rules. Assumes nothing.
+-- index is an entry. Nothing that cites this record looks into a shape. By the shape rules.
 use Prim.Native.Nat.{ℕ, zero, suc, _+_, _-_, _*_, _/_, _%_, _^_, _≤_, _<_}
 use mathlib.Core.Path.{_≡_, refl, sym, ap, _∙_}
 use mathlib.Core.Bool.{true}

@@ -1,4 +1,4 @@
--- What reconstruct writes, buffer by buffer: all of them follow from the tree. Assumes nothing.
+-- What reconstruct writes, buffer by buffer: all of them follow from the tree.
 use Prim.Native.Nat.{ℕ}
 use mathlib.Core.Path.{_≡_, ap}
 use mathlib.Core.List.{List}

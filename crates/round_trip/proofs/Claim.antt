@@ -1,4 +1,4 @@
--- The claim of one run, from the contracts of its three calls: demand 3 of `theorems`, at FAEST's primitives. Assumes nothing.
+-- The claim of one run, from the contracts of its three calls: demand 3 of `theorems`, at FAEST's primitives.
 use Prim.Native.Nat.{ℕ}
 use mathlib.Core.List.{List}
 use Rattle.spec.specs.declared.Shape.{Shape}

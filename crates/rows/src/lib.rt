@@ -1,18 +1,12 @@
 // The row of a seed, section 5.5.2 of document 000 with tweak i + 2^31: added block by block to the sum of the rows and to the columns of a vector, so that
 // no more than 16 bytes of a row stand outside the lent buffers.
 ghost use mathlib.Core.Path.{_≡_};
-ghost use Prim.Native.Nat.{_*_, _≤_, min};
+ghost use Prim.Native.Nat.{_*_, _≤_};
 ghost use lib.ListN.{length};
 ghost use Rattle.spec.specs.Bytes.{bit};
 ghost use Rattle.spec.specs.Gf256.{SboxTable};
 ghost use Rattle.spec.specs.Generator.{generatorByte};
 ghost use Rattle.columns.specs.Columns.{Added};
-
-fn least(a: usize, b: usize) -> usize
-    ensures { λ r. ⌜ r ≡ min a b ⌝ }
-{
-    if a < b { a } else { b }
-}
 
 // Adds the row of b bytes of a seed to `total`, which has one column or none, and to each of k columns of b bytes whose bit the entry's number has set.
 pub fn add_row(
@@ -37,7 +31,7 @@ pub fn add_row(
     while at < b {
         let block = generator::block(t, &keys, iv, tweak, (at / 16) as u32);
         // the last block is cut
-        let n = least(16, b - at);
+        let n = numbers::min(16, b - at);
         columns::add_block(total, b, totals, 1, at, n, block);
         columns::add_block(cols, b, k, number, at, n, block);
         at += n;

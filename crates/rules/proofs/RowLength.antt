@@ -1,4 +1,4 @@
--- The largest row, by the test that bounds it. Assumes nothing.
+-- The largest row, by the test that bounds it.
 use Prim.Native.Nat.{ℕ, _/_, _%_, _≤_}
 use mathlib.Core.Path.{_≡_}
 use mathlib.Core.Bool.{true}

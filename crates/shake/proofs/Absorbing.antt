@@ -1,5 +1,5 @@
 -- What the sponge holds as the parts of a message come in. A part only goes on in the string that is xored into the last block's state; where it ends the
--- block, the permutation closes the block. Assumes nothing.
+-- block, the permutation closes the block.
 use mathlib.Core.Path.{_≡_, refl, sym, ap, ap₂, _∙_}
 use mathlib.Core.List.{List, [], _∷_, _++_, append-nil, append-assoc}
 use Prim.Native.Nat.{ℕ, zero, suc, _+_, _-_, _*_, _/_, _%_, _≤_, _<_}

@@ -1,4 +1,4 @@
--- What is squeezed out part by part: a part that is put in where a block of the output begins is the rule's next bytes. Assumes nothing.
+-- What is squeezed out part by part: a part that is put in where a block of the output begins is the rule's next bytes.
 use mathlib.Core.Path.{_≡_, refl, sym, ap, ap₂, _∙_}
 use mathlib.Core.List.{List, _++_}
 use Prim.Native.Nat.{ℕ, suc, _+_, _*_, _≤_}

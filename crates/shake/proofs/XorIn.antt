@@ -1,5 +1,4 @@
 -- A string xored into a state: one that goes on where another ended, and the empty one. Lane by lane, by the number that the xor of two strings writes.
--- Assumes nothing.
 use mathlib.Core.Path.{_≡_, sym, ap, _∙_}
 use mathlib.Core.List.{List, [], _++_}
 use Prim.Native.Nat.{ℕ, _*_, _≤_}

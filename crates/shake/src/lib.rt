@@ -2,7 +2,7 @@
 // The rate, in bytes, is a parameter of each function of the sponge: 168 is SHAKE128, 136 SHAKE256.
 ghost use mathlib.Core.Path.{_≡_};
 ghost use mathlib.Core.List.{List, [], _∷_, _++_};
-ghost use Prim.Native.Nat.{ℕ, _+_, _-_, _<_, _≤_, min};
+ghost use Prim.Native.Nat.{ℕ, _+_, _-_, _<_, _≤_};
 ghost use lib.ListN.{length, take};
 ghost use Rattle.spec.specs.Bytes.{tabulate, zeros, number, digits};
 ghost use Rattle.spec.specs.Keccak.{keccakF};
@@ -21,13 +21,6 @@ fn wide(b: u8) -> u64
     ensures { λ r. ⌜ (r ≡ b) × (r < 256) ⌝ }
 {
     b as u64
-}
-
-// The smaller of two numbers.
-fn min(a: usize, b: usize) -> usize
-    ensures { λ r. ⌜ r ≡ min a b ⌝ }
-{
-    if a < b { a } else { b }
 }
 
 // The lane that eight bytes write, the least byte first.
@@ -126,7 +119,7 @@ pub fn absorb(s: Sponge, rate: usize, message: &[u8]) -> Sponge
     let mut at = 0;
     while at < message.len() {
         let fill = t.fill;
-        let n = min(rate - fill, message.len() - at);
+        let n = numbers::min(rate - fill, message.len() - at);
         let end = at + n;
         let u = absorb_part(t, rate, &message[at..end]);
         t = u;
@@ -205,7 +198,7 @@ pub fn squeeze(s: Sponge, rate: usize, out: &mut [u8])
     let mut t = s;
     let mut at = 0;
     while at < out.len() {
-        let n = min(rate, out.len() - at);
+        let n = numbers::min(rate, out.len() - at);
         let end = at + n;
         squeeze_part(t, &mut out[at..end]);
         at = end;

@@ -1,5 +1,5 @@
 -- The records that are the contracts of decode and plan, by the tests that were passed: one law for each way out of the call. s is the shape as given and
--- t the resolved one, ch the challenge, xs the lent list, r the answer. Assumes nothing.
+-- t the resolved one, ch the challenge, xs the lent list, r the answer.
 use Prim.Native.Nat.{ℕ, _≤_, _<_}
 use mathlib.Core.Path.{_≡_, refl, sym, ap, _∙_}
 use mathlib.Core.Bool.{Bool, true, false}

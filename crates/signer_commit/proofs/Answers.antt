@@ -1,5 +1,5 @@
 -- The record that is the contract of commit, by the tests that were passed: one law for each way out of the call; and what commit writes, buffer by buffer.
--- s is the shape as given and t the resolved one, x what the buffers held, r the answer. Assumes nothing.
+-- s is the shape as given and t the resolved one, x what the buffers held, r the answer.
 use Prim.Native.Nat.{ℕ, _/_}
 use mathlib.Core.Path.{_≡_, refl, sym, ap, _∙_}
 use mathlib.Core.Bool.{true, false}

@@ -1,5 +1,5 @@
 -- The record that is the contract of open, by the tests that were passed: one law for each way out of the call. s is the shape as given and t the resolved
--- one, xs the lent opening, r the answer. Assumes nothing.
+-- one, xs the lent opening, r the answer.
 use Prim.Native.Nat.{ℕ, _≤_, _<_}
 use mathlib.Core.Path.{_≡_, refl, sym, _∙_}
 use mathlib.Core.Bool.{Bool, true, false}

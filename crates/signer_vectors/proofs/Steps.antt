@@ -1,5 +1,5 @@
 -- One vector's bytes, from what was added to cleared columns and to a total; the buffers of the first vectors with one vector more; and the whole buffers.
--- By the laws of strings put one behind another. Assumes nothing.
+-- By the laws of strings put one behind another.
 use Prim.Native.Nat.{ℕ, _+_, _-_, _*_, _^_, _≤_}
 use mathlib.Core.Path.{_≡_, refl, sym, ap, ap₂, _∙_, subst}
 use mathlib.Core.Bool.{true}

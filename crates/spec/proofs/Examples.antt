@@ -1,5 +1,4 @@
 -- Document 01's examples P1 to P10, as entries of one table about the definitions; each is computed.
--- Assumes nothing.
 use Prim.Native.Nat.{ℕ}
 use mathlib.Core.Path.{_≡_, refl}
 use mathlib.Core.List.{List, [], _∷_, _++_}
@@ -8,7 +7,7 @@ use Rattle.spec.specs.declared.Shape.{Shape}
 use Rattle.spec.specs.Bytes.{tabulate, zeros, allZero, number}
 use Rattle.spec.specs.Tree.{parent, isAncestorWithin, isAncestor, some, covered, siblingToReveal, revealedFrom, revealed, nodeCount}
 use Rattle.spec.specs.Challenge.{bitAt, bitsAt, indexAt, clearAt}
-use Rattle.spec.specs.Shapes.{faest128s, resolved, level, challengeBytes, depthOf, firstBit, leaves, leafOf, shapeOk, hiddenIndex, hiddenLeaf, hiddenLeaves, grindingOk, planned, plannedCount}
+use Rattle.spec.specs.Shapes.{faest128s, resolved, level, challengeBytes, depthOf, firstBit, firstEntry, leaves, leafOf, shapeOk, hiddenIndex, hiddenIndices, hiddenLeaf, hiddenLeaves, grindingOk, planned, plannedCount}
 use Rattle.spec.specs.Calls.{written, countWith, nodesOk, planNumber}
 
 -- a call of plan with a challenge of one byte and fifteen zeros and a list of t zeros: its number, its count and the list after it
@@ -67,7 +66,7 @@ abbrev pub P10 : Type 0
 P10 = let s = resolved (record { tau = 0; k = 0; w = 0; t = 0 }) in (s ≡ faest128s) × (leaves s ≡ 22528) × (leafOf s 10 2047 ≡ 45054)
 
 pub table : P1 × P2 × P3 × P4 × P5 × P6 × P7 × P8 × P9 × P10
-unfolding challengeOf Planned row tabulate zeros allZero number parent isAncestorWithin isAncestor some covered siblingToReveal revealedFrom revealed nodeCount bitAt bitsAt indexAt clearAt faest128s resolved level challengeBytes depthOf firstBit leaves leafOf shapeOk hiddenIndex hiddenLeaf hiddenLeaves grindingOk planned plannedCount countWith nodesOk planNumber
+unfolding challengeOf Planned row tabulate zeros allZero number parent isAncestorWithin isAncestor some covered siblingToReveal revealedFrom revealed nodeCount bitAt bitsAt indexAt clearAt faest128s resolved level challengeBytes depthOf firstBit firstEntry leaves leafOf shapeOk hiddenIndex hiddenLeaf hiddenLeaves grindingOk planned plannedCount countWith nodesOk planNumber
 table = (
   (refl, refl, refl),
   (refl, refl, refl),
@@ -80,3 +79,14 @@ table = (
   (refl, refl, refl),
   (refl, refl, refl),
 )
+
+-- ---- the hidden indices of the default, most of which begin and end inside a byte; reference/tests derives them too
+
+abbrev pub varied : List ℕ
+varied = 8 ∷ 118 ∷ 246 ∷ 103 ∷ 12 ∷ 60 ∷ 245 ∷ 175 ∷ 148 ∷ 147 ∷ 233 ∷ 0 ∷ 222 ∷ 58 ∷ 213 ∷ 1 ∷ []
+
+pub default-indices :
+    hiddenIndices faest128s varied
+    ≡ 1544 ∷ 1742 ∷ 415 ∷ 1542 ∷ 1875 ∷ 351 ∷ 1253 ∷ 1868 ∷ 1536 ∷ 1883 ∷ 1876 ∷ []
+unfolding tabulate number bitAt bitsAt indexAt faest128s depthOf firstBit hiddenIndex hiddenIndices
+default-indices = refl

@@ -2,5 +2,6 @@
 pub mod PrimitiveInputs
 pub mod Examples
 pub mod Refusals
+pub mod StandIns
 pub mod WorkedExample
 pub mod Misreadings

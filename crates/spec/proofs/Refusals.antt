@@ -1,16 +1,18 @@
 -- Document 01's refusals and limits, computed: each number where its condition holds alone and where a later one holds too, the counts that go with
--- them, the borders of shapes and row lengths. Assumes nothing.
+-- them, the borders of shapes and row lengths.
 use Prim.Native.Nat.{ℕ, _+_, _*_}
 use mathlib.Core.Path.{_≡_, refl}
-use mathlib.Core.Bool.{true, false}
+use mathlib.Core.Bool.{true, false, cond}
 use mathlib.Core.List.{List, [], _∷_, _++_}
+use lib.Dec.{eqb}
+use lib.ListN.{set, replicate}
 use Rattle.spec.specs.declared.Shape.{Shape}
 use Rattle.spec.specs.Bytes.{tabulate, zeros, allZero, number}
 use Rattle.spec.specs.Tree.{parent, isAncestorWithin, isAncestor, some, covered, siblingToReveal, revealedFrom, revealed, nodeCount}
 use Rattle.spec.specs.Challenge.{bitAt, bitsAt, indexAt, clearAt}
-use Rattle.spec.specs.Shapes.{faest128s, level, nodeBytes, challengeBytes, leafCommitmentBytes, hashBytes, depthOf, firstBit, leaves, leafOf, shapeOk, hiddenIndex, hiddenLeaf, hiddenLeaves, grindingOk, planned, plannedCount, treeBytes, leafCommitmentsBytes, openingBytes, matrixBytes, correctionsBytes}
+use Rattle.spec.specs.Shapes.{faest128s, resolved, level, nodeBytes, challengeBytes, leafCommitmentBytes, hashBytes, depthOf, firstBit, leaves, leafOf, shapeOk, hiddenIndex, hiddenLeaf, hiddenLeaves, grindingOk, planned, plannedCount, treeBytes, leafCommitmentsBytes, openingBytes, matrixBytes, correctionsBytes}
 use Rattle.spec.specs.Verifier.{slotsOk}
-use Rattle.spec.specs.Calls.{rowOk, nodesOk, countWith, decodeNumber, commitNumber, openNumber, reconstructNumber}
+use Rattle.spec.specs.Calls.{rowOk, nodesOk, countWith, decodeNumber, planNumber, commitNumber, openNumber, reconstructNumber}
 
 abbrev pub shape : ℕ → ℕ → ℕ → ℕ → Shape
 shape tau k w t = record { tau = tau; k = k; w = w; t = t }
@@ -20,6 +22,7 @@ shape tau k w t = record { tau = tau; k = k; w = w; t = t }
 abbrev pub Limits : Type 0
 Limits =
     (shapeOk (shape 32 4 0 512) ≡ true)
+    × (shapeOk (shape 10 12 8 512) ≡ true)
     × (shapeOk (shape 33 3 29 512) ≡ false)
     × (shapeOk (shape 9 13 11 512) ≡ false)
     × (shapeOk (shape 32 4 0 0) ≡ false)
@@ -34,7 +37,42 @@ Limits =
 
 pub limits : Limits
 unfolding faest128s level nodeBytes leafCommitmentBytes shapeOk openingBytes rowOk
-limits = (refl, refl, refl, refl, refl, refl, refl, refl, refl, refl, refl, refl)
+limits = (refl, refl, refl, refl, refl, refl, refl, refl, refl, refl, refl, refl, refl)
+
+-- four zeros are the default; three are not, wherever the fourth number stands
+abbrev pub Defaults : Type 0
+Defaults =
+    (resolved (shape 0 0 0 0) ≡ shape 11 11 7 102)
+    × (resolved (shape 11 0 0 0) ≡ shape 11 0 0 0)
+    × (resolved (shape 0 11 0 0) ≡ shape 0 11 0 0)
+    × (resolved (shape 0 0 7 0) ≡ shape 0 0 7 0)
+    × (resolved (shape 0 0 0 102) ≡ shape 0 0 0 102)
+    × (shapeOk (shape 0 0 0 102) ≡ false)
+
+pub defaults : Defaults
+unfolding allZero faest128s resolved shapeOk
+defaults = (refl, refl, refl, refl, refl, refl)
+
+-- ---- grinding bits
+
+-- a challenge of zeros but for byte i
+abbrev pub only : ℕ → ℕ → List ℕ
+only i x = set (zeros 16) i x
+
+-- with w 127 each bit from bit 1 on is one, seen here by the least and the greatest bit of each byte; with the default the upper seven of byte 15 are
+abbrev pub Grinding : Type 0
+Grinding =
+    (tabulate 16 (λ i. grindingOk (shape 1 1 127 1) (only i 1)) ≡ true ∷ replicate 15 false)
+    × (tabulate 16 (λ i. grindingOk (shape 1 1 127 1) (only i 128)) ≡ replicate 16 false)
+    × (grindingOk (shape 1 1 127 1) (only 0 2) ≡ false)
+    × (tabulate 15 (λ i. grindingOk faest128s (only i 255)) ≡ replicate 15 true)
+    × (grindingOk faest128s (only 15 1) ≡ true)
+    × (grindingOk faest128s (only 15 2) ≡ false)
+    × (grindingOk faest128s (only 15 128) ≡ false)
+
+pub grinding : Grinding
+unfolding tabulate zeros allZero bitAt bitsAt clearAt faest128s firstBit grindingOk
+grinding = (refl, refl, refl, refl, refl, refl, refl)
 
 -- ---- the calls at τ 1, k 1, w 127, T 1 or, for 5, at P8's shape; a challenge is its first byte and fifteen zeros
 
@@ -47,6 +85,10 @@ ch first = first ∷ zeros 15
 -- decode with a list of n numbers
 abbrev pub decoding : Shape → ℕ → ℕ → ℕ
 decoding s first n = decodeNumber s (ch first) (zeros n)
+
+-- plan with a list of n numbers
+abbrev pub planning : Shape → ℕ → ℕ → ℕ
+planning s first n = planNumber s (ch first) (zeros n)
 
 -- commit with rows of n bits and buffers for `small` and 8 bits, u being of `long` bytes
 abbrev pub committing : Shape → ℕ → ℕ → ℕ
@@ -64,7 +106,13 @@ reconstructing s n first last =
     reconstructNumber s n (zeros 16) (ch first) [] (zeros 63 ++ (last ∷ []))
     (record { commitment = zeros 32; tree = zeros 48; leafCommitments = zeros 96; q = zeros 128 })
 
--- the same at 2, 2, 124, t: with t 5 the challenge 0c leaves one slot unused, with t 3 it needs a node too many
+-- the same at 2, 2, 124, 5 and the challenge 0c, which reveals four nodes: the opening is zeros but for byte i
+abbrev pub reconstructingAt : ℕ → ℕ
+reconstructingAt i =
+    reconstructNumber (shape 2 2 124 5) 8 (zeros 16) (ch 12) (zeros 1) (set (zeros 176) i 1)
+    (record { commitment = zeros 32; tree = zeros 240; leafCommitments = zeros 384; q = zeros 128 })
+
+-- at 2, 2, 124, t: with t 5 the challenge 0c leaves one slot unused, with t 3 it needs a node too many
 abbrev pub reconstructing2 : ℕ → ℕ → ℕ → ℕ
 reconstructing2 t first last =
     reconstructNumber (shape 2 2 124 t) 8 (zeros 16) (ch first) (zeros 1) (zeros (95 + 16 * t) ++ (last ∷ []))
@@ -76,6 +124,11 @@ Numbers =
     × (decoding (shape 1 1 126 1) 2 2 ≡ 1)
     × (decoding small 2 2 ≡ 3)
     × (decoding small 2 1 ≡ 4)
+    × (planning small 0 1 ≡ 0)
+    × (planning (shape 1 1 126 1) 2 2 ≡ 1)
+    × (planning small 2 2 ≡ 3)
+    × (planning small 0 0 ≡ 3)
+    × (planning small 2 1 ≡ 4)
     × (committing small 8 1 ≡ 0)
     × (committing (shape 1 1 126 1) 12 2 ≡ 1)
     × (committing small 12 2 ≡ 2)
@@ -93,11 +146,45 @@ Numbers =
     × (reconstructing2 3 28 1 ≡ 4)
     × (reconstructing2 3 12 1 ≡ 5)
     × (reconstructing2 5 12 1 ≡ 6)
+    × (reconstructingAt 95 ≡ 0)
+    × (reconstructingAt 159 ≡ 0)
+    × (reconstructingAt 160 ≡ 6)
 
 pub numbers : Numbers
-unfolding tabulate zeros allZero number parent isAncestorWithin isAncestor some covered siblingToReveal revealedFrom revealed nodeCount bitAt bitsAt indexAt clearAt level nodeBytes challengeBytes leafCommitmentBytes hashBytes depthOf firstBit leaves leafOf shapeOk hiddenIndex hiddenLeaf hiddenLeaves grindingOk planned plannedCount treeBytes leafCommitmentsBytes openingBytes matrixBytes correctionsBytes slotsOk rowOk nodesOk decodeNumber commitNumber openNumber reconstructNumber
+unfolding tabulate zeros allZero number parent isAncestorWithin isAncestor some covered siblingToReveal revealedFrom revealed nodeCount bitAt bitsAt indexAt clearAt level nodeBytes challengeBytes leafCommitmentBytes hashBytes depthOf firstBit leaves leafOf shapeOk hiddenIndex hiddenLeaf hiddenLeaves grindingOk planned plannedCount treeBytes leafCommitmentsBytes openingBytes matrixBytes correctionsBytes slotsOk rowOk nodesOk decodeNumber planNumber commitNumber openNumber reconstructNumber
 numbers =
-    (refl, refl, refl, refl, refl, refl, refl, refl, refl, refl, refl, refl, refl, refl, refl, refl, refl, refl, refl, refl, refl)
+    (refl, refl, refl, refl, refl, refl, refl, refl, refl, refl, refl, refl, refl, refl, refl, refl, refl, refl, refl, refl, refl, refl, refl, refl, refl, refl, refl, refl, refl)
+
+-- ---- lengths: of the buffers of a call, in its order, buffer i alone is a byte longer, or none where i is past the last; at `small` with 8 bits
+
+abbrev pub more : ℕ → ℕ → ℕ
+more i buffer = cond (eqb i buffer) 1 0
+
+abbrev pub Lengths : Type 0
+Lengths =
+    (tabulate 3 (λ i. decodeNumber small (zeros (16 + more i 0)) (zeros (1 + more i 1))) ≡ 3 ∷ 3 ∷ 0 ∷ [])
+    × (tabulate 3 (λ i. planNumber small (zeros (16 + more i 0)) (zeros (1 + more i 1))) ≡ 3 ∷ 3 ∷ 0 ∷ [])
+    × (tabulate 9 (λ i.
+    commitNumber small 8 (zeros (16 + more i 0)) (zeros (16 + more i 1))
+    (record {
+      commitment = zeros (32 + more i 2);
+      tree = zeros (48 + more i 3);
+      leafCommitments = zeros (96 + more i 4);
+      u = zeros (1 + more i 5);
+      v = zeros (128 + more i 6);
+      corrections = zeros (more i 7);
+    }))
+    ≡ replicate 8 3 ++ (0 ∷ []))
+    × (tabulate 5 (λ i. openNumber small (zeros (16 + more i 0)) (zeros (48 + more i 1)) (zeros (96 + more i 2)) (zeros (64 + more i 3)))
+    ≡ replicate 4 3 ++ (0 ∷ []))
+    × (tabulate 9 (λ i.
+    reconstructNumber small 8 (zeros (16 + more i 0)) (zeros (16 + more i 1)) (zeros (more i 2)) (zeros (64 + more i 3))
+    (record { commitment = zeros (32 + more i 4); tree = zeros (48 + more i 5); leafCommitments = zeros (96 + more i 6); q = zeros (128 + more i 7) }))
+    ≡ replicate 8 3 ++ (0 ∷ []))
+
+pub lengths : Lengths
+unfolding tabulate zeros allZero number parent isAncestorWithin isAncestor some covered siblingToReveal revealedFrom revealed nodeCount bitAt bitsAt indexAt clearAt level nodeBytes challengeBytes leafCommitmentBytes hashBytes depthOf firstBit leaves leafOf shapeOk hiddenIndex hiddenLeaf hiddenLeaves grindingOk planned plannedCount treeBytes leafCommitmentsBytes openingBytes matrixBytes correctionsBytes slotsOk rowOk nodesOk decodeNumber planNumber commitNumber openNumber reconstructNumber
+lengths = (refl, refl, refl, refl, refl)
 
 -- the count with each number, where 7 nodes are planned
 abbrev pub Counts : Type 0

@@ -1,5 +1,5 @@
--- Worked examples of the primitives, computed by the definitions: FIPS 197's, SHAKE128 of the empty message, and one of each primitive of sections 3.3 and 5.1 of document
--- 000, whose values reference/ derives too (reference/tests). Assumes nothing.
+-- Worked examples of the primitives, computed by the definitions: FIPS 197's, SHAKE128 of the empty message, and some of each primitive of sections 3.3 and 5.1 of
+-- document 000, whose values reference/ derives too (reference/tests).
 use mathlib.Core.Path.{_≡_, refl, ap}
 use mathlib.Core.List.{List, [], _∷_}
 use Prim.Native.Nat.{ℕ, _+_, _*_, _/_, _%_, _^_}
@@ -53,10 +53,21 @@ pub generator-block :
 unfolding tabulate number product remainder fieldProduct mul squares inverse affineBit affine sbox xorWord subWord subBytes mixColumn mixColumns addRoundKey roundOf lastRound roundKey rounds cipher power2 rcon scheduleCore nextWord schedule keyExpansion digits addToWord generatorBlock faest128s level keyWords
 generator-block = refl
 
--- byte 5 of that block is byte 85 of the output
+-- block 511, the last of the longest row: its number takes two bytes
+pub generator-last-block :
+    generatorBlock (keyWords faest128s) key iv (2 ^ 31 + 3) 511
+    ≡ 40 ∷ 40 ∷ 167 ∷ 143 ∷ 227 ∷ 158 ∷ 26 ∷ 169 ∷ 56 ∷ 244 ∷ 174 ∷ 30 ∷ 243 ∷ 123 ∷ 186 ∷ 46 ∷ []
+unfolding tabulate number product remainder fieldProduct mul squares inverse affineBit affine sbox xorWord subWord subBytes mixColumn mixColumns addRoundKey roundOf lastRound roundKey rounds cipher power2 rcon scheduleCore nextWord schedule keyExpansion digits addToWord generatorBlock faest128s level keyWords
+generator-last-block = refl
+
+-- byte 5 of block 5 is byte 85 of the output, and byte 15 of block 511 byte 8,191
 pub generator-byte : faest .prgByte faest128s key iv (2 ^ 31 + 3) 85 ≡ 65
 unfolding faest generatorByte
 generator-byte = ap (λ (block : List ℕ). getD block 5 0) generator-block
+
+pub generator-last-byte : faest .prgByte faest128s key iv (2 ^ 31 + 3) 8191 ≡ 46
+unfolding faest generatorByte
+generator-last-byte = ap (λ (block : List ℕ). getD block 15 0) generator-last-block
 
 -- H0 and H1 of the IV
 pub h0-of-iv :

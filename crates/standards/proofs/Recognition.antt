@@ -1,8 +1,9 @@
 -- The statements of ../specs/Recognition.antt. The inverse by one test over 256 bytes; the product by the laws of remainders; the sponge's blocks byte by
--- byte, byte i standing in block i / r; the count by the law of covered nodes. Assumes nothing.
+-- byte, byte i standing in block i / r; the count by the law of covered nodes.
 use Prim.Native.Nat.{ℕ, zero, suc, _+_, _-_, _*_, _/_, _%_, _^_, _≤_, _<_}
-use mathlib.Core.Path.{_≡_, sym, ap, _∙_}
+use mathlib.Core.Path.{_≡_, refl, sym, ap, _∙_}
 use mathlib.Core.Bool.{Bool}
+use mathlib.Core.List.{List, _++_, append-nil, append-assoc}
 use native.Mathlib.Nat.{mod-lt, mul-comm, div-add-mod', div-lt-iff-lt-mul, lt-of-lt-of-le}
 use native.Mathlib.Omega.{arith}
 use lib.Dec.{T, eqb, eqb→eq, lit<, lit≤}
@@ -12,6 +13,7 @@ use lib.Seq.{length-take-le, getD-take}
 use Rattle.spec.specs.Bytes.{tabulate, concat}
 use Rattle.spec.specs.Polynomials.{product, remainder, fieldProduct}
 use Rattle.spec.specs.Gf256.{mul, squares, inverse}
+use Rattle.spec.specs.Keccak.{keccakF}
 use Rattle.spec.specs.Sponge.{stateByte, absorbedAll, permuted, outputByte, sponge}
 use Rattle.spec.specs.Shapes.{level, fieldWidth, fieldPolynomial, leaves, hiddenLeaves, plannedCount}
 use Rattle.laws.proofs.Lists.{length-tabulate, is-tabulate}
@@ -21,7 +23,7 @@ use Rattle.laws.proofs.Polynomials.{product-lt, remainder-lt, remainder-multipl
 use Rattle.planning_laws.proofs.Count.{count-covered}
 use Rattle.planning_laws.proofs.HiddenLeaves.{hidden-count, hidden-leaves, hidden-distinct}
 use Rattle.planning_laws.proofs.ShapeLaws.{shape-laws}
-use Rattle.standards.specs.Recognition.{SboxInverse, FieldProduct, Gf256Product, LeafHashProduct, SpongeBlocks, CountOfCovered, PlannedCount}
+use Rattle.standards.specs.Recognition.{SboxInverse, FieldProduct, Gf256Product, LeafHashProduct, squeezed, SpongeBlocks, CountOfCovered, PlannedCount}
 
 -- ---- the inverse
 
@@ -60,6 +62,27 @@ leaf-hash-product s = field-product 384 (2 ^ 384 + 2 ^ 12 + 2 ^ 3 + 2 ^ 2 + 1) (
 
 -- ---- the sponge
 
+-- a permutation more, at the front or behind
+permuted-next : (n : ℕ) (s : List ℕ) → permuted n (keccakF s) ≡ keccakF (permuted n s)
+unfolding permuted
+permuted-next zero s = refl
+permuted-next (suc n) s = ap keccakF (permuted-next n s)
+
+squeezed-more : (r n : ℕ) (s : List ℕ) → squeezed r (suc n) s ≡ squeezed r n s ++ tabulate r (stateByte (permuted n s))
+unfolding squeezed permuted
+squeezed-more r zero s = append-nil (tabulate r (stateByte s))
+squeezed-more r (suc n) s =
+    let next = squeezed r n (keccakF s) in
+    ap (λ (rest : List ℕ). tabulate r (stateByte s) ++ rest) (squeezed-more r n (keccakF s))
+    ∙ sym (append-assoc (tabulate r (stateByte s)) next (tabulate r (stateByte (permuted n (keccakF s)))))
+    ∙ ap (λ (a : List ℕ). (tabulate r (stateByte s) ++ next) ++ tabulate r (stateByte a)) (permuted-next n s)
+
+blocks-squeezed : (r n : ℕ) (s : List ℕ) → concat n (λ q. tabulate r (stateByte (permuted q s))) ≡ squeezed r n s
+unfolding squeezed concat
+blocks-squeezed r zero s = refl
+blocks-squeezed r (suc n) s =
+    ap (λ (front : List ℕ). front ++ tabulate r (stateByte (permuted n s))) (blocks-squeezed r n s) ∙ sym (squeezed-more r n s)
+
 pub sponge-blocks : SpongeBlocks
 unfolding sponge outputByte
 sponge-blocks r suffix n blocks m hr h =
@@ -73,6 +96,7 @@ sponge-blocks r suffix n blocks m hr h =
     ∙ ap (λ (k : ℕ). getD (concat blocks (λ q. tabulate r (f q))) k 0)
     (let z : i ≡ r * (i / r) + i % r = (let d = div-add-mod' i r in let c = mul-comm r (i / r) in omega arith) in z)
     ∙ concat-byte r blocks f (i / r) (i % r) (div-lt-iff-lt-mul hr .1 (let c = mul-comm r blocks in let z : i < blocks * r = omega arith in z)) (mod-lt i hr)))
+    ∙ ap (take n) (blocks-squeezed r blocks s)
 
 -- ---- the count
 

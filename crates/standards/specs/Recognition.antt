@@ -1,16 +1,17 @@
 -- Statements by which a reader recognises FIPS 197, FIPS 202 and document 000's count of nodes in the definitions that are not their text word for word.
 -- ../proofs/Recognition.antt proves each.
-use Prim.Native.Nat.{ℕ, _+_, _*_, _^_, _≤_, _<_}
+use Prim.Native.Nat.{ℕ, zero, suc, _+_, _*_, _^_, _≤_, _<_}
 use mathlib.Core.Path.{_≡_}
 use mathlib.Core.Bool.{true}
-use mathlib.Core.List.{List}
+use mathlib.Core.List.{List, [], _++_}
 use lib.Bits.{bitXor}
 use lib.ListN.{length, take}
 use Rattle.spec.specs.declared.Shape.{Shape}
-use Rattle.spec.specs.Bytes.{tabulate, concat}
+use Rattle.spec.specs.Bytes.{tabulate}
 use Rattle.spec.specs.Polynomials.{product, fieldProduct}
 use Rattle.spec.specs.Gf256.{mul, inverse}
-use Rattle.spec.specs.Sponge.{stateByte, absorbedAll, permuted, sponge}
+use Rattle.spec.specs.Keccak.{keccakF}
+use Rattle.spec.specs.Sponge.{stateByte, absorbedAll, sponge}
 use Rattle.spec.specs.Tree.{nodeCount}
 use Rattle.spec.specs.Shapes.{fieldWidth, fieldPolynomial, leaves, shapeOk, hiddenLeaves, plannedCount}
 use Rattle.planning_laws.specs.Lists.{Leaves, WithoutDuplicates, coveredCount}
@@ -32,12 +33,16 @@ Gf256Product = FieldProduct 8 0x11b
 abbrev pub LeafHashProduct : Type 0
 LeafHashProduct = (s : Shape) → FieldProduct (fieldWidth s) (fieldPolynomial s)
 
--- FIPS 202, Algorithm 8, steps 7 to 10: the output is the first r bytes of the state after 0, 1, 2, .. further permutations, cut to n bytes;
--- any number of blocks that is enough will do
+-- FIPS 202, Algorithm 8, steps 7 to 10, without the cut: the first r bytes of the state s, then those of the permuted state, and so on for n blocks
+unfoldable pub squeezed : ℕ → ℕ → List ℕ → List ℕ
+squeezed r zero s = []
+squeezed r (suc n) s = tabulate r (stateByte s) ++ squeezed r n (keccakF s)
+
+-- the output is these blocks, cut to n bytes; any number of blocks that is enough will do
 abbrev pub SpongeBlocks : Type 0
 SpongeBlocks =
     (r suffix n blocks : ℕ) (m : List ℕ) → 0 < r → n ≤ r * blocks
-    → sponge r suffix m n ≡ take n (concat blocks (λ q. tabulate r (stateByte (permuted q (absorbedAll r suffix m)))))
+    → sponge r suffix m n ≡ take n (squeezed r blocks (absorbedAll r suffix m))
 
 -- document 000, figure 5.4, Open, line 16: n_h - 2 τ + 1 is the node count, where the τ hidden leaves are distinct; as sums, for the difference is 0 where
 -- every leaf is hidden

@@ -1,5 +1,5 @@
 -- Where things stand in the buffers: a leaf commitment among all, the parts of an opening, a column of a matrix. Each buffer is a concatenation of blocks, so
--- each by the law of blocks laid one after another. Assumes nothing.
+-- each by the law of blocks laid one after another.
 use Prim.Native.Nat.{ℕ, zero, suc, _+_, _-_, _*_, _≤_, _<_}
 use mathlib.Core.Path.{_≡_, refl, sym, ap, ap₂, _∙_}
 use mathlib.Core.Bool.{true}

@@ -1,5 +1,5 @@
 -- The column rule at one byte: `row e` is that byte of the row of entry e, n the number of entries. A column numbered by e xor the hidden index differs from
--- one numbered by e by the hidden index's bit times the sum of all rows. By the laws of xor. Assumes nothing.
+-- one numbered by e by the hidden index's bit times the sum of all rows. By the laws of xor.
 use mathlib.Core.Path.{_≡_, refl, sym, ap, ap₂, _∙_}
 use Prim.Native.Nat.{ℕ, zero, suc, _*_, _/_, _%_, _^_, _<_}
 use native.Mathlib.Nat.{zero-mul, mul-zero, zero-div}

@@ -1,5 +1,5 @@
 -- Demand 3, and what an opening depends on. The tests of open and reconstruct pass because the buffers that commit and open wrote have the right lengths and
--- the unused slots are zeros; what they write is then that of `Reconstruction`. Assumes nothing.
+-- the unused slots are zeros; what they write is then that of `Reconstruction`.
 use Prim.Native.Nat.{ℕ, _/_, _≤_, _<_}
 use mathlib.Core.Path.{_≡_, refl, sym, ap, ap₂, _∙_, subst}
 use mathlib.Core.Bool.{Bool, true, false, cond, true≢false}

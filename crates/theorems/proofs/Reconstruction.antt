@@ -1,6 +1,6 @@
 -- The verifier, lent what the opener made of the signer's tree and leaf commitments, finds the signer's nodes where they are not covered, all leaf
 -- commitments, and columns by the column rule. The trees by induction on the nodes expanded: the children of a covered node are revealed or covered, those
--- of any other node come from it in both trees. Assumes nothing.
+-- of any other node come from it in both trees.
 use Prim.Native.Nat.{ℕ, zero, suc, _+_, _-_, _*_, _^_, _≤_, _<_}
 use mathlib.Core.Path.{_≡_, refl, sym, ap, ap₂, _∙_, subst}
 use mathlib.Core.Bool.{Bool, true, false, _||_, cond, or-true}

@@ -1,4 +1,4 @@
--- A tree whose first nodes stand, with the next two children put behind them. By the laws of `take` and `++`. Assumes nothing.
+-- A tree whose first nodes stand, with the next two children put behind them. By the laws of `take` and `++`.
 use Prim.Native.Nat.{ℕ, _+_, _*_, _≤_}
 use mathlib.Core.Path.{_≡_, sym, ap, ap₂, _∙_}
 use mathlib.Core.List.{List, _++_}

@@ -1,5 +1,5 @@
 -- The parts of the buffers that a vector is lent: where each ends, its length, and strings put one behind another in this way; the columns of a vector that
--- were cleared first. By the laws of strings laid one after another. Assumes nothing.
+-- were cleared first. By the laws of strings laid one after another.
 use Prim.Native.Nat.{ℕ, _+_, _-_, _*_, _^_, _≤_, _<_}
 use mathlib.Core.Path.{_≡_, refl, sym, ap, ap₂, _∙_}
 use mathlib.Core.Bool.{true}

@@ -1,4 +1,4 @@
--- The hash keys of all vectors, as H0 gives them: their length, and the key of one vector. By the definitions. Assumes nothing.
+-- The hash keys of all vectors, as H0 gives them: their length, and the key of one vector. By the definitions.
 use Prim.Native.Nat.{ℕ, _+_, _-_, _*_}
 use mathlib.Core.Path.{_≡_, ap, ap₂, _∙_}
 use mathlib.Core.List.{List}

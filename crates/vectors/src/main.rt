@@ -1,17 +1,23 @@
-// Commit, open and reconstruct on fixed cases. `stdout` holds what the second implementation (reference/) prints for each: reference/derive_vectors.py derives it from the lines of this file.
+// The five calls on fixed cases. `stdout` holds what the second implementation (reference/) prints for each: reference/derive_vectors.py derives it from the lines of this file.
 //
 //     case(TAU, K, T, ROWBITS, ROOTIV, CHALLENGE, CHALLENGE)    the three calls; W is 128 - TAU K, or 0 where TAU is 0; the challenge is two words, the least byte first
 //     refused_shape(TAU, K, W, T, ROWBITS)                      the same with any W, with 13 for ROOTIV and a challenge of zeros
 //     flipped(TAU, K, T, ROWBITS, FLIP)                         the same with 13 and zeros, and the byte FLIP of the opening flipped before reconstruct
 //     probe_commit(..), probe_open(..), probe_reconstruct(..)   one call, on buffers of which one may have a wrong length
+//     decode(TAU, K, W, T, CHALLENGE, CHALLENGE)                decode; plan(..) in the same way
+//     probe_decode(..), probe_plan(..)                          these, on a list or a challenge that may have a wrong length
 //
 // ROOTIV has a digit for the root and one for the IV: 0 zeros, 1 the bytes 00 to 0f, 2 mixed bytes, 3 the bytes 10 to 1f, 4 words that wrap at the first sum, 5 words
 // that wrap later, 9 ones.
 use vectors_calls::case;
+use vectors_calls::decode;
 use vectors_calls::flipped;
+use vectors_calls::plan;
 use vectors_calls::refused_shape;
 use vectors_probes::probe_commit;
+use vectors_probes::probe_decode;
 use vectors_probes::probe_open;
+use vectors_probes::probe_plan;
 use vectors_probes::probe_reconstruct;
 
 // P1 to P9 of document 01, with rows of 16 bits.
@@ -223,6 +229,67 @@ fn probes_of_reconstruct() {
     probe_reconstruct(2, 2, 124, 4, 16, 0, 8, 0, 160);
 }
 
+// Hidden indices: one vector and many, depths 1 to 12, all bits clear, set and mixed, the default by four zeros and written out; refusals 1 and 4, the first and the last
+// grinding bit, and a challenge that decode takes though its nodes exceed T.
+fn decoded_challenges() {
+    decode(1, 1, 127, 1, 1, 0);
+    decode(2, 2, 124, 4, 0xc, 0);
+    decode(2, 2, 124, 3, 0xc, 0);
+    decode(3, 1, 125, 2, 5, 0);
+    decode(1, 12, 116, 12, 0xab0, 0);
+    decode(32, 4, 0, 512, 0x2459e7a10bf638dc, 0x10293db768cfe45a);
+    decode(32, 4, 0, 4, 0xffffffffffffffff, 0xffffffffffffffff);
+    decode(16, 8, 0, 128, 0x7cd4491cf2580d3d, 0x2e669ab985abebc6);
+    decode(0, 0, 0, 0, 0x74bf589bc79e23da, 0x1405f609b751151);
+    decode(11, 11, 7, 102, 0x71d02f517b67cfa6, 0x10df3f41ebf3deb);
+    decode(10, 12, 8, 112, 0xfc377c61075dce9e, 0x5190fe277a4c28);
+    decode(25, 5, 3, 106, 0xeb09034685249596, 0x1ae4e7455b2495d1);
+    decode(5, 3, 113, 1, 0, 0);
+    decode(33, 3, 29, 4, 0, 0);
+    decode(2, 2, 123, 4, 0x10, 0);
+    decode(0, 0, 0, 0, 0, 0x200000000000000);
+    decode(0, 0, 0, 0, 0, 0x8000000000000000);
+    decode(1, 1, 127, 1, 2, 0);
+}
+
+// Revealed nodes: P4, P8 and P9 of document 01, the most nodes, the default with all 102 of its nodes, and a refused shape.
+fn planned_challenges() {
+    plan(2, 2, 124, 4, 0xc, 0);
+    plan(2, 2, 124, 3, 0xc, 0);
+    plan(2, 2, 124, 4, 0x10, 0);
+    plan(1, 12, 116, 12, 0xab0, 0);
+    plan(32, 4, 0, 512, 0x2459e7a10bf638dc, 0x10293db768cfe45a);
+    plan(0, 0, 0, 0, 0x74bf589bc79e23da, 0x1405f609b751151);
+    plan(33, 3, 29, 4, 0, 0);
+}
+
+// A wrong length of the challenge and of the list; then each refusal of decode before those after it; last a list that is written.
+fn probes_of_decode() {
+    probe_decode(2, 2, 124, 4, 0x0c, 0, 0);
+    probe_decode(2, 2, 124, 4, 0x0c, 0, 1);
+    probe_decode(2, 2, 124, 4, 0x0c, 1, 0);
+    probe_decode(2, 2, 124, 4, 0x0c, 1, 1);
+    probe_decode(0, 0, 0, 0, 0x0c, 1, 0);
+    probe_decode(2, 2, 123, 4, 0x1c, 1, 0);
+    probe_decode(2, 2, 124, 4, 0x1c, 1, 0);
+    probe_decode(2, 2, 124, 4, 0x1c, 1, 1);
+    probe_decode(2, 2, 124, 4, 0x1c, 2, 0);
+    probe_decode(2, 2, 124, 3, 0x0c, 2, 0);
+}
+
+// The same of plan; four nodes where three are allowed.
+fn probes_of_plan() {
+    probe_plan(2, 2, 124, 4, 0x0c, 0, 0);
+    probe_plan(2, 2, 124, 4, 0x0c, 0, 1);
+    probe_plan(2, 2, 124, 4, 0x0c, 1, 0);
+    probe_plan(2, 2, 124, 4, 0x0c, 1, 1);
+    probe_plan(2, 2, 123, 3, 0x1c, 1, 0);
+    probe_plan(2, 2, 124, 3, 0x1c, 1, 0);
+    probe_plan(2, 2, 124, 3, 0x1c, 2, 0);
+    probe_plan(2, 2, 124, 3, 0x0c, 2, 0);
+    probe_plan(2, 2, 124, 4, 0x0c, 2, 0);
+}
+
 fn main() {
     worked_examples();
     default_shape();
@@ -237,4 +304,8 @@ fn main() {
     probes_of_commit();
     probes_of_open();
     probes_of_reconstruct();
+    decoded_challenges();
+    planned_challenges();
+    probes_of_decode();
+    probes_of_plan();
 }

@@ -1,8 +1,9 @@
-// Commit, open and reconstruct on lent buffers, and cases of the three: what the command line of reference/ prints of each call.
+// The five calls on lent buffers, and cases of them: what the command line of reference/ prints of each call.
 // A case has a shape and a row length in bits, and by two digits a root and an IV (inputs.rt).
 mod calls;
 mod cases;
 mod inputs;
+mod lists;
 mod print;
 
 pub use calls::call_commit;
@@ -10,6 +11,12 @@ pub use calls::call_open;
 pub use calls::call_reconstruct;
 use cases::run_case;
 use inputs::shape_of;
+pub use lists::call_decode;
+pub use lists::call_plan;
+use lists::decode_case;
+pub use lists::index_count;
+pub use lists::node_limit;
+use lists::plan_case;
 pub use print::print_answer;
 use spec::Shape;
 use test_support::parts::words;
@@ -39,4 +46,14 @@ pub fn refused_shape(tau: usize, k: usize, w: usize, t: usize, row_bits: usize) 
 // A case with a challenge of zeros, and the byte `at` of the opening flipped before reconstruct.
 pub fn flipped(tau: usize, k: usize, t: usize, row_bits: usize, at: usize) {
     run_case(shape_of(tau, k, t), row_bits, COUNTING, words(0, 0), at);
+}
+
+// Decode with any four numbers for a shape.
+pub fn decode(tau: usize, k: usize, w: usize, t: usize, c0: u64, c1: u64) {
+    decode_case(Shape { tau, k, w, t }, words(c0, c1));
+}
+
+// Plan, in the same way.
+pub fn plan(tau: usize, k: usize, w: usize, t: usize, c0: u64, c1: u64) {
+    plan_case(Shape { tau, k, w, t }, words(c0, c1));
 }

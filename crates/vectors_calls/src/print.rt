@@ -39,3 +39,20 @@ pub fn print_buffer(name: &[u8], whole: &[u8], n: usize) {
     }
     text(b"\n");
 }
+
+fn wide(x: u32) -> usize {
+    x as usize
+}
+
+// Name and length of a list, and its numbers.
+pub fn print_list(name: &[u8], list: &[u32]) {
+    text(name);
+    decimal(list.len());
+    let mut i = 0;
+    while i < list.len() {
+        text(b" ");
+        decimal(wide(list[i]));
+        i += 1;
+    }
+    text(b"\n");
+}

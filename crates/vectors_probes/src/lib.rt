@@ -1,10 +1,14 @@
-// A call on buffers of which one may be a byte shorter or longer than the exact length, with 0xa5 in each byte of the outputs and zeros in the inputs.
+// A call on buffers of which one may be a byte (a list: a number) shorter or longer than the exact length, with 0xa5 in each byte of the outputs and zeros in the inputs.
 // Printed are the answer, and whether every byte of the outputs still is 0xa5.
 use spec::Shape;
 use test_support::lengths::Lengths;
 use test_support::lengths::at_most;
 use test_support::parts::front;
 use test_support::print::text;
+use vectors_calls::call_decode;
+use vectors_calls::call_plan;
+use vectors_calls::index_count;
+use vectors_calls::node_limit;
 use vectors_calls::print_answer;
 
 // The place of a buffer that the call has not.
@@ -180,4 +184,48 @@ pub fn probe_reconstruct(
     print_answer(r);
     let first = is_kept(&commitment) & is_kept(&tree);
     kept(first & is_kept(&leaf_commitments) & is_kept(&q));
+}
+
+// Whether each number is 0xa5a5a5a5.
+fn is_list_kept(a: &[u32; 512]) -> bool {
+    let mut i = 0;
+    while i < 512 {
+        if a[i] != 0xa5a5a5a5 {
+            return false;
+        }
+        i += 1;
+    }
+    true
+}
+
+// The first byte of the challenge is c. `which` is 2 where the challenge and the list have their lengths.
+pub fn probe_decode(tau: usize, k: usize, w: usize, t: usize, c: u8, which: usize, more: usize) {
+    let s = Shape { tau, k, w, t };
+    let mut challenge = [0u8; 512];
+    challenge[0] = c;
+    let mut list = [0xa5a5a5a5u32; 512];
+    let r = call_decode(
+        s,
+        front(&challenge, length(16, 0, which, more)),
+        &mut list,
+        length(index_count(s), 1, which, more),
+    );
+    print_answer(r);
+    kept(is_list_kept(&list));
+}
+
+// The same of plan.
+pub fn probe_plan(tau: usize, k: usize, w: usize, t: usize, c: u8, which: usize, more: usize) {
+    let s = Shape { tau, k, w, t };
+    let mut challenge = [0u8; 512];
+    challenge[0] = c;
+    let mut list = [0xa5a5a5a5u32; 512];
+    let r = call_plan(
+        s,
+        front(&challenge, length(16, 0, which, more)),
+        &mut list,
+        length(node_limit(s), 1, which, more),
+    );
+    print_answer(r);
+    kept(is_list_kept(&list));
 }

@@ -1,4 +1,4 @@
--- The record that is the contract of reconstruct, by the tests that were passed: one law for each way out of the call. s is the shape as given and t the resolved one, x what the buffers held, r the answer. Assumes nothing.
+-- The record that is the contract of reconstruct, by the tests that were passed: one law for each way out of the call. s is the shape as given and t the resolved one, x what the buffers held, r the answer.
 use Prim.Native.Nat.{ℕ, _+_, _*_, _/_, _≤_, _<_}
 use mathlib.Core.Path.{_≡_, refl, sym, ap, _∙_}
 use mathlib.Core.Bool.{Bool, true, false}

@@ -1,5 +1,5 @@
 -- The two children of a node, written one after the other, and the slots that they take. Of a marked node one child at least is marked, so one slot at most is
--- read. By cases on the marks. Assumes nothing.
+-- read. By cases on the marks.
 use Prim.Native.Nat.{ℕ, _+_, _-_, _*_, _≤_}
 use mathlib.Core.Path.{_≡_, refl, sym, ap, ap₂, _∙_}
 use mathlib.Core.Bool.{Bool, true, false, _||_, not, cond}

@@ -1,5 +1,4 @@
 -- The tree by a map that marks the covered nodes is the reconstructed one: the slot that a node reads is the place, in the plan, of the child that it reveals.
--- Assumes nothing.
 use Prim.Native.Nat.{ℕ, zero, suc, _+_, _-_, _*_, _≤_, _<_}
 use mathlib.Core.Path.{_≡_, refl, sym, ap, ap₂, _∙_, subst}
 use mathlib.Core.Bool.{Bool, true, false, _||_, not, cond, true≢false}

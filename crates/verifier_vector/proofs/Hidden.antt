@@ -1,5 +1,5 @@
 -- A vector whose entry d is hidden: a run of entries is split at d. The hidden entry's number is d xor d, which is 0, so it enters no column; its leaf
--- commitment is put between those of the entries before and behind it. Assumes nothing.
+-- commitment is put between those of the entries before and behind it.
 use mathlib.Core.Path.{_≡_, sym, ap, ap₂, _∙_}
 use mathlib.Core.Bool.{Bool, cond}
 use mathlib.Core.List.{List, _++_, append-nil, append-assoc}

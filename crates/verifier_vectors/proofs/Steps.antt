@@ -1,5 +1,5 @@
 -- The correction of a vector, its columns with the correction, and a vector put behind those before it. By the laws of columns and of strings laid one after
--- another. Assumes nothing.
+-- another.
 use mathlib.Core.Path.{_≡_, refl, ap, ap₂, _∙_}
 use mathlib.Core.List.{List, _++_}
 use Prim.Native.Nat.{ℕ, zero, suc, _+_, _-_, _*_, _^_, _≤_, _<_}

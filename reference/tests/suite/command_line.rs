@@ -121,6 +121,15 @@ fn probes() {
         ("reconstruct 2 2 124 4 16 0 8 0 128", 6, 2, "kept"),
         ("reconstruct 2 2 124 4 16 16 8 0 128", 4, 0, "kept"),
         ("reconstruct 2 2 124 4 16 16 7 0 128", 3, 0, "kept"),
+        ("decode 2 2 124 3 12 2 0", 0, 0, "written"),
+        ("decode 2 2 124 4 16 2 0", 4, 0, "kept"),
+        ("decode 2 2 124 4 16 1 0", 3, 0, "kept"),
+        ("decode 2 2 124 4 16 0 1", 3, 0, "kept"),
+        ("decode 2 2 123 4 16 1 0", 1, 0, "kept"),
+        ("plan 2 2 124 4 12 2 0", 0, 4, "written"),
+        ("plan 2 2 124 3 12 2 0", 5, 4, "kept"),
+        ("plan 2 2 124 3 28 2 0", 4, 0, "kept"),
+        ("plan 2 2 124 3 28 1 1", 3, 0, "kept"),
     ] {
         let expected = format!("number {number}\ncount {count}\noutputs {outputs}\n");
         assert_eq!(

@@ -1,14 +1,13 @@
-//! The examples of the primitives that are proved of the definitions in
-//! `crates/standards/proofs/KnownAnswers.antt`: the same inputs, derived here.
+//! The examples of the primitives and of a challenge's indices that are proved of
+//! the definitions, in `crates/standards/proofs` and `crates/spec/proofs`: the same
+//! inputs, derived here.
 
-use reference::{bavc, prg};
+use reference::shake::shake128;
+use reference::{bavc, prg, shape};
 
-/// The bytes of a list as that file writes it, `1 ∷ 2 ∷ []`, after `mark`.
-fn proved(mark: &str) -> Vec<u8> {
-    let path = concat!(
-        env!("CARGO_MANIFEST_DIR"),
-        "/../crates/standards/proofs/KnownAnswers.antt"
-    );
+/// The numbers of a list as a file of `crates` writes it, `1 ∷ 2 ∷ []`, after `mark`.
+fn numbers(file: &str, mark: &str) -> Vec<usize> {
+    let path = format!("{}/../crates/{file}", env!("CARGO_MANIFEST_DIR"));
     let text = std::fs::read_to_string(path).expect("the file of the proved examples");
     let after = text.split_once(mark).expect(mark).1;
     let list = after.split_once("[]").expect("the end of the list").0;
@@ -17,15 +16,45 @@ fn proved(mark: &str) -> Vec<u8> {
         .collect()
 }
 
+fn bytes(file: &str, mark: &str) -> Vec<u8> {
+    let byte = |number| u8::try_from(number).expect("a number above 255");
+    numbers(file, mark).into_iter().map(byte).collect()
+}
+
+fn proved(mark: &str) -> Vec<u8> {
+    bytes("standards/proofs/KnownAnswers.antt", mark)
+}
+
 fn array<const N: usize>(bytes: Vec<u8>) -> [u8; N] {
     bytes.try_into().expect("a list of another length")
 }
 
 #[test]
-fn generator_block_5_with_both_words_wrapping() {
+fn generator_blocks_5_and_511() {
     let (key, iv) = (array(proved("\nkey =")), array(proved("\niv =")));
-    let output = prg::prg(&key, &iv, (1 << 31) + 3, 6 * 128);
-    assert_eq!(output[80..], proved("(2 ^ 31 + 3) 5\n    ≡ "));
+    let output = prg::prg(&key, &iv, (1 << 31) + 3, 512 * 128);
+    assert_eq!(output[80..96], proved("(2 ^ 31 + 3) 5\n    ≡ "));
+    assert_eq!(output[8176..], proved("(2 ^ 31 + 3) 511\n    ≡ "));
+}
+
+#[test]
+fn shake128_of_the_empty_message() {
+    assert_eq!(shake128(&[], 32), proved("shake 168 [] 32\n    ≡ "));
+}
+
+#[test]
+fn shake128_around_the_ends_of_blocks() {
+    let listed = |mark: &str| bytes("standards/proofs/LongMessages.antt", mark);
+    let counting = |n: usize| (0..=255).cycle().take(n).collect::<Vec<u8>>();
+    for n in [167, 168, 169, 336] {
+        let mark = format!("\n    shake 168 (counting {n}) 32\n    ≡ ");
+        assert_eq!(shake128(&counting(n), 32), listed(&mark), "{n} bytes");
+    }
+    let output = shake128(&counting(167), 344);
+    for at in [160, 328] {
+        let mark = format!("part (shake 168 (counting 167) 344) {at} 16\n    ≡ ");
+        assert_eq!(output[at..at + 16], listed(&mark), "from byte {at} on");
+    }
 }
 
 #[test]
@@ -46,4 +75,14 @@ fn leaf_hash() {
         &proved("\nx₁ ="),
     );
     assert_eq!(hashed[..], proved("u x₀ x₁\n    ≡ number 8\n    "));
+}
+
+#[test]
+fn hidden_indices_of_the_default() {
+    let file = "spec/proofs/Examples.antt";
+    let challenge = array(bytes(file, "\nvaried ="));
+    assert_eq!(
+        shape::decode_all_chall(&shape::DEFAULT, &challenge),
+        numbers(file, "hiddenIndices faest128s varied\n    ≡ ")
+    );
 }

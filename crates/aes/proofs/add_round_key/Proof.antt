@@ -1,4 +1,4 @@
--- `xor_word`, column by column. Assumes nothing.
+-- `xor_word`, column by column.
 use borrow.Author.Needs.{needs}
 use Rattle.spec.specs.Aes.{addRoundKey}
 use Rattle.aes.proofs.add_round_key.Statement.{statement}

@@ -1,5 +1,5 @@
 -- `aes::encrypt` meets its contract. The loop's invariant: x is the state after round i - 1, for any key whose round keys are at hand. The measure is the
--- number of rounds left. Assumes nothing.
+-- number of rounds left.
 use mathlib.Core.Path.{_≡_}
 use mathlib.Core.List.{List}
 use Prim.Native.Nat.{ℕ, _≤_, _-_}

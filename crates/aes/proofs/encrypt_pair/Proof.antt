@@ -1,5 +1,5 @@
 -- `aes::encrypt_pair` meets its contract. The loop's invariant: both states of x are those after round i - 1, for any key whose round keys are at hand. The
--- measure is the number of rounds left. Assumes nothing.
+-- measure is the number of rounds left.
 use mathlib.Core.Path.{_≡_, refl}
 use mathlib.Core.List.{List, []}
 use Prim.Native.Nat.{ℕ, _≤_, _-_}

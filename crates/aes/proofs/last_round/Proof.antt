@@ -1,4 +1,4 @@
--- The three steps, one after the other. Assumes nothing.
+-- The three steps, one after the other.
 use borrow.Author.Needs.{needs}
 use Rattle.spec.specs.Aes.{lastRound}
 use Rattle.aes.proofs.last_round.Statement.{statement}

@@ -1,4 +1,4 @@
--- The four steps, one after the other. Assumes nothing.
+-- The four steps, one after the other.
 use borrow.Author.Needs.{needs}
 use Rattle.spec.specs.Aes.{roundOf}
 use Rattle.aes.proofs.round.Statement.{statement}

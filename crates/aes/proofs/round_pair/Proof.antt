@@ -1,4 +1,4 @@
--- The four steps, one after the other, for each of the states. Assumes nothing.
+-- The four steps, one after the other, for each of the states.
 use borrow.Author.Needs.{needs}
 use Rattle.spec.specs.Aes.{roundOf}
 use Rattle.aes.proofs.round_pair.Statement.{statement}

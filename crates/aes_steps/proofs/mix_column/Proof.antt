@@ -1,4 +1,4 @@
--- Each step on the packed word is a step on its bytes, and these make up MIXCOLUMNS. Assumes nothing.
+-- Each step on the packed word is a step on its bytes, and these make up MIXCOLUMNS.
 use mathlib.Core.Path.{_≡_, _∙_}
 use Prim.Native.Nat.{ℕ}
 use borrow.Author.Needs.{needs}

@@ -1,4 +1,4 @@
--- `mix_column`, column by column. Assumes nothing.
+-- `mix_column`, column by column.
 use borrow.Author.Needs.{needs}
 use Rattle.spec.specs.Aes.{mixColumns}
 use Rattle.aes_steps.proofs.mix_columns.Statement.{statement}

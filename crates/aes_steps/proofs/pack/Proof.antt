@@ -1,4 +1,4 @@
--- The number of four digits, written out. Assumes nothing.
+-- The number of four digits, written out.
 use mathlib.Core.Path.{_≡_}
 use native.Mathlib.Omega.{arith}
 use borrow.Author.Needs.{needs}

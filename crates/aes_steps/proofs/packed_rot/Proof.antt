@@ -1,4 +1,4 @@
--- Shifts move whole bytes: `packed-rot` of `PackedWords`. Assumes nothing.
+-- Shifts move whole bytes: `packed-rot` of `PackedWords`.
 use borrow.Author.Needs.{needs}
 use Rattle.aes_steps.proofs.PackedWords.{packed-rot}
 use Rattle.aes_steps.proofs.packed_rot.Statement.{statement}

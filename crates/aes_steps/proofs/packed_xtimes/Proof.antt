@@ -1,4 +1,4 @@
--- The rule of `PackedWords`. The product fits since each byte of `high` is 0 or 1. Assumes nothing.
+-- The rule of `PackedWords`. The product fits since each byte of `high` is 0 or 1.
 use native.Mathlib.Omega.{arith}
 use borrow.Author.Needs.{needs}
 use lib.Bits.{and-le-r}

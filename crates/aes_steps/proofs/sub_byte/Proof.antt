@@ -1,4 +1,4 @@
--- The table's rule at x. Assumes nothing.
+-- The table's rule at x.
 use borrow.Author.Needs.{needs}
 use Rattle.aes_steps.proofs.sub_byte.Statement.{statement}
 use Rattle.aes_steps.proofs.sub_byte.Tie as tie

@@ -1,4 +1,4 @@
--- `sub_word`, column by column. Assumes nothing.
+-- `sub_word`, column by column.
 use borrow.Author.Needs.{needs}
 use Rattle.spec.specs.Aes.{subBytes}
 use Rattle.aes_steps.proofs.sub_bytes.Statement.{statement}

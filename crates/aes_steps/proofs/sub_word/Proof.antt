@@ -1,4 +1,4 @@
--- `sub_byte`, four times. Assumes nothing.
+-- `sub_byte`, four times.
 use borrow.Author.Needs.{needs}
 use Rattle.spec.specs.Aes.{subWord}
 use Rattle.aes_steps.proofs.sub_word.Statement.{statement}

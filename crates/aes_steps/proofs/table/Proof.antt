@@ -1,4 +1,4 @@
--- One computed test compares all 256 entries with the definition (`Sbox`). Assumes nothing.
+-- One computed test compares all 256 entries with the definition (`Sbox`).
 use Rattle.aes_steps.proofs.Sbox.{entry-is}
 use Rattle.aes_steps.proofs.table.Statement.{statement}
 use Rattle.aes_steps.proofs.table.Tie as tie

@@ -1,4 +1,4 @@
--- `aes_steps::unpack` meets its contract by computation. Assumes nothing.
+-- `aes_steps::unpack` meets its contract by computation.
 use native.Mathlib.Nat.{div-one}
 use borrow.Author.Needs.{needs}
 use Rattle.spec.specs.Bytes.{tabulate, digits}

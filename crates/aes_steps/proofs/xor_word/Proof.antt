@@ -1,4 +1,4 @@
--- `aes_steps::xor_word` meets its contract by computation. Assumes nothing.
+-- `aes_steps::xor_word` meets its contract by computation.
 use mathlib.Core.Path.{refl}
 use borrow.Author.Needs.{needs}
 use Rattle.spec.specs.Aes.{xorWord}

@@ -1,4 +1,4 @@
--- After some turns the bytes from `at` to p are zeros. Assumes nothing.
+-- After some turns the bytes from `at` to p are zeros.
 use borrow.Author.Needs.{needs}
 use mathlib.Core.Path.{_≡_, refl, sym, ap, _∙_}
 use mathlib.Core.List.{List, _++_, append-nil}

@@ -1,4 +1,4 @@
--- `copy` fills the part lent, since both parts have n bytes. Assumes nothing.
+-- `copy` fills the part lent, since both parts have n bytes.
 use borrow.Author.Needs.{needs}
 use mathlib.Core.Path.{_≡_, ap, ap₂, _∙_}
 use mathlib.Core.List.{List, _++_, append-nil}

@@ -1,4 +1,4 @@
--- While each byte passed is 0, those from p on decide. Assumes nothing.
+-- While each byte passed is 0, those from p on decide.
 use borrow.Author.Needs.{needs}
 use mathlib.Core.Path.{_≡_, refl, sym, ap, _∙_}
 use mathlib.Core.Bool.{Bool, true, _&&_}

@@ -1,4 +1,4 @@
--- The code reads the byte and the bit as the definition does. Assumes nothing.
+-- The code reads the byte and the bit as the definition does.
 use mathlib.Core.Path.{refl}
 use borrow.Author.Needs.{needs}
 use Rattle.spec.specs.Challenge.{bitAt}

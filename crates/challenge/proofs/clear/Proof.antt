@@ -1,4 +1,4 @@
--- While each bit passed is 0, those from j on decide. Assumes nothing.
+-- While each bit passed is 0, those from j on decide.
 use Prim.Native.Nat.{_+_, _-_, _≤_}
 use mathlib.Core.Path.{_≡_, sym, _∙_}
 use native.Mathlib.Omega.{arith}

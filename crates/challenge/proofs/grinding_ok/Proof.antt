@@ -1,4 +1,4 @@
--- The grinding bits end with the challenge's last bit. Assumes nothing.
+-- The grinding bits end with the challenge's last bit.
 use native.Mathlib.Omega.{arith}
 use Rattle.spec.specs.Shapes.{firstBit, grindingOk}
 use Rattle.planning_laws.proofs.ShapeFacts.{shape-facts}

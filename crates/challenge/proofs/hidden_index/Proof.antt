@@ -1,4 +1,4 @@
--- The bits of vector i lie in the challenge. Assumes nothing.
+-- The bits of vector i lie in the challenge.
 use native.Mathlib.Omega.{arith}
 use native.Mathlib.Nat.{lt-of-lt-of-le}
 use Rattle.spec.specs.Shapes.{depthOf, entriesOf, firstBit, hiddenIndex}

@@ -1,4 +1,4 @@
--- From the last bit down, v is the index that the bits from j on make. Assumes nothing.
+-- From the last bit down, v is the index that the bits from j on make.
 use Prim.Native.Nat.{_+_, _-_, _≤_, _<_}
 use mathlib.Core.Path.{_≡_, _∙_}
 use native.Mathlib.Omega.{arith}

@@ -1,4 +1,4 @@
--- The first i numbers are the hidden indices of the first i vectors. Assumes nothing.
+-- The first i numbers are the hidden indices of the first i vectors.
 use Prim.Native.Nat.{_-_, _≤_}
 use mathlib.Core.Path.{ap, _∙_}
 use native.Mathlib.Omega.{arith}

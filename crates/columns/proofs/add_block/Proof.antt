@@ -1,4 +1,4 @@
--- The first j columns have the block added, the others are as they were. Assumes nothing.
+-- The first j columns have the block added, the others are as they were.
 use mathlib.Core.Path.{_≡_, refl, subst}
 use mathlib.Core.List.{List}
 use Prim.Native.Nat.{ℕ, _*_, _-_, _≤_}

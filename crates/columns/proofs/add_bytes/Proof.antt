@@ -1,4 +1,4 @@
--- The first j columns have the string added, the others are as they were. Assumes nothing.
+-- The first j columns have the string added, the others are as they were.
 use mathlib.Core.Path.{_≡_, sym, ap, _∙_, subst}
 use mathlib.Core.List.{List}
 use Prim.Native.Nat.{ℕ, _*_, _-_, _≤_}

@@ -1,4 +1,4 @@
--- The two cases have one promise. Assumes nothing.
+-- The two cases have one promise.
 use mathlib.Core.Path.{sym, subst}
 use Prim.Native.Nat.{ℕ, _*_}
 use lib.ListN.{take}

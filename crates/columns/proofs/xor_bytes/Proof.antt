@@ -1,4 +1,4 @@
--- The first i bytes of the string are xored in. Assumes nothing.
+-- The first i bytes of the string are xored in.
 use mathlib.Core.Path.{subst}
 use mathlib.Core.List.{List}
 use Prim.Native.Nat.{ℕ, _*_, _-_, _≤_}

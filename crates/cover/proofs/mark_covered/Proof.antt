@@ -1,4 +1,4 @@
--- The marked leaves are the covered ones, and a node is covered exactly if one of its children is. Assumes nothing.
+-- The marked leaves are the covered ones, and a node is covered exactly if one of its children is.
 use Prim.Native.Nat.{ℕ, _+_, _-_, _*_}
 use mathlib.Core.Path.{subst}
 use native.Mathlib.Omega.{arith}

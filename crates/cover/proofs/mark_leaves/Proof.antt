@@ -1,4 +1,4 @@
--- The map marks the hidden leaves of the first i vectors and nothing else. Assumes nothing.
+-- The map marks the hidden leaves of the first i vectors and nothing else.
 use Prim.Native.Nat.{ℕ, _-_, _≤_}
 use mathlib.Core.Path.{_≡_, refl, _∙_, subst}
 use native.Mathlib.Omega.{arith}

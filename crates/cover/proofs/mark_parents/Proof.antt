@@ -1,4 +1,4 @@
--- From node a on the map is right. Assumes nothing.
+-- From node a on the map is right.
 use Prim.Native.Nat.{ℕ, _+_, _*_, _≤_}
 use mathlib.Core.Path.{_≡_, refl, subst}
 use mathlib.Core.Bool.{Bool}

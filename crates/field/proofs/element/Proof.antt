@@ -1,4 +1,4 @@
--- `field::element` meets its contract. The loop's invariant: the limbs are the number of the bytes read so far. Assumes nothing.
+-- `field::element` meets its contract. The loop's invariant: the limbs are the number of the bytes read so far.
 use borrow.Author.Needs.{needs}
 use mathlib.Core.Path.{_≡_, refl, ap, _∙_}
 use Prim.Native.Nat.{ℕ, _*_, _/_, _-_, _%_, _^_, _≤_}
@@ -8,9 +8,10 @@ use lib.Bits.{bitXor, xor-lt}
 use lib.ListN.{length, getD, take, set, length-set}
 use lib.Pow.{pow-pos}
 use lib.Seq.{take-all}
-use Rattle.spec.specs.Bytes.{number}
+use Rattle.spec.specs.Bytes.{zeros, number}
 use Rattle.laws.proofs.Numbers.{Digits}
-use Rattle.laws.proofs.Limbs.{digits-set, digits-zero, joined-more}
+use Rattle.laws.proofs.Limbs.{digits-set, joined-more}
+use Rattle.laws.proofs.Strings.{digits-zeros}
 use Rattle.field.proofs.element.Statement.{statement}
 use Rattle.field.proofs.element.Tie as tie
 
@@ -21,8 +22,8 @@ abbrev μ-loop : tie.MeasureT-loop
 μ-loop s r₀ p₀ r p = 48 - p
 
 loop-holds : tie.Need-loop-holds Inv-loop μ-loop
-unfolding number
-loop-holds c = (omega arith, refl, digits-zero 64 6, refl)
+unfolding number zeros
+loop-holds c = (omega arith, refl, digits-zeros 64 6, refl)
 
 loop-again : tie.Need-loop-again Inv-loop μ-loop
 loop-again c =

@@ -1,4 +1,4 @@
--- What `multiply` and `write` ensure, put together. Assumes nothing.
+-- What `multiply` and `write` ensure, put together.
 use borrow.Author.Needs.{needs}
 use mathlib.Core.Path.{_≡_, sym, ap₂, _∙_}
 use mathlib.Core.List.{List}

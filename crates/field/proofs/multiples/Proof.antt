@@ -1,5 +1,4 @@
 -- `field::multiples` meets its contract. The loop's invariant: the entries below `d` are right. Entry `d` follows from its half and its lowest term.
--- Assumes nothing.
 use borrow.Author.Count.{below-more}
 use borrow.Author.Needs.{needs}
 use mathlib.Core.Path.{_≡_, refl, sym, ap, ap₂, _∙_}

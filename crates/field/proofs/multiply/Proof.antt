@@ -1,4 +1,4 @@
--- `field::multiply` meets its contract. The loop's invariant: `r` is the product with the bytes from `j` on. A byte more is two windows. Assumes nothing.
+-- `field::multiply` meets its contract. The loop's invariant: `r` is the product with the bytes from `j` on. A byte more is two windows.
 use borrow.Author.Needs.{needs}
 use mathlib.Core.Path.{_≡_, sym, ap, ap₂, _∙_}
 use mathlib.Core.List.{List}

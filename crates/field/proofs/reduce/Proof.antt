@@ -1,4 +1,4 @@
--- The sixteen values are computed. Assumes nothing.
+-- The sixteen values are computed.
 use borrow.Author.Needs.{needs}
 use mathlib.Core.Bool.{Bool}
 use Prim.Native.Nat.{ℕ, _*_, _%_, _^_}

@@ -1,5 +1,5 @@
 -- `field::times_alpha` meets its contract. The loop's invariant: the limbs written so far, with the carry above them, are 2 ^ n times as many limbs of `x`.
--- At the end the carry is what leaves at the top, and comes back reduced. Assumes nothing.
+-- At the end the carry is what leaves at the top, and comes back reduced.
 use borrow.Author.Needs.{needs}
 use mathlib.Core.Path.{_≡_, refl, sym, ap, _∙_}
 use Prim.Native.Nat.{_+_, _*_, _-_, _%_, _^_, _≤_, _<_}
@@ -11,10 +11,11 @@ use lib.ListN.{length, getD, take, length-set}
 use lib.Pow.{pow-pos, pow-mono, shr-lt}
 use lib.Seq.{take-all}
 use mir.Syntax.{w64}
-use Rattle.spec.specs.Bytes.{number}
+use Rattle.spec.specs.Bytes.{zeros, number}
 use Rattle.spec.specs.Polynomials.{product}
 use Rattle.laws.proofs.Numbers.{Digits}
-use Rattle.laws.proofs.Limbs.{fits-digits, digits-set, digits-zero, number-below, number-xor, shift-stored}
+use Rattle.laws.proofs.Limbs.{fits-digits, digits-set, number-below, limb-xor, shift-stored}
+use Rattle.laws.proofs.Strings.{digits-zeros}
 use Rattle.laws.proofs.Polynomials.{product-lt}
 use Rattle.laws.proofs.FieldProduct.{product-pad, remainder-shift}
 use Rattle.field.specs.Field.{low384}
@@ -29,8 +30,8 @@ abbrev μ-loop : tie.MeasureT-loop
 μ-loop n x r₀ carry₀ i₀ r carry i = 6 - i
 
 loop-holds : tie.Need-loop-holds Inv-loop μ-loop
-unfolding number
-loop-holds c = (omega arith, refl, digits-zero 64 6, pow-pos (c .args .n), sym (zero-mul (2 ^ c .args .n)))
+unfolding number zeros
+loop-holds c = (omega arith, refl, digits-zeros 64 6, pow-pos (c .args .n), sym (zero-mul (2 ^ c .args .n)))
 
 loop-again : tie.Need-loop-again Inv-loop μ-loop
 loop-again c =
@@ -62,7 +63,7 @@ returns c =
     let v : c .reduce .result ≡ product n low384 (l .carry) = c .reduce .ensures ∙ product-pad n 4 low384 (l .carry) (omega arith) (l .inv .3) in
     let whole : number 64 (l .r) + l .carry * 2 ^ 384 ≡ number 64 x * 2 ^ n =
     rw (take-all (l .i) (l .r) (omega arith), take-all (l .i) x (omega arith), (let z : l .i ≡ 6 = omega arith in z)) at (l .inv .4) in
-    number-xor 64 (l .r) 0 (c .reduce .result) (omega arith) (l .inv .2) (rw v (lt-trans h (lit< tt)))
+    limb-xor 64 (l .r) 0 (c .reduce .result) (omega arith) (l .inv .2) (rw v (lt-trans h (lit< tt)))
     ∙ ap (bitXor (number 64 (l .r))) (mul-one (c .reduce .result) ∙ v)
     ∙ remainder-shift 384 low384 (lit< tt) n (number 64 x) (number 64 (l .r)) (l .carry) (number-below 64 6 x lx (fits-digits w64 x (λ k. search needs)))
     (number-below 64 6 (l .r) (l .inv .1) (l .inv .2)) (l .inv .3) (lt-trans h (lit< tt)) whole

@@ -1,4 +1,4 @@
--- What `times_alpha` and `xor` ensure, put together. Assumes nothing.
+-- What `times_alpha` and `xor` ensure, put together.
 use borrow.Author.Needs.{needs}
 use mathlib.Core.Path.{ap, _∙_}
 use mathlib.Core.List.{[]}

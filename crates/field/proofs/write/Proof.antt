@@ -1,4 +1,4 @@
--- `field::write` meets its contract. The loop's invariant: the bytes of the limbs passed are right. Each is read off the two numbers. Assumes nothing.
+-- `field::write` meets its contract. The loop's invariant: the bytes of the limbs passed are right. Each is read off the two numbers.
 use borrow.Author.Needs.{needs}
 use mathlib.Core.Path.{_≡_, refl, sym, _∙_}
 use mathlib.Core.List.{List}

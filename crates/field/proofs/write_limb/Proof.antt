@@ -1,4 +1,4 @@
--- `field::write_limb` meets its contract. The loop's invariant: after the bytes below `at`, which stay, `b` bytes are right. Assumes nothing.
+-- `field::write_limb` meets its contract. The loop's invariant: after the bytes below `at`, which stay, `b` bytes are right.
 use borrow.Author.Needs.{needs}
 use mathlib.Core.Path.{_≡_, refl, sym, ap, _∙_}
 use mathlib.Core.List.{List, _++_, append-nil}

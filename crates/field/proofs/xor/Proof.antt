@@ -1,4 +1,4 @@
--- `field::xor` meets its contract. The loop's invariant: the limbs written so far are the xor of as many limbs of `a` and `b`. Assumes nothing.
+-- `field::xor` meets its contract. The loop's invariant: the limbs written so far are the xor of as many limbs of `a` and `b`.
 use borrow.Author.Needs.{needs}
 use mathlib.Core.Path.{_≡_, refl}
 use Prim.Native.Nat.{_-_, _≤_}

@@ -1,4 +1,4 @@
--- The sum of the number that the word writes, written out again. Assumes nothing.
+-- The sum of the number that the word writes, written out again.
 use borrow.Author.Needs.{needs}
 use Rattle.spec.specs.Generator.{addToWord}
 use Rattle.generator.proofs.add_to_word.Statement.{statement}

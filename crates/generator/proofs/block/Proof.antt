@@ -1,4 +1,4 @@
--- The counter's state, encrypted. Assumes nothing.
+-- The counter's state, encrypted.
 use borrow.Author.Needs.{needs}
 use Rattle.generator.proofs.Blocks.{block-is}
 use Rattle.generator.proofs.block.Statement.{statement}

@@ -1,4 +1,4 @@
--- Two counters' states, encrypted. Assumes nothing.
+-- Two counters' states, encrypted.
 use mathlib.Core.Path.{ap, ap₂}
 use mathlib.Core.List.{List, [], _∷_}
 use Prim.Native.Nat.{ℕ, _+_}

@@ -1,4 +1,4 @@
--- `add_to_word` on the first and the last column. Assumes nothing.
+-- `add_to_word` on the first and the last column.
 use borrow.Author.Needs.{needs}
 use Rattle.generator.proofs.counter.Statement.{statement}
 use Rattle.generator.proofs.counter.Tie as tie

@@ -1,5 +1,4 @@
 -- `generator::fill` meets its contract. The loop's invariant: the first p bytes of out are the output's. The measure is the number of bytes left.
--- Assumes nothing.
 use Prim.Native.Nat.{_-_, _/_, _%_, _≤_}
 use native.Mathlib.Omega.{arith}
 use borrow.Author.Needs.{needs}

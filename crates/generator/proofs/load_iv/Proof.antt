@@ -1,4 +1,4 @@
--- A list of 16 elements is these elements. Assumes nothing.
+-- A list of 16 elements is these elements.
 use mathlib.Core.Path.{refl, sym, ap, _∙_}
 use borrow.Author.Needs.{needs}
 use lib.ListN.{getD}

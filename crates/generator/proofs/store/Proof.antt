@@ -1,4 +1,4 @@
--- Where `from` is 0 the whole block is stored, else byte by byte; the test says which. Assumes nothing.
+-- Where `from` is 0 the whole block is stored, else byte by byte; the test says which.
 use borrow.Author.Needs.{needs}
 use Rattle.generator.proofs.store.Statement.{statement}
 use Rattle.generator.proofs.store.Tie as tie

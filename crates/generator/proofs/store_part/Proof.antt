@@ -1,5 +1,4 @@
 -- `generator::store_part` meets its contract. The loop's invariant: k bytes of the block are stored. The measure is the number of bytes left.
--- Assumes nothing.
 use mathlib.Core.Path.{_≡_, refl}
 use Prim.Native.Nat.{_+_, _-_, _≤_}
 use native.Mathlib.Omega.{arith}
@@ -35,7 +34,7 @@ same-length c = c .before .loop .inv .1
 returns : tie.Need-returns Inv-loop μ-loop
 returns c =
     let l = c .before .loop in
-    let e : l .k ≡ c .before .before .least .result = omega arith in
+    let e : l .k ≡ c .before .before .min .result = omega arith in
     record {
       forward = omega arith;
       inside = omega arith;

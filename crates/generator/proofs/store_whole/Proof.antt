@@ -1,5 +1,4 @@
 -- `generator::store_whole` meets its contract. The loop's invariant: k bytes of the block are stored. The measure is the number of bytes left.
--- Assumes nothing.
 use mathlib.Core.Path.{_≡_, sym, ap}
 use Prim.Native.Nat.{ℕ, _+_, _-_, _≤_}
 use native.Mathlib.Nat.{zero-add}

@@ -1,4 +1,4 @@
--- `keccak::beside_columns` meets its contract, by that of the rotation in each of the five lanes. Assumes nothing.
+-- `keccak::beside_columns` meets its contract, by that of the rotation in each of the five lanes.
 use mathlib.Core.List.{[], _∷_}
 use lib.Bits.{bitXor}
 use lib.ListN.{getD}

@@ -1,4 +1,4 @@
--- What `chi_row` ensures of each row, put together, computes to the definition. Assumes nothing.
+-- What `chi_row` ensures of each row, put together, computes to the definition.
 use mathlib.Core.List.{List, [], _∷_}
 use Prim.Native.Nat.{ℕ}
 use lib.ListN.{getD}

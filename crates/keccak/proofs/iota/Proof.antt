@@ -1,4 +1,4 @@
--- `keccak::iota` meets its contract, by computing. Assumes nothing.
+-- `keccak::iota` meets its contract, by computing.
 use mathlib.Core.Path.{refl}
 use borrow.Author.Needs.{needs}
 use Rattle.spec.specs.Keccak.{iota}

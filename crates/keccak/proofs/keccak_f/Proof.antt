@@ -1,5 +1,4 @@
 -- `keccak::keccak_f` meets its contract. The loop's invariant: after i turns the state is that of the first i rounds. The measure is the number of rounds left.
--- Assumes nothing.
 use mathlib.Core.Path.{_≡_, refl}
 use Prim.Native.Nat.{_-_, _≤_}
 use native.Mathlib.Numerals.{add-one}

@@ -1,5 +1,5 @@
 -- `keccak::rho_pi` meets its contract, by that of the rotation in each lane but the first, whose offset is 0. c4, c9, c14, c19 and c are the places at
--- which a row's last lane is made. Assumes nothing.
+-- which a row's last lane is made.
 use mathlib.Core.List.{[], _∷_}
 use lib.ListN.{getD}
 use borrow.Author.Needs.{needs}

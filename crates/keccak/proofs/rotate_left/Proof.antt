@@ -1,4 +1,4 @@
--- `keccak::rotate_left` meets its contract, by the law that two shifts joined by `|` are a rotation. Assumes nothing.
+-- `keccak::rotate_left` meets its contract, by the law that two shifts joined by `|` are a rotation.
 use borrow.Author.Needs.{needs}
 use Rattle.keccak.proofs.Rotation.{rotl-or}
 use Rattle.keccak.proofs.rotate_left.Statement.{statement}

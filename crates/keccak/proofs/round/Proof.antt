@@ -1,4 +1,4 @@
--- `keccak::round` meets its contract, by those of its four steps. Assumes nothing.
+-- `keccak::round` meets its contract, by those of its four steps.
 use borrow.Author.Needs.{needs}
 use Rattle.spec.specs.Keccak.{round}
 use Rattle.keccak.proofs.round.Statement.{statement}

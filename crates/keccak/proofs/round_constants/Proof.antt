@@ -1,4 +1,4 @@
--- The rule for the constants computes to the table. Assumes nothing.
+-- The rule for the constants computes to the table.
 use mathlib.Core.Path.{refl}
 use Rattle.spec.specs.Bytes.{tabulate}
 use Rattle.spec.specs.Keccak.{register, rc, roundConstantUpTo, roundConstant}

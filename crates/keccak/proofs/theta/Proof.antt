@@ -1,4 +1,4 @@
--- `keccak::theta` meets its contract, by those of its three steps. Assumes nothing.
+-- `keccak::theta` meets its contract, by those of its three steps.
 use borrow.Author.Needs.{needs}
 use Rattle.spec.specs.Keccak.{theta}
 use Rattle.keccak.proofs.theta.Statement.{statement}

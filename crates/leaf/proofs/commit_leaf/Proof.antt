@@ -1,5 +1,4 @@
 -- What `fill`, `leaf_hash` and `load_iv` ensure, with the definitions of the seed and the commitment unfolded.
--- Assumes nothing.
 use borrow.Author.Needs.{needs}
 use mathlib.Core.Path.{sym, ap, _∙_}
 use mathlib.Core.List.{List}

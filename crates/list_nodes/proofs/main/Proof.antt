@@ -1,4 +1,4 @@
--- What is written is as long as the listing says. Assumes nothing.
+-- What is written is as long as the listing says.
 use mathlib.Core.Path.{sym}
 use lib.Seq.{length-take-le}
 use borrow.Author.Needs.{needs}
@@ -13,10 +13,11 @@ main-spec =
     (λ c κs. search needs)
     (λ c κs. search needs)
     (λ c. search needs)
+    (λ c κs. search needs)
     (λ c. search needs)
+    (λ c. sym (length-take-le _ _ (c .before .before .list-read .ensures .0)))
+    (λ c κs. search needs)
     (λ c. search needs)
     (λ c κs. search needs)
     (λ c. search needs)
-    (λ c. sym (length-take-le _ _ (c .before .before .list .ensures .0)))
-    (λ c κs. search needs)
     (λ c. search needs))

@@ -1,4 +1,4 @@
--- What is written is as long as the listing says. Assumes nothing.
+-- What is written is as long as the listing says.
 use mathlib.Core.Path.{sym}
 use lib.Seq.{length-take-le}
 use borrow.Author.Needs.{needs}

@@ -1,4 +1,4 @@
--- A line that cannot be read prints 7, any other what the plan of its shape and challenge prints. Assumes nothing.
+-- A line that cannot be read prints 7, any other what the plan of its shape and challenge prints.
 use borrow.Author.Needs.{needs}
 use Rattle.laws.proofs.Tests.{failed, passed}
 use Rattle.listing_line.proofs.Lines.{line-facts}

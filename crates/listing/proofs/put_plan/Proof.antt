@@ -1,4 +1,4 @@
--- The laws of `Planned` say what is printed of a plan, refused or let through; the part that is lent has T elements unless T is over 512. Assumes nothing.
+-- The laws of `Planned` say what is printed of a plan, refused or let through; the part that is lent has T elements unless T is over 512.
 use mathlib.Core.Path.{_≡_, sym, ap, _∙_}
 use native.Mathlib.Omega.{arith}
 use lib.ListN.{length, take}
@@ -13,17 +13,17 @@ abbrev start : tie.After-plan → tie.Start
 start c = c .before .before .before .before .before .before .before
 
 -- the part that is lent
-part-length : (c : tie.After-smaller-of)
-    → length (take (c .smaller-of .result) (c .before .before .before .before .before .args .nodes .now)) ≡ c .smaller-of .result
+part-length : (c : tie.After-min)
+    → length (take (c .min .result) (c .before .before .before .before .before .args .nodes .now)) ≡ c .min .result
 part-length c =
     let st = c .before .before .before .before .before in
-    length-take-le (c .smaller-of .result) (st .args .nodes .now) (omega (arith, c .smaller-of .ensures .1, st .pre .1))
+    length-take-le (c .min .result) (st .args .nodes .now) (omega (arith, c .min .ensures, st .pre .1))
 
 known : (c : tie.After-plan) → Printed (start c .args .shape) (start c .args .challenge .now) (c .plan .last .1 .1 .0) (c .plan .result)
 known c =
-    let t = c .before .before .smaller-of in
+    let t = c .before .before .min in
     let e = ap (λ (s : Shape). s .t) (c .before .before .before .resolve .ensures) in
-    printed _ _ _ _ _ (c .plan .ensures) (λ h. part-length (c .before .before) ∙ t .ensures .2 (omega arith) ∙ e)
+    printed _ _ _ _ _ (c .plan .ensures) (λ h. part-length (c .before .before) ∙ (let z : t .result ≡ c .before .before .before .resolve .result .t = omega arith in z) ∙ e)
 
 shown : (c : tie.Else1) → Listed (start (c .before .before .before .before) .args .shape) (start (c .before .before .before .before) .args .challenge .now)
     (c .before .before .before .before .plan .last .1 .1 .0) (c .before .before .before .before .plan .result)
@@ -42,7 +42,7 @@ slice-reshare-prefix-put-nodes c =
     let p = c .before .before .before .before .before in
     omega (
       arith,
-      length-front (start p .args .nodes .now) (p .plan .last .1 .1 .0) (p .before .before .smaller-of .result) (p .plan .kept .1 .1 .0),
+      length-front (start p .args .nodes .now) (p .plan .last .1 .1 .0) (p .before .before .min .result) (p .plan .kept .1 .1 .0),
       shown (c .before) .most,
       start p .pre .1,
     )

@@ -1,4 +1,4 @@
--- At the end of the text nothing is left, with or without one byte more. Assumes nothing.
+-- At the end of the text nothing is left, with or without one byte more.
 use Prim.Native.Nat.{ℕ, _+_}
 use mathlib.Core.Path.{ap, _∙_}
 use lib.ListN.{drop}

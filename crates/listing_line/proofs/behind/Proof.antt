@@ -1,4 +1,4 @@
--- After i turns the text is what stands behind i numbers. Assumes nothing.
+-- After i turns the text is what stands behind i numbers.
 use Prim.Native.Nat.{ℕ, _-_, _≤_}
 use mathlib.Core.Path.{_≡_, sym, ap, _∙_}
 use native.Mathlib.Omega.{arith}

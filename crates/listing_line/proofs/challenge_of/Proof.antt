@@ -1,4 +1,4 @@
--- The first i bytes are those that the first 2 i digits write. Assumes nothing.
+-- The first i bytes are those that the first 2 i digits write.
 use Prim.Native.Nat.{ℕ, _+_, _-_, _*_, _≤_, _<_}
 use mathlib.Core.Path.{_≡_, ap₂}
 use mathlib.Core.Bool.{true}

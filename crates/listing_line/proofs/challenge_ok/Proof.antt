@@ -1,4 +1,4 @@
--- By the length of the text: 32, 33, or another. Assumes nothing.
+-- By the length of the text: 32, 33, or another.
 use mathlib.Core.Path.{_∙_}
 use borrow.Author.Needs.{needs}
 use Rattle.listing_line.proofs.Challenge.{challenge-32, challenge-33, challenge-else}

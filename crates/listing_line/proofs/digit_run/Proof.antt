@@ -1,4 +1,4 @@
--- Each byte passed is a digit; what ends the run is none, the end of the text included. Assumes nothing.
+-- Each byte passed is a digit; what ends the run is none, the end of the text included.
 use Prim.Native.Nat.{ℕ, _-_, _≤_, _<_}
 use mathlib.Core.Path.{_≡_}
 use mathlib.Core.Bool.{true}

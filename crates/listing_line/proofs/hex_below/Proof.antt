@@ -1,4 +1,4 @@
--- Each byte passed is a hexadecimal digit, and one that is none settles it. Assumes nothing.
+-- Each byte passed is a hexadecimal digit, and one that is none settles it.
 use Prim.Native.Nat.{_-_, _≤_}
 use mathlib.Core.Path.{_≡_, sym, ap, _∙_}
 use mathlib.Core.Bool.{true}

@@ -1,4 +1,4 @@
--- A hexadecimal digit is a decimal one or lies from `a` to `f`. Assumes nothing.
+-- A hexadecimal digit is a decimal one or lies from `a` to `f`.
 use mathlib.Core.Path.{sym, _∙_}
 use native.Mathlib.Omega.{arith}
 use borrow.Author.Needs.{needs}

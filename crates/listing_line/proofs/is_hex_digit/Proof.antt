@@ -1,4 +1,4 @@
--- A decimal digit is what `is_digit` says. Assumes nothing.
+-- A decimal digit is what `is_digit` says.
 use mathlib.Core.Path.{refl}
 use borrow.Author.Needs.{needs}
 use Rattle.listing_line.proofs.is_hex_digit.Statement.{statement}

@@ -1,4 +1,4 @@
--- Each test is the definition's, of the text behind as many numbers. Assumes nothing.
+-- Each test is the definition's, of the text behind as many numbers.
 use borrow.Author.Needs.{needs}
 use Rattle.listing_line.specs.Line.{behind, lineOk}
 use Rattle.listing_line.proofs.line_ok.Statement.{statement}

@@ -1,4 +1,4 @@
--- After i digits v is the number that they make, so it is below 10 ^ i. Assumes nothing.
+-- After i digits v is the number that they make, so it is below 10 ^ i.
 use Prim.Native.Nat.{ℕ, _-_, _≤_, _<_}
 use mathlib.Core.Path.{_≡_, sym, ap, _∙_}
 use native.Mathlib.Omega.{arith}

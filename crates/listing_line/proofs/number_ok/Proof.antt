@@ -1,4 +1,4 @@
--- Digits up to the end of the text are no number; else the three tests are the definition's. Assumes nothing.
+-- Digits up to the end of the text are no number; else the three tests are the definition's.
 use mathlib.Core.Path.{refl, sym, _∙_}
 use borrow.Author.Needs.{needs}
 use Rattle.listing_line.specs.Line.{numberOk}

@@ -1,4 +1,4 @@
--- Each number is read of the text behind as many numbers, which a good line makes a number. Assumes nothing.
+-- Each number is read of the text behind as many numbers, which a good line makes a number.
 use borrow.Author.Needs.{needs}
 use Rattle.listing_line.specs.Line.{behind, shapeOf}
 use Rattle.listing_line.proofs.Lines.{line-facts}

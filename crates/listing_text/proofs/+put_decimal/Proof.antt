@@ -1,4 +1,4 @@
--- One digit, or the digits of the tenth part and behind them one more. The measure is the number. Assumes nothing.
+-- One digit, or the digits of the tenth part and behind them one more. The measure is the number.
 use Prim.Native.Nat.{ℕ, _<_}
 use mathlib.Core.Path.{ap}
 use native.Mathlib.Omega.{arith}

@@ -1,4 +1,4 @@
--- One store. Assumes nothing.
+-- One store.
 use borrow.Author.Needs.{needs}
 use Rattle.listing_text.proofs.Writing.{put-one}
 use Rattle.listing_text.proofs.put_byte.Statement.{statement}

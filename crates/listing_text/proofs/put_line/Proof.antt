@@ -1,4 +1,4 @@
--- The digits, at most five, and behind them the line feed. Assumes nothing.
+-- The digits, at most five, and behind them the line feed.
 use native.Mathlib.Omega.{arith}
 use borrow.Author.Needs.{needs}
 use Rattle.listing_text.proofs.Decimal.{decimal-short}

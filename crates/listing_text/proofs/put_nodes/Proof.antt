@@ -1,4 +1,4 @@
--- The word, the line with the count, and a line for each node. Assumes nothing.
+-- The word, the line with the count, and a line for each node.
 use native.Mathlib.Omega.{arith}
 use lib.ListN.{length}
 use borrow.Author.Needs.{needs}

@@ -1,4 +1,4 @@
--- The word, and behind it the line with the number. Assumes nothing.
+-- The word, and behind it the line with the number.
 use borrow.Author.Needs.{needs}
 use Rattle.listing_text.specs.Text.{refusedText}
 use Rattle.listing_text.proofs.Writing.{put-next}

@@ -1,4 +1,4 @@
--- After i turns the leaf commitments of the first i vectors stand at the front. Assumes nothing.
+-- After i turns the leaf commitments of the first i vectors stand at the front.
 use borrow.Author.Needs.{needs}
 use mathlib.Core.Path.{_≡_, refl, ap, _∙_}
 use mathlib.Core.List.{List, [], _++_}

@@ -1,4 +1,4 @@
--- After m turns the first m nodes stand behind the bytes before `at`. Assumes nothing.
+-- After m turns the first m nodes stand behind the bytes before `at`.
 use borrow.Author.Needs.{needs}
 use mathlib.Core.Path.{_≡_, refl, sym, ap, _∙_}
 use mathlib.Core.List.{List, _++_, append-nil}

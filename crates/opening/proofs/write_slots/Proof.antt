@@ -1,4 +1,4 @@
--- The nodes stand behind the bytes at the front, and the zeros fill the rest of the opening. Assumes nothing.
+-- The nodes stand behind the bytes at the front, and the zeros fill the rest of the opening.
 use borrow.Author.Needs.{needs}
 use mathlib.Core.Path.{_≡_, ap₂, _∙_}
 use mathlib.Core.List.{List, _++_}

@@ -1,4 +1,4 @@
--- The contracts of the three calls make the claim. Assumes nothing.
+-- The contracts of the three calls make the claim.
 use borrow.Author.Needs.{needs}
 use Rattle.round_trip.proofs.Claim.{claim}
 use Rattle.round_trip.proofs.round_trip.Statement.{statement}

@@ -1,4 +1,4 @@
--- The column stays within the matrix, and no more columns agree than were seen. Assumes nothing.
+-- The column stays within the matrix, and no more columns agree than were seen.
 use borrow.Author.Needs.{needs}
 use Prim.Native.Nat.{_-_, _≤_}
 use lib.ListN.{length}

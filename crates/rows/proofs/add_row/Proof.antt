@@ -1,5 +1,5 @@
 -- `rows::add_row` meets its contract. The loop's invariant: the row's bytes below `at` have been added, and `at` is where a block starts, or the row's end.
--- The measure is the number of bytes left. Assumes nothing.
+-- The measure is the number of bytes left.
 use borrow.Author.Needs.{needs}
 use mathlib.Core.Path.{_≡_, refl, ap, _∙_, subst}
 use mathlib.Core.List.{List}
@@ -32,7 +32,7 @@ loop-again c =
     let l = c .before .before .before .before .before .before .before .before .before .before .before .before .loop in
     let e = c .before .before .before .before .before .before .before .before .before .before .before .before .before .key-schedule .ensures in
     let block = c .before .before .before .before .before .before .before .before .before .block in
-    let n = c .before .before .before .before .before .before .before .before .least .result in
+    let n = c .before .before .before .before .before .before .before .before .min .result in
     let row : ℕ → ℕ = generatorByte 4 (a .seed .now) (a .iv) (a .tweak) in
     let aligned = l .inv .1 (omega arith) in
     let byte = block-byte 4 (a .seed .now) (a .iv) (a .tweak) (l .at / 16) (l .at) in

@@ -1,4 +1,4 @@
--- The shift does not leave the word, since no vector has more than 4,096 entries. Assumes nothing.
+-- The shift does not leave the word, since no vector has more than 4,096 entries.
 use Prim.Native.Nat.{_*_, _^_, _<_, _≤_}
 use mathlib.Core.Path.{_∙_}
 use native.Mathlib.Omega.{arith}

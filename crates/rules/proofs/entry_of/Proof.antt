@@ -1,4 +1,4 @@
--- An entry's place is below the number of leaves, so the shift does not leave the word. Assumes nothing.
+-- An entry's place is below the number of leaves, so the shift does not leave the word.
 use Prim.Native.Nat.{ℕ, _+_, _*_, _^_, _%_, _≤_, _<_}
 use mathlib.Core.Path.{_≡_}
 use mathlib.Core.Bool.{true}

@@ -1,4 +1,4 @@
--- The code's tests are those of the definition, in its order. Assumes nothing.
+-- The code's tests are those of the definition, in its order.
 use mathlib.Core.Path.{refl}
 use Rattle.spec.specs.Calls.{rowOk}
 use Rattle.rules.proofs.is_row_length.Statement.{statement}

@@ -1,4 +1,4 @@
--- A limit that is broken refutes the facts of a shape; with all kept the sum decides. Assumes nothing.
+-- A limit that is broken refutes the facts of a shape; with all kept the sum decides.
 use Prim.Native.Nat.{_*_, _≤_}
 use native.Mathlib.Omega.{arith}
 use native.Mathlib.Nat.{mul-le-mul}

@@ -1,4 +1,4 @@
--- The shift does not leave the word, since no tree has more than 40,960 leaves. Assumes nothing.
+-- The shift does not leave the word, since no tree has more than 40,960 leaves.
 use Prim.Native.Nat.{_*_, _^_, _<_}
 use native.Mathlib.Omega.{arith}
 use native.Mathlib.Nat.{mod-eq-of-lt}

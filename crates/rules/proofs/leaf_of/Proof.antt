@@ -1,4 +1,4 @@
--- An entry's leaf lies in the tree, so no step of the sum overflows. Assumes nothing.
+-- An entry's leaf lies in the tree, so no step of the sum overflows.
 use native.Mathlib.Omega.{arith}
 use borrow.Author.Needs.{needs}
 use Rattle.spec.specs.Shapes.{depthOf, entriesOf, leafOf}

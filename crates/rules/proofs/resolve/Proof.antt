@@ -1,4 +1,4 @@
--- Each return goes by the tests that led to it; the definition tests the same four numbers. Assumes nothing.
+-- Each return goes by the tests that led to it; the definition tests the same four numbers.
 use borrow.Author.Tests.{eq-eqb, ne-eqb}
 use Rattle.spec.specs.Bytes.{allZero}
 use Rattle.spec.specs.Shapes.{faest128s, resolved}

@@ -1,5 +1,5 @@
 -- `shake::absorb` meets its contract. The loop's invariant: the sponge took in the first `at` bytes of the message. Each turn takes in a part that is not
--- empty, since the block has room. The measure is the number of bytes left. Assumes nothing.
+-- empty, since the block has room. The measure is the number of bytes left.
 use mathlib.Core.Path.{_≡_}
 use Prim.Native.Nat.{_+_, _-_, _≤_}
 use native.Mathlib.Omega.{arith}

@@ -1,4 +1,4 @@
--- `shake::absorb_part` meets its contract, by the laws of a part that leaves its block open and of one that ends it. Assumes nothing.
+-- `shake::absorb_part` meets its contract, by the laws of a part that leaves its block open and of one that ends it.
 use mathlib.Core.Path.{ap, _∙_}
 use Prim.Native.Nat.{_-_}
 use native.Mathlib.Omega.{arith}

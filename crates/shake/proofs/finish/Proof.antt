@@ -1,4 +1,4 @@
--- The padding is one more part, and with it the message is whole blocks. Assumes nothing.
+-- The padding is one more part, and with it the message is whole blocks.
 use mathlib.Core.Path.{sym, ap, _∙_}
 use Prim.Native.Nat.{_-_}
 use native.Mathlib.Omega.{arith}

@@ -1,4 +1,4 @@
--- What `hash` ensures of the sponge that has absorbed the message. Assumes nothing.
+-- What `hash` ensures of the sponge that has absorbed the message.
 use mathlib.Core.List.{[]}
 use native.Mathlib.Omega.{arith}
 use borrow.Author.Needs.{needs}

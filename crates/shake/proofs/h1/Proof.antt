@@ -1,4 +1,4 @@
--- What `h1_finish` ensures, of one part. Assumes nothing.
+-- What `h1_finish` ensures, of one part.
 use mathlib.Core.List.{[]}
 use borrow.Author.Needs.{needs}
 use denote.Ref.{now}

@@ -1,4 +1,4 @@
--- What `hash` ensures, with the byte of H1. Assumes nothing.
+-- What `hash` ensures, with the byte of H1.
 use borrow.Author.Needs.{needs}
 use Rattle.spec.specs.Hashes.{hash1}
 use Rattle.shake.proofs.h1_finish.Statement.{statement}

@@ -1,4 +1,4 @@
--- What `new` ensures, at the rate 168. Assumes nothing.
+-- What `new` ensures, at the rate 168.
 use native.Mathlib.Omega.{arith}
 use borrow.Author.Needs.{needs}
 use Rattle.shake.proofs.h1_start.Statement.{statement}

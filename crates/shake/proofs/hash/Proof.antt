@@ -1,4 +1,4 @@
--- What `squeeze` ensures, of the state that the last byte and the padding leave. Assumes nothing.
+-- What `squeeze` ensures, of the state that the last byte and the padding leave.
 use mathlib.Core.Path.{ap, _∙_}
 use mathlib.Core.List.{List, [], _∷_, _++_}
 use Prim.Native.Nat.{ℕ}

@@ -1,4 +1,4 @@
--- A list of eight bytes is its eight elements, and of these the number computes to the sum. Assumes nothing.
+-- A list of eight bytes is its eight elements, and of these the number computes to the sum.
 use mathlib.Core.Path.{refl, sym, ap, _∙_}
 use Prim.Native.Nat.{_+_, _*_}
 use native.Mathlib.Nat.{add-zero}

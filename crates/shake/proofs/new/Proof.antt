@@ -1,4 +1,4 @@
--- `shake::new` meets its contract, by the law of a sponge that holds nothing. Assumes nothing.
+-- `shake::new` meets its contract, by the law of a sponge that holds nothing.
 use mathlib.Core.Path.{refl}
 use Rattle.spec.specs.Bytes.{zeros}
 use Rattle.shake.proofs.Absorbing.{holds-none}

@@ -1,4 +1,4 @@
--- The last byte is xored where it stands, which the definition does with a string of its own. Assumes nothing.
+-- The last byte is xored where it stands, which the definition does with a string of its own.
 use mathlib.Core.Path.{_≡_, sym, ap, _∙_}
 use mathlib.Core.List.{List, [], _∷_, _++_}
 use Prim.Native.Nat.{ℕ, suc, _-_, _≤_, _<_}

@@ -1,4 +1,4 @@
--- What `copy` leaves of the zeros, before and behind the part, is zeros. Assumes nothing.
+-- What `copy` leaves of the zeros, before and behind the part, is zeros.
 use mathlib.Core.Path.{_≡_}
 use mathlib.Core.List.{List, _++_, append-nil}
 use Prim.Native.Nat.{ℕ, _+_, _-_, _≤_}

@@ -1,5 +1,5 @@
 -- `shake::squeeze` meets its contract. The loop's invariant: the first `at` bytes are squeezed, and where there are more to come the state is that of the block
--- that begins there. The measure is the number of bytes left. Assumes nothing.
+-- that begins there. The measure is the number of bytes left.
 use mathlib.Core.Path.{_≡_, refl, sym, ap, _∙_}
 use Prim.Native.Nat.{ℕ, suc, _+_, _-_, _*_, _<_}
 use native.Mathlib.Nat.{mul-zero, mul-suc}
@@ -11,7 +11,7 @@ use lib.ListN.{length}
 use Rattle.spec.specs.Keccak.{keccakF}
 use Rattle.spec.specs.Sponge.{permuted}
 use Rattle.shake.proofs.Squeezing.{Squeezed, squeezed-none, squeezed-more, squeezed-all}
-use Rattle.shake.proofs.min.Reads as min-reads
+use Rattle.numbers.proofs.min.Reads as min-reads
 use Rattle.shake.proofs.permute.Reads as permute-reads
 use Rattle.shake.proofs.squeeze_part.Reads as squeeze-part-reads
 use Rattle.shake.proofs.squeeze.Lts as lts

@@ -1,4 +1,4 @@
--- The front of the block is the rule's, and `copy` fills all of `out` with it. Assumes nothing.
+-- The front of the block is the rule's, and `copy` fills all of `out` with it.
 use mathlib.Core.Path.{_≡_, sym, ap, _∙_}
 use mathlib.Core.List.{List, append-nil}
 use Prim.Native.Nat.{ℕ, _≤_}

@@ -1,5 +1,5 @@
 -- `shake::state_bytes` meets its contract. The loop's invariant: the first 8 j bytes are filled by the rule of the state's bytes. A lane's eight digits are
--- its eight bytes of the state. The measure is the number of lanes left. Assumes nothing.
+-- its eight bytes of the state. The measure is the number of lanes left.
 use mathlib.Core.Path.{_≡_, sym, ap, ap₂, _∙_}
 use mathlib.Core.List.{List, _++_}
 use Prim.Native.Nat.{ℕ, _+_, _-_, _*_, _/_, _%_, _^_, _≤_}

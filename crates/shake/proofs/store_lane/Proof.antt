@@ -1,5 +1,4 @@
 -- `shake::store_lane` meets its contract. The loop's invariant: the first i bytes are filled by the digits of x. The measure is the number of bytes left.
--- Assumes nothing.
 use mathlib.Core.Path.{_≡_, sym, ap, _∙_}
 use mathlib.Core.List.{List}
 use Prim.Native.Nat.{ℕ, _-_, _*_, _/_, _%_, _^_, _≤_}

@@ -1,5 +1,5 @@
 -- `shake::xor_block` meets its contract. The loop's invariant: the first j lanes are filled by the rule of `xorIn`, the others are as they were. Past the
--- block's 21 lanes its string has ended, so that the rule leaves them. The measure is the number of lanes left. Assumes nothing.
+-- block's 21 lanes its string has ended, so that the rule leaves them. The measure is the number of lanes left.
 use mathlib.Core.Path.{_≡_, sym, ap, ap₂, _∙_}
 use mathlib.Core.List.{List}
 use Prim.Native.Nat.{ℕ, _+_, _-_, _*_, _≤_}

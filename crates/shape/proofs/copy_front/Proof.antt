@@ -1,4 +1,4 @@
--- The first i numbers are copied, the others are as they were. Assumes nothing.
+-- The first i numbers are copied, the others are as they were.
 use Prim.Native.Nat.{ℕ, _-_, _≤_}
 use mathlib.Core.Path.{_≡_, sym, ap, ap₂, _∙_}
 use mathlib.Core.List.{List, _++_}

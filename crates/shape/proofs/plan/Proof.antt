@@ -1,5 +1,4 @@
 -- Each way out of the call is one law of `Answers`, by the tests that led there; the local list has room for every count that is let through.
--- Assumes nothing.
 use mathlib.Core.Path.{_≡_}
 use native.Mathlib.Omega.{arith}
 use lib.ListN.{length, replicate, length-replicate}

@@ -1,4 +1,4 @@
--- Each way out of the call is one law of `Answers`, by the tests that led there. Assumes nothing.
+-- Each way out of the call is one law of `Answers`, by the tests that led there.
 use borrow.Author.Needs.{needs}
 use Rattle.laws.proofs.Tests.{failed, passed}
 use Rattle.laws.proofs.Lengths.{fits-sized}

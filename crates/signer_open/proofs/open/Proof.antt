@@ -1,5 +1,4 @@
 -- Each way out of the call is one law of `Answers`, by the tests that led there; the local list has room for every count that is let through.
--- Assumes nothing.
 use Prim.Native.Nat.{ℕ, _≤_}
 use mathlib.Core.Path.{_≡_, ap, _∙_}
 use mathlib.Core.Bool.{true}

@@ -1,4 +1,4 @@
--- The products are small, since no tree has more than 40,960 leaves. Assumes nothing.
+-- The products are small, since no tree has more than 40,960 leaves.
 use borrow.Author.Needs.{needs}
 use native.Mathlib.Omega.{arith}
 use Prim.Native.Nat.{ℕ, _+_, _-_, _*_}

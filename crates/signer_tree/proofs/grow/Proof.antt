@@ -1,4 +1,4 @@
--- Once a nodes are expanded, the first 2 a + 1 nodes stand. Assumes nothing.
+-- Once a nodes are expanded, the first 2 a + 1 nodes stand.
 use borrow.Author.Needs.{needs}
 use mathlib.Core.Path.{_≡_, sym, ap, _∙_}
 use Prim.Native.Nat.{_+_, _-_, _*_, _≤_}

@@ -1,4 +1,4 @@
--- What each callee ensures of the parts it is lent, joined by the law `converted`. Assumes nothing.
+-- What each callee ensures of the parts it is lent, joined by the law `converted`.
 use borrow.Author.Needs.{needs}
 use Prim.Native.Nat.{ℕ, _-_, _*_}
 use mathlib.Core.Path.{sym, ap, _∙_, subst}

@@ -1,4 +1,4 @@
--- The correction holds u when the rows are added. Assumes nothing.
+-- The correction holds u when the rows are added.
 use borrow.Author.Needs.{needs}
 use mathlib.Core.Path.{sym, _∙_}
 use Rattle.signer_vectors.proofs.Steps.{copied}

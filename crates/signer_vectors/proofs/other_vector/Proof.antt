@@ -1,4 +1,4 @@
--- The parts lent stand behind those of the vectors before; that each ends within its buffer answers the needs of its start and its end. Assumes nothing.
+-- The parts lent stand behind those of the vectors before; that each ends within its buffer answers the needs of its start and its end.
 use borrow.Author.Needs.{needs}
 use Prim.Native.Nat.{ℕ, _+_, _-_, _*_, _^_, _<_}
 use mathlib.Core.Path.{refl, ap, _∙_}

@@ -1,4 +1,4 @@
--- After j turns vectors 0 to j stand, if vector 0 stood before. The measure is the number of vectors left. Assumes nothing.
+-- After j turns vectors 0 to j stand, if vector 0 stood before. The measure is the number of vectors left.
 use borrow.Author.Needs.{needs}
 use Prim.Native.Nat.{ℕ, _-_, _≤_}
 use mathlib.Core.Path.{_≡_, refl, subst}

@@ -1,4 +1,4 @@
--- u was cleared when the rows are added; the parts lent stand at the front of the buffers. Assumes nothing.
+-- u was cleared when the rows are added; the parts lent stand at the front of the buffers.
 use borrow.Author.Needs.{needs}
 use Prim.Native.Nat.{ℕ, _-_, _*_}
 use mathlib.Core.Path.{_≡_, ap, _∙_}

@@ -1,4 +1,4 @@
--- Vector 0, the vectors after it, and zeros behind the last column: each buffer is then full. Assumes nothing.
+-- Vector 0, the vectors after it, and zeros behind the last column: each buffer is then full.
 use Prim.Native.Nat.{ℕ, _+_, _-_, _*_, _^_, _≤_}
 use mathlib.Core.Path.{sym, ap, ap₂, _∙_}
 use mathlib.Core.List.{List, _++_}

@@ -1,4 +1,4 @@
--- What `load_iv` and `fill` ensure of the parts they are lent. Assumes nothing.
+-- What `load_iv` and `fill` ensure of the parts they are lent.
 use borrow.Author.Needs.{needs}
 use mathlib.Core.Path.{_≡_, ap, ap₂, _∙_}
 use mathlib.Core.List.{List, _++_}

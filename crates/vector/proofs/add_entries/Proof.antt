@@ -1,5 +1,5 @@
 -- `vector::add_entries` meets its contract. The loop's invariant: the first e commitments stand at the front, and the first e rows have been added.
--- The measure is the number of entries left. Assumes nothing.
+-- The measure is the number of entries left.
 use borrow.Author.Needs.{needs}
 use mathlib.Core.Path.{_≡_, refl, sym, ap, _∙_}
 use mathlib.Core.List.{List, [], _++_}

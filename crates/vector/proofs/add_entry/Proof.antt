@@ -1,4 +1,4 @@
--- What `commit_leaf` and `add_row` ensure, of the leaf that `leaf_of` finds. Assumes nothing.
+-- What `commit_leaf` and `add_row` ensure, of the leaf that `leaf_of` finds.
 use borrow.Author.Needs.{needs}
 use mathlib.Core.Path.{_≡_, ap, ap₂, _∙_}
 use Prim.Native.Nat.{ℕ, _+_, _-_, _*_}

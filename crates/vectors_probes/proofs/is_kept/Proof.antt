@@ -1,4 +1,4 @@
--- The index stays within the array; the measure is how many bytes are left. Assumes nothing.
+-- The index stays within the array; the measure is how many bytes are left.
 use Prim.Native.Nat.{_≤_, _-_}
 use borrow.Author.Needs.{needs}
 use Rattle.vectors_probes.proofs.is_kept.Statement.{statement}

@@ -1,4 +1,4 @@
--- What `revealed_nodes` ensures of its result. Assumes nothing.
+-- What `revealed_nodes` ensures of its result.
 use borrow.Author.Needs.{needs}
 use Rattle.verifier.proofs.count_nodes.Statement.{statement}
 use Rattle.verifier.proofs.count_nodes.Tie as tie

@@ -1,4 +1,4 @@
--- Each way out of the call is one law of `Answers`, by the tests that led there. Assumes nothing.
+-- Each way out of the call is one law of `Answers`, by the tests that led there.
 use borrow.Author.Needs.{needs}
 use native.Mathlib.Omega.{arith}
 use Rattle.spec.specs.Shapes.{level, nodeBytes, leafCommitmentBytes, openingBytes}

@@ -1,4 +1,4 @@
--- The map is long enough for every tree, and holds zeros. Assumes nothing.
+-- The map is long enough for every tree, and holds zeros.
 use borrow.Author.Needs.{needs}
 use Rattle.spec.specs.Bytes.{zeros}
 use Rattle.verifier_tree.proofs.FromOpening.{zero-buffer}

@@ -1,4 +1,4 @@
--- A marked node is cleared and takes no slot; any other is copied from the next slot. Assumes nothing.
+-- A marked node is cleared and takes no slot; any other is copied from the next slot.
 use borrow.Author.Needs.{needs}
 use mathlib.Core.Path.{ap, _∙_}
 use mathlib.Core.List.{List, _++_}

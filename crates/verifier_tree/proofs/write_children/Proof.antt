@@ -1,4 +1,4 @@
--- Node a is expanded, or its two children are written one after the other. Assumes nothing.
+-- Node a is expanded, or its two children are written one after the other.
 use borrow.Author.Needs.{needs}
 use mathlib.Core.Path.{ap, _∙_}
 use mathlib.Core.List.{List, _++_}

@@ -1,4 +1,4 @@
--- Once a nodes have their children, the first 2 a + 1 nodes stand, and as many slots are read as these a nodes reveal. Assumes nothing.
+-- Once a nodes have their children, the first 2 a + 1 nodes stand, and as many slots are read as these a nodes reveal.
 use borrow.Author.Needs.{needs}
 use mathlib.Core.Path.{_≡_, refl, sym, ap, _∙_}
 use Prim.Native.Nat.{_+_, _-_, _*_, _≤_}

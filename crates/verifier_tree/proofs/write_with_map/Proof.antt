@@ -1,4 +1,4 @@
--- The front of the map marks the covered nodes once `mark_covered` has returned, and the tree by that map is the reconstructed one. Assumes nothing.
+-- The front of the map marks the covered nodes once `mark_covered` has returned, and the tree by that map is the reconstructed one.
 use borrow.Author.Needs.{needs}
 use mathlib.Core.Path.{_≡_}
 use Prim.Native.Nat.{_-_, _*_}

@@ -1,4 +1,4 @@
--- What `add_entries` ensures, in the part lent, with no total. Assumes nothing.
+-- What `add_entries` ensures, in the part lent, with no total.
 use borrow.Author.Needs.{needs}
 use mathlib.Core.Path.{_≡_, sym, ap₂, _∙_}
 use mathlib.Core.List.{List, _++_}

@@ -1,5 +1,4 @@
 -- The entries before the hidden one, the hidden one as lent, and the entries behind it, one after another.
--- Assumes nothing.
 use borrow.Author.Needs.{needs}
 use mathlib.Core.Path.{_≡_, sym, ap, ap₂, _∙_}
 use mathlib.Core.List.{List, _++_}

@@ -1,4 +1,4 @@
--- The promises of its parts, with the hidden commitment of the opening in its place. Assumes nothing.
+-- The promises of its parts, with the hidden commitment of the opening in its place.
 use borrow.Author.Needs.{needs}
 use mathlib.Core.Path.{_≡_, sym, ap, ap₂, _∙_, subst}
 use mathlib.Core.List.{List, _++_}

@@ -1,4 +1,4 @@
--- What `h1_finish` ensures, of three parts. Assumes nothing.
+-- What `h1_finish` ensures, of three parts.
 use borrow.Author.Needs.{needs}
 use mathlib.Core.Path.{_≡_, ap, ap₂, _∙_}
 use mathlib.Core.List.{List, [], _++_}

@@ -1,4 +1,4 @@
--- What `add_bytes` ensures of the part lent, whose number is the hidden index. Assumes nothing.
+-- What `add_bytes` ensures of the part lent, whose number is the hidden index.
 use borrow.Author.Needs.{needs}
 use mathlib.Core.Path.{_≡_, subst}
 use Prim.Native.Nat.{ℕ, _+_, _-_, _*_}

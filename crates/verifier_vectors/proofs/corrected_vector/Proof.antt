@@ -1,4 +1,4 @@
--- What `convert` ensures, and the correction added to the columns. Assumes nothing.
+-- What `convert` ensures, and the correction added to the columns.
 use borrow.Author.Needs.{needs}
 use mathlib.Core.Path.{_∙_}
 use Rattle.spec.specs.Shapes.{depthOf, entriesOf}

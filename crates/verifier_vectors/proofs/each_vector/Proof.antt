@@ -1,4 +1,4 @@
--- After i turns the first i vectors stand at the front of the buffers. Assumes nothing.
+-- After i turns the first i vectors stand at the front of the buffers.
 use mathlib.Core.Path.{_≡_, refl, _∙_}
 use Prim.Native.Nat.{_-_, _≤_}
 use native.Mathlib.Omega.{arith}

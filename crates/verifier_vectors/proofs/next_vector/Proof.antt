@@ -1,5 +1,5 @@
 -- What `corrected_vector` ensures of the parts lent, each behind those before it. That a part ends within its
--- buffer answers the needs of its start and its end. Assumes nothing.
+-- buffer answers the needs of its start and its end.
 use borrow.Author.Needs.{needs}
 use mathlib.Core.Path.{_≡_, refl, ap, _∙_}
 use Prim.Native.Nat.{ℕ, _-_, _*_, _^_}

@@ -1,4 +1,4 @@
--- All vectors fill the buffers, but for the last w columns, which are cleared. Assumes nothing.
+-- All vectors fill the buffers, but for the last w columns, which are cleared.
 use borrow.Author.Needs.{needs}
 use mathlib.Core.Path.{_≡_, sym, ap, ap₂, _∙_}
 use mathlib.Core.List.{List, _++_}

@@ -1,4 +1,4 @@
--- At most 32 times 8192. Assumes nothing.
+-- At most 32 times 8192.
 use native.Mathlib.Nat.{mul-le-mul}
 use native.Mathlib.Omega.{arith}
 use Prim.Native.Nat.{_≤_}

@@ -1,4 +1,4 @@
--- The index stays within the bytes; the measure is how many are left. Assumes nothing.
+-- The index stays within the bytes; the measure is how many are left.
 use Prim.Native.Nat.{_≤_, _-_}
 use lib.ListN.{length}
 use borrow.Author.Needs.{needs}
