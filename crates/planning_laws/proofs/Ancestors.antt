@@ -1,4 +1,5 @@
--- A node is above x exactly if it is x or one of its children is above x; nothing but itself is beneath a leaf; the root is above every node. By induction on the steps up.
+-- A node is above x exactly if it is x or one of its children is above x; nothing but itself is beneath a leaf; the root is above every node; the nodes above x are a chain.
+-- By induction on the steps up.
 use Prim.Native.Nat.{ℕ, zero, suc, _+_, _-_, _*_, _≤_, _<_}
 use mathlib.Core.Path.{_≡_, refl, sym, ap, ap₂, _∙_}
 use mathlib.Core.Bool.{Bool, true, false, _||_, or-true}
@@ -7,6 +8,7 @@ use native.Mathlib.Decide.{decLt}
 use lib.Dec.{eqb}
 use borrow.Author.Tests.{le-ltb, lt-ltb, eq-eqb, ne-eqb}
 use Rattle.spec.specs.Tree.{parent, isAncestorWithin, isAncestor}
+use Rattle.laws.proofs.Conjunctions.{contrary}
 
 -- ---- within n steps
 
@@ -129,3 +131,23 @@ ancestor-root (suc d) x h = go (decLt 0 x) (λ l. ancestor-root d (parent x) l)
     go : Dec (0 < x) → (parent x ≤ d → isAncestor 0 (parent x) ≡ true) → isAncestor 0 x ≡ true
     go (yes l) ih = ancestor-parent 0 x l ∙ ih (omega arith)
     go (no l) ih = ap (isAncestor 0) (let z : x ≡ 0 = omega arith in z) ∙ ancestor-self 0
+
+pub ancestor-le : (a x : ℕ) → isAncestor a x ≡ true → a ≤ x
+ancestor-le a x h = go (decLt x a)
+  where
+    go : Dec (x < a) → a ≤ x
+    go (yes l) = contrary h (ancestor-past a x l)
+    go (no l) = omega arith
+
+through : (d a b x : ℕ) → x ≤ d → a ≤ b → isAncestor b x ≡ true → isAncestor a x ≡ isAncestor a b
+unfolding parent
+through zero a b x h l t = ap (isAncestor a) (let q = ancestor-le b x t in let z : x ≡ b = omega arith in z)
+through (suc d) a b x h l t = go (decLt b x) (λ m. through d a b (parent x) m l)
+  where
+    go : Dec (b < x) → (parent x ≤ d → isAncestor b (parent x) ≡ true → isAncestor a (parent x) ≡ isAncestor a b) → isAncestor a x ≡ isAncestor a b
+    go (yes m) ih = ancestor-parent a x (omega arith) ∙ ih (omega arith) (sym (ancestor-parent b x m) ∙ t)
+    go (no m) ih = ap (isAncestor a) (let q = ancestor-le b x t in let z : x ≡ b = omega arith in z)
+
+-- b is above x: a node up to b is above x exactly if it is above b
+pub ancestor-through : (a b x : ℕ) → a ≤ b → isAncestor b x ≡ true → isAncestor a x ≡ isAncestor a b
+ancestor-through a b x l t = through x a b x (omega arith) l t

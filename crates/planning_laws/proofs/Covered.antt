@@ -1,14 +1,16 @@
--- A leaf is covered exactly if it is hidden, an inner node exactly if one of its children is covered; the root is covered where anything is hidden.
--- By induction on the list of hidden leaves.
+-- A leaf is covered exactly if it is hidden, an inner node exactly if one of its children is covered; the root is covered where anything is hidden, and so is what is above
+-- a covered node. By induction on the list of hidden leaves.
 use Prim.Native.Nat.{ℕ, _+_, _*_, _≤_, _<_}
 use mathlib.Core.Path.{_≡_, refl, ap, ap₂, _∙_}
 use mathlib.Core.Bool.{Bool, true, false, _||_}
 use mathlib.Core.List.{List, [], _∷_}
 use native.Mathlib.Omega.{arith}
 use lib.Dec.{eqb}
+use lib.ListN.{length}
 use Rattle.spec.specs.Tree.{isAncestor, some, covered}
 use Rattle.planning_laws.specs.Lists.{Leaves}
-use Rattle.planning_laws.proofs.Ancestors.{ancestor-split, ancestor-leaf, ancestor-root}
+use Rattle.planning_laws.proofs.Members.{some-in, some-member}
+use Rattle.planning_laws.proofs.Ancestors.{ancestor-split, ancestor-leaf, ancestor-root, ancestor-le, ancestor-through}
 
 or-swap : (a b c d : Bool) → ((a || b) || (c || d)) ≡ ((a || c) || (b || d))
 or-swap true b c d = refl
@@ -31,3 +33,14 @@ covered-inner L a (x ∷ xs) ls h =
 pub root-covered : (x : ℕ) (hs : List ℕ) → covered (x ∷ hs) 0 ≡ true
 unfolding covered some
 root-covered x hs = ap (λ (b : Bool). b || some (isAncestor 0) hs) (ancestor-root x x (omega arith))
+
+pub root-hidden : (hs : List ℕ) → 1 ≤ length hs → covered hs 0 ≡ true
+root-hidden [] h = absurd (omega arith)
+root-hidden (x ∷ hs) h = root-covered x hs
+
+-- what is above a covered node is covered
+pub covered-up : (hs : List ℕ) (a b : ℕ) → isAncestor a b ≡ true → covered hs b ≡ true → covered hs a ≡ true
+unfolding covered
+covered-up hs a b p h =
+    let r = some-member (isAncestor b) hs h in
+    some-in (isAncestor a) hs (r .0) (r .1) (ancestor-through a b (r .0) (ancestor-le a b p) (r .2) ∙ p)

@@ -1,4 +1,5 @@
 -- The laws, by what they speak of.
+pub mod Members
 pub mod Ancestors
 pub mod Covered
 pub mod Count

@@ -1,41 +1,20 @@
--- The revealed nodes: a child that is not covered, of a covered node, is revealed; a revealed node is a node; and where it stands in the list. By induction
--- on the nodes that reveal.
+-- The revealed nodes: a child that is not covered, of a covered node, is revealed, and nothing else; a revealed node is a node, and stands once in the list; and where it
+-- stands. By induction on the nodes that reveal.
 use Prim.Native.Nat.{ℕ, zero, suc, _+_, _-_, _*_, _≤_, _<_}
-use mathlib.Core.Path.{_≡_, refl, sym, ap, _∙_, subst}
+use mathlib.Core.Path.{_≡_, refl, sym, ap, ap₂, _∙_, subst}
 use mathlib.Core.Bool.{Bool, true, false, _||_}
 use mathlib.Core.List.{List, [], _∷_, _++_}
 use native.Mathlib.Omega.{arith}
-use native.Mathlib.Decide.{decLt, ℕ-discrete}
+use native.Mathlib.Decide.{decLt}
+use lib.Dec.{eqb}
 use lib.ListN.{length, getD}
 use borrow.Author.Tests.{eq-eqb, ne-eqb}
 use Rattle.spec.specs.Bytes.{indexOf}
-use Rattle.spec.specs.Tree.{covered, siblingToReveal, revealedFrom, revealed, nodeCount}
+use Rattle.spec.specs.Tree.{parent, some, covered, siblingToReveal, revealedFrom, revealed, nodeCount}
 use Rattle.laws.proofs.Conjunctions.{contrary}
-use Rattle.planning_laws.specs.Lists.{Leaves}
+use Rattle.planning_laws.specs.Lists.{Leaves, WithoutDuplicates}
+use Rattle.planning_laws.proofs.Members.{In, in-head, in-after, in-none, in-cases, absent}
 use Rattle.planning_laws.proofs.Covered.{covered-inner}
-
--- ---- members of a list
-
--- x is in the list, at its first place
-pub record In (x : ℕ) (l : List ℕ) : Type 0 where
-  pub here : indexOf x l < length l
-  pub same : getD l (indexOf x l) 0 ≡ x
-
-in-head : (x : ℕ) (l : List ℕ) → In x (x ∷ l)
-unfolding indexOf
-in-head x l = record { here = rw (eq-eqb x x refl) (omega arith); same = rw (eq-eqb x x refl) refl }
-
-in-tail : (x y : ℕ) (l : List ℕ) → In x l → In x (y ∷ l)
-unfolding indexOf
-in-tail x y l m = go (ℕ-discrete x y)
-  where
-    go : Dec (x ≡ y) → In x (y ∷ l)
-    go (yes e) = subst (λ (z : ℕ). In x (z ∷ l)) e (in-head x l)
-    go (no d) = record { here = rw (ne-eqb x y d) (let h = m .here in omega arith); same = rw (ne-eqb x y d) (m .same) }
-
-in-after : (x : ℕ) (a l : List ℕ) → In x l → In x (a ++ l)
-in-after x [] l m = m
-in-after x (y ∷ a) l m = in-tail x y (a ++ l) (in-after x a l m)
 
 -- ---- a child that is not covered, of a covered node, is revealed
 
@@ -96,6 +75,47 @@ revealed-below c (suc a) b h m = go (c (2 * a + 1)) (c (2 * a + 2)) m (revealed-
 pub revealed-low : (L : ℕ) (hs : List ℕ) (m : ℕ) → 1 ≤ L → m < nodeCount L hs → getD (revealed L hs) m 0 < 2 * L - 1
 unfolding revealed nodeCount
 revealed-low L hs m p h = revealed-below (covered hs) (L - 1) (2 * L - 1) (omega arith) m
+
+-- ---- a revealed node is not covered, its parent is, and it stands once in the list
+
+from-uncovered : (c : ℕ → Bool) (n r : ℕ) → ((a : ℕ) → a < n → c a ≡ (c (2 * a + 1) || c (2 * a + 2))) → In r (revealedFrom c n)
+    → (c r ≡ false) × (c (parent r) ≡ true)
+unfolding revealedFrom siblingToReveal parent
+from-uncovered c zero r e m = in-none r m
+from-uncovered c (suc a) r e m = go (c (2 * a + 1)) (c (2 * a + 2)) refl refl m (from-uncovered c a r (λ b h. e b (omega arith)))
+  where
+    go : (x y : Bool) → c (2 * a + 1) ≡ x → c (2 * a + 2) ≡ y → In r (siblingToReveal x y a ++ revealedFrom c a)
+        → (In r (revealedFrom c a) → (c r ≡ false) × (c (parent r) ≡ true)) → (c r ≡ false) × (c (parent r) ≡ true)
+    go true true p q m ih = ih m
+    go false false p q m ih = ih m
+    go true false p q m ih =
+        in-cases r (2 * a + 2) (revealedFrom c a) m
+        (λ z. (ap c z ∙ q, ap c (let w : parent r ≡ a = omega arith in w) ∙ e a (omega arith) ∙ ap (λ (b : Bool). b || c (2 * a + 2)) p)) ih
+    go false true p q m ih =
+        in-cases r (2 * a + 1) (revealedFrom c a) m
+        (λ z. (ap c z ∙ p, ap c (let w : parent r ≡ a = omega arith in w) ∙ e a (omega arith) ∙ ap₂ _||_ p q)) ih
+
+pub revealed-uncovered : (L : ℕ) (hs : List ℕ) (r : ℕ) → Leaves L hs → In r (revealed L hs) → (covered hs r ≡ false) × (covered hs (parent r) ≡ true)
+unfolding revealed
+revealed-uncovered L hs r ls m = from-uncovered (covered hs) (L - 1) r (λ a h. covered-inner L a hs ls (omega arith)) m
+
+from-distinct : (c : ℕ → Bool) (n : ℕ) → WithoutDuplicates (revealedFrom c n)
+unfolding revealedFrom siblingToReveal
+from-distinct c zero = tt
+from-distinct c (suc n) = go (c (2 * n + 1)) (c (2 * n + 2)) (from-distinct c n)
+  where
+    new : (x : ℕ) → 2 * n < x → some (eqb x) (revealedFrom c n) ≡ false
+    new x h = absent x (revealedFrom c n) (λ m l e. let r = revealed-below c n x h m in omega arith)
+
+    go : (x y : Bool) → WithoutDuplicates (revealedFrom c n) → WithoutDuplicates (siblingToReveal x y n ++ revealedFrom c n)
+    go true true ih = ih
+    go false false ih = ih
+    go true false ih = (new (2 * n + 2) (omega arith), ih)
+    go false true ih = (new (2 * n + 1) (omega arith), ih)
+
+pub revealed-distinct : (L : ℕ) (hs : List ℕ) → WithoutDuplicates (revealed L hs)
+unfolding revealed
+revealed-distinct L hs = from-distinct (covered hs) (L - 1)
 
 -- ---- the place of a revealed node in the list
 

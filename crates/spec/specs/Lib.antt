@@ -1,6 +1,6 @@
--- The definitions of the base, in the order in which to read them. Nothing is proved here: ../proofs has the worked examples, crates/standards,
--- crates/laws, crates/planning_laws and crates/theorems the laws. "Document 000" is the FAEST specification, version 2.0, "document 01" the requirements paper;
--- docs/DECISIONS.md says how open points of both are read.
+-- The definitions, in the order in which to read them. Nothing is proved here: ../proofs has the worked examples, crates/standards,
+-- crates/laws, crates/planning_laws and crates/theorems the laws. "Document 000" is the FAEST specification, version 2.0, "document 01" the requirements paper,
+-- "document 02" the later requests; docs/DECISIONS.md says how their open points are read.
 
 -- strings of bytes, polynomials over GF(2)
 pub mod Bytes

@@ -3,3 +3,5 @@ pub mod Columns
 pub mod Buffers
 pub mod Reconstruction
 pub mod Demand3
+pub mod PlanningExamples
+pub mod Fewest

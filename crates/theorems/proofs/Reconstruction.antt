@@ -4,7 +4,7 @@
 use Prim.Native.Nat.{ℕ, zero, suc, _+_, _-_, _*_, _^_, _≤_, _<_}
 use mathlib.Core.Path.{_≡_, refl, sym, ap, ap₂, _∙_, subst}
 use mathlib.Core.Bool.{Bool, true, false, _||_, cond, or-true}
-use mathlib.Core.List.{List, [], _∷_, _++_}
+use mathlib.Core.List.{List, _++_}
 use native.Mathlib.Omega.{arith}
 use native.Mathlib.Nat.{mul-zero, zero-mul, one-mul}
 use native.Mathlib.Numerals.{add-one}
@@ -16,7 +16,7 @@ use borrow.Author.Tests.{eq-eqb, ne-eqb}
 use Rattle.spec.specs.declared.Shape.{Shape}
 use Rattle.spec.specs.Bytes.{bit, part, tabulate, concat, zeros, xorBytes, xorBelow, indexOf}
 use Rattle.spec.specs.Challenge.{bitAt}
-use Rattle.spec.specs.Tree.{some, covered, nodeCount, expandTree}
+use Rattle.spec.specs.Tree.{covered, nodeCount, expandTree}
 use Rattle.spec.specs.Shapes.{level, nodeBytes, leafCommitmentBytes, depthOf, entriesOf, firstBit, leaves, leafOf, hiddenIndex, hiddenLeaves, planned, plannedCount, treeBytes, leafCommitmentsBytes, correctionsBytes, grindingOk}
 use Rattle.spec.specs.Primitives.{Primitives, prg}
 use Rattle.spec.specs.Leaves.{nodeAt, leafKey, children, leafSeed, leafCommitment, vectorCommitments, leafCommitments, vectorHash, commitmentOf}
@@ -26,8 +26,9 @@ use Rattle.spec.specs.Verifier.{hiddenLeafCommitment, slot, givenNode, reconstr
 use Rattle.laws.proofs.Conjunctions.{contrary}
 use Rattle.laws.proofs.Lists.{length-tabulate, getD-tabulate, tabulate-same, tabulate-xor, length-part, getD-part, length-zeros}
 use Rattle.laws.proofs.Concat.{part-front, part-after, part-whole, even-length, even-part, concat-same, mul-within}
-use Rattle.planning_laws.proofs.Covered.{covered-leaf, covered-inner, root-covered}
-use Rattle.planning_laws.proofs.Revealed.{In, left-revealed, right-revealed}
+use Rattle.planning_laws.proofs.Members.{In, absent}
+use Rattle.planning_laws.proofs.Covered.{covered-leaf, covered-inner, root-hidden}
+use Rattle.planning_laws.proofs.Revealed.{left-revealed, right-revealed}
 use Rattle.planning_laws.proofs.HiddenLeaves.{hidden-count, hidden-leaves}
 use Rattle.planning_laws.proofs.ExpandTree.{expand-length, expand-front, expand-left, expand-right}
 use Rattle.planning_laws.proofs.ShapeLaws.{ShapeLaws, hidden-bit, hidden-at, grinding-bit}
@@ -39,22 +40,12 @@ prg-long : (P : Primitives) (s : Shape) (key iv : List ℕ) (tweak n : ℕ) → 
 unfolding prg
 prg-long P s key iv tweak n = length-tabulate n (P .prgByte s key iv tweak)
 
--- a number that is no member of the list
-not-hidden : (x : ℕ) (hs : List ℕ) → ((m : ℕ) → m < length hs → x ≡ getD hs m 0 → ⊥) → some (eqb x) hs ≡ false
-unfolding some
-not-hidden x [] f = refl
-not-hidden x (y ∷ hs) f = rw (ne-eqb x y (f 0 (omega arith))) (not-hidden x hs (λ m h. f (suc m) (omega arith)))
-
-root-hidden : (hs : List ℕ) → 1 ≤ length hs → covered hs 0 ≡ true
-root-hidden [] h = absurd (omega arith)
-root-hidden (x ∷ hs) h = root-covered x hs
-
 -- a leaf that is not hidden is not covered
 pub leaf-uncovered : (s : Shape) → ShapeLaws s → (ch : List ℕ) (i j : ℕ) → i < s .tau → j < entriesOf s i → (j ≡ hiddenIndex s ch i → ⊥)
     → covered (hiddenLeaves s ch) (leafOf s i j) ≡ false
 leaf-uncovered s f ch i j h l d =
     covered-leaf (leaves s) (leafOf s i j) (hiddenLeaves s ch) (hidden-leaves s ch) (f .leaf-low i j h l)
-    ∙ not-hidden (leafOf s i j) (hiddenLeaves s ch)
+    ∙ absent (leafOf s i j) (hiddenLeaves s ch)
     (λ m k e.
     let g : m < s .tau = (let z = hidden-count s ch in omega arith) in
     let q = f .leaf-one i j m (hiddenIndex s ch m) h l g (f .hidden-in ch m) (e ∙ hidden-at s ch m g) in

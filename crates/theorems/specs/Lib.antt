@@ -1,2 +1,3 @@
--- Demand 3, and what an opening depends on.
+-- Demand 3, and what an opening depends on; then what is claimed of planning.
 pub mod Demands
+pub mod Planning
