@@ -61,7 +61,7 @@ tally-same p q n (suc m) h e = go (decLt m n) (λ l. tally-same p q n m l e)
         omega arith
     go (no l) ih = (let s = ap one (e m (omega arith)) in let r = ih (omega arith) in omega arith)
 
-tally-or : (p q : ℕ → Bool) (n : ℕ) → tally (λ a. p a || q a) n ≡ tally q n + tally (λ a. p a && not (q a)) n
+pub tally-or : (p q : ℕ → Bool) (n : ℕ) → tally (λ a. p a || q a) n ≡ tally q n + tally (λ a. p a && not (q a)) n
 unfolding tally
 tally-or p q zero = refl
 tally-or p q (suc n) = (let ih = tally-or p q n in let h = at (p n) (q n) in omega arith)
@@ -73,7 +73,7 @@ tally-or p q (suc n) = (let ih = tally-or p q n in let h = at (p n) (q n) in ome
     at false false = refl
 
 -- a test that only x passes, x being from n on and below m
-tally-point : (c : ℕ → Bool) (n x m : ℕ) → n ≤ x → x < m → c x ≡ true → ((a : ℕ) → (a ≡ x → ⊥) → c a ≡ false) → tally c m ≡ tally c n + 1
+pub tally-point : (c : ℕ → Bool) (n x m : ℕ) → n ≤ x → x < m → c x ≡ true → ((a : ℕ) → (a ≡ x → ⊥) → c a ≡ false) → tally c m ≡ tally c n + 1
 unfolding tally
 tally-point c n x zero h l t e = absurd (omega arith)
 tally-point c n x (suc m) h l t e = go (decLt x m) (λ q. tally-point c n x m h q t e)
@@ -90,6 +90,16 @@ tally-point c n x (suc m) h l t e = go (decLt x m) (λ q. tally-point c n x m h 
         let r = none m (omega arith) in
         let s = none n h in
         omega arith
+
+-- what passes one test passes the other
+pub tally-le : (p q : ℕ → Bool) (n : ℕ) → ((a : ℕ) → p a ≡ true → q a ≡ true) → tally p n ≤ tally q n
+unfolding tally
+tally-le p q zero h = omega arith
+tally-le p q (suc n) h = (let ih = tally-le p q n h in let t = at (p n) (q n) (h n) in omega arith)
+  where
+    at : (x y : Bool) → (x ≡ true → y ≡ true) → one x ≤ one y
+    at true y f = (let e = ap one (f refl) in omega arith)
+    at false y f = omega arith
 
 tally-none : (n : ℕ) → tally (λ a. false) n ≡ 0
 unfolding tally

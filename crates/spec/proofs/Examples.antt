@@ -1,4 +1,4 @@
--- Document 01's examples P1 to P10, as entries of one table about the definitions; each is computed.
+-- Document 01's examples P1 to P10, and how far one index moved a count, as entries of one table about the definitions; each is computed.
 use Prim.Native.Nat.{ℕ}
 use mathlib.Core.Path.{_≡_, refl}
 use mathlib.Core.List.{List, [], _∷_, _++_}
@@ -65,7 +65,17 @@ P9 = Planned (row 2 2 124 4 0x10 4 0 (0 ∷ 0 ∷ 0 ∷ 0 ∷ []))
 abbrev pub P10 : Type 0
 P10 = let s = resolved (record { tau = 0; k = 0; w = 0; t = 0 }) in (s ≡ faest128s) × (leaves s ≡ 22528) × (leafOf s 10 2047 ≡ 45054)
 
-pub table : P1 × P2 × P3 × P4 × P5 × P6 × P7 × P8 × P9 × P10
+-- P3 and P4 differ in the hidden index of vector 1 only: with L 8, the counts 2 and 4
+abbrev pub OneIndex : Type 0
+OneIndex =
+    let s : Shape = record { tau = 2; k = 2; w = 124; t = 4 } in
+    (leaves s ≡ 8)
+    × (hiddenIndex s (0x00 ∷ zeros 15) 0 ≡ 0) × (hiddenIndex s (0x00 ∷ zeros 15) 1 ≡ 0)
+    × (hiddenIndex s (0x0c ∷ zeros 15) 0 ≡ 0) × (hiddenIndex s (0x0c ∷ zeros 15) 1 ≡ 3)
+    × (plannedCount s (0x00 ∷ zeros 15) ≡ 2)
+    × (plannedCount s (0x0c ∷ zeros 15) ≡ 4)
+
+pub table : P1 × P2 × P3 × P4 × P5 × P6 × P7 × P8 × P9 × P10 × OneIndex
 unfolding challengeOf Planned row tabulate zeros allZero number parent isAncestorWithin isAncestor some covered siblingToReveal revealedFrom revealed nodeCount bitAt bitsAt indexAt clearAt faest128s resolved level challengeBytes depthOf firstBit firstEntry leaves leafOf shapeOk hiddenIndex hiddenLeaf hiddenLeaves grindingOk planned plannedCount countWith nodesOk planNumber
 table = (
   (refl, refl, refl),
@@ -78,6 +88,7 @@ table = (
   (refl, refl, refl),
   (refl, refl, refl),
   (refl, refl, refl),
+  (refl, refl, refl, refl, refl, refl, refl),
 )
 
 -- ---- the hidden indices of the default, most of which begin and end inside a byte; reference/tests derives them too

@@ -5,3 +5,4 @@ pub mod Reconstruction
 pub mod Demand3
 pub mod PlanningExamples
 pub mod Fewest
+pub mod OneIndex

@@ -1,5 +1,6 @@
--- E9 of document 02: no opening needs fewer nodes than the planned ones. ../proofs/Fewest.antt proves it.
-use Prim.Native.Nat.{ℕ, _+_, _*_, _≤_, _<_}
+-- E9 and E11 of document 02: no opening needs fewer nodes than the planned ones, and how far one hidden index moves their count. ../proofs/Fewest.antt and
+-- ../proofs/OneIndex.antt prove them.
+use Prim.Native.Nat.{ℕ, _+_, _-_, _*_, _^_, _≤_, _<_}
 use mathlib.Core.Path.{_≡_}
 use mathlib.Core.Bool.{true, not}
 use mathlib.Core.List.{List}
@@ -7,7 +8,7 @@ use lib.Dec.{eqb}
 use lib.ListN.{length}
 use Rattle.spec.specs.declared.Shape.{Shape}
 use Rattle.spec.specs.Tree.{isAncestor, some, revealed}
-use Rattle.spec.specs.Shapes.{resolved, shapeOk, leaves, hiddenLeaves, planned}
+use Rattle.spec.specs.Shapes.{resolved, shapeOk, leaves, hiddenIndex, hiddenLeaves, planned, plannedCount}
 use Rattle.planning_laws.specs.Lists.{Leaves, WithoutDuplicates}
 
 -- leaf y is beneath one of the nodes, a leaf being beneath itself, exactly if it is not hidden
@@ -32,3 +33,23 @@ pub record NoSmallerOpening : Type 0 where
       (s : Shape) (ch : List ℕ)
       → shapeOk (resolved s) ≡ true
       → Fewest (leaves (resolved s)) (hiddenLeaves (resolved s) ch) (planned (resolved s) ch)
+
+-- D is the least number with 2^D at or above L
+pub record LeastPower (L D : ℕ) : Type 0 where
+  pub reaches : L ≤ 2 ^ D
+  pub least : (d : ℕ) → L ≤ 2 ^ d → D ≤ d
+
+-- m and n differ by at most d
+abbrev pub Within : ℕ → ℕ → ℕ → Type 0
+Within d m n = (m ≤ n + d) × (n ≤ m + d)
+
+-- E11: two challenges of one shape that agree in every hidden index but that of vector v, whatever their grinding bits; and that D exists
+pub record OneIndexMoves : Type 0 where
+  pub moves :
+      (s : Shape) (ch ch′ : List ℕ) (v D : ℕ)
+      → shapeOk (resolved s) ≡ true
+      → v < resolved s .tau
+      → ((i : ℕ) → i < resolved s .tau → (i ≡ v → ⊥) → hiddenIndex (resolved s) ch i ≡ hiddenIndex (resolved s) ch′ i)
+      → LeastPower (leaves (resolved s)) D
+      → Within (D - 1) (plannedCount (resolved s) ch) (plannedCount (resolved s) ch′)
+  pub least-power : (L : ℕ) → (D : ℕ) × LeastPower L D
