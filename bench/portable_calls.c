@@ -1,19 +1,7 @@
 /* commit, open and reconstruct in portable C, by the methods of the proved crates. The shape is good, and every buffer has its length. */
 #include "portable.h"
+#include "portable_shape.h"
 #include <string.h>
-
-static unsigned bit(const uint8_t *ch, size_t b)
-{
-    return ch[b / 8] >> (b % 8) & 1;
-}
-
-static size_t hidden_index(const size_t shape[4], const uint8_t *ch, size_t i)
-{
-    size_t j = 0;
-    for (size_t b = 0; b < shape[1]; b++)
-        j |= (size_t)bit(ch, i * shape[1] + b) << b;
-    return j;
-}
 
 /* ---- the leaf hash: six limbs of 64 bits, windows of 4 bits */
 
@@ -109,16 +97,16 @@ void c_add_row(const uint8_t seed[16], const uint8_t iv[16], uint32_t tweak, siz
 static void add_entries(const size_t shape[4], size_t i, size_t hidden, size_t mask, size_t b, const uint8_t iv[16], const uint8_t key[48],
                         const uint8_t *tree, uint8_t *lcs, uint8_t *total, uint8_t *cols)
 {
-    const size_t tau = shape[0], entries = (size_t)1 << shape[1], leaves = tau * entries;
+    const size_t depth = depth_of(shape, i), leaves = leaf_count(shape);
     uint64_t m[16][6];
     c_multiples(key, m);
-    for (size_t e = 0; e < entries; e++) {
+    for (size_t e = 0; e >> depth == 0; e++) {
         uint8_t stretched[64];
         if (e == hidden)
             continue;
-        c_fill(tree + 16 * (leaves - 1 + tau * e + i), iv, (uint32_t)(i + leaves - 1), stretched, 64);
+        c_fill(tree + 16 * leaf_of(shape, i, e), iv, (uint32_t)(i + leaves - 1), stretched, 64);
         c_leaf_hash(m, stretched, lcs + 48 * e);
-        c_add_row(stretched, iv, (uint32_t)i + 0x80000000u, b, shape[1], e ^ mask, total, cols);
+        c_add_row(stretched, iv, (uint32_t)i + 0x80000000u, b, depth, e ^ mask, total, cols);
     }
 }
 
@@ -126,7 +114,7 @@ static void add_entries(const size_t shape[4], size_t i, size_t hidden, size_t m
 
 void c_grow(const size_t shape[4], const uint8_t root[16], const uint8_t iv[16], uint8_t *tree)
 {
-    const size_t leaves = shape[0] << shape[1];
+    const size_t leaves = leaf_count(shape);
     memcpy(tree, root, 16);
     for (size_t a = 0; a < leaves - 1; a++)
         c_fill(tree + 16 * a, iv, (uint32_t)a, tree + 32 * a + 16, 32);
@@ -135,7 +123,7 @@ void c_grow(const size_t shape[4], const uint8_t root[16], const uint8_t iv[16],
 void c_commit(const size_t shape[4], size_t b, const uint8_t root[16], const uint8_t iv[16], uint8_t commitment[32], uint8_t *tree, uint8_t *lcs,
               uint8_t *u, uint8_t *v, uint8_t *corrections)
 {
-    const size_t tau = shape[0], k = shape[1], entries = (size_t)1 << k;
+    const size_t tau = shape[0];
     uint8_t keys[32 * 48], hashes[32 * 32];
     c_shake(iv, 16, 0, keys, 48 * tau);
     c_grow(shape, root, iv, tree);
@@ -145,8 +133,10 @@ void c_commit(const size_t shape[4], size_t b, const uint8_t root[16], const uin
         uint8_t *total = i == 0 ? u : corrections + b * (i - 1);
         if (i > 0)
             memcpy(total, u, b);
-        add_entries(shape, i, entries, 0, b, iv, keys + 48 * i, tree, lcs + 48 * entries * i, total, v + b * k * i);
-        c_shake(lcs + 48 * entries * i, 48 * entries, 1, hashes + 32 * i, 32);
+        const size_t entries = (size_t)1 << depth_of(shape, i);
+        uint8_t *own = lcs + 48 * first_entry(shape, i);
+        add_entries(shape, i, entries, 0, b, iv, keys + 48 * i, tree, own, total, v + b * first_bit(shape, i));
+        c_shake(own, 48 * entries, 1, hashes + 32 * i, 32);
     }
     c_shake(hashes, 32 * tau, 1, commitment, 32);
 }
@@ -154,13 +144,13 @@ void c_commit(const size_t shape[4], size_t b, const uint8_t root[16], const uin
 /* the node count, or 0 where a grinding bit is set; with 0, or more than the shape allows, nothing is written */
 size_t c_open(const size_t shape[4], const uint8_t ch[16], const uint8_t *tree, const uint8_t *lcs, uint8_t *opening)
 {
-    const size_t tau = shape[0], entries = (size_t)1 << shape[1];
+    const size_t tau = shape[0];
     uint32_t nodes[512];
     size_t n = c_plan(shape, ch, nodes);
     if (n == 0 || n > shape[3])
         return n;
     for (size_t i = 0; i < tau; i++)
-        memcpy(opening + 48 * i, lcs + 48 * (entries * i + hidden_index(shape, ch, i)), 48);
+        memcpy(opening + 48 * i, lcs + 48 * (first_entry(shape, i) + hidden_index(shape, ch, i)), 48);
     opening += 48 * tau;
     for (size_t m = 0; m < n; m++)
         memcpy(opening + 16 * m, tree + 16 * nodes[m], 16);
@@ -172,7 +162,7 @@ size_t c_open(const size_t shape[4], const uint8_t ch[16], const uint8_t *tree, 
 size_t c_reconstruct(const size_t shape[4], size_t b, const uint8_t iv[16], const uint8_t ch[16], const uint8_t *corrections, const uint8_t *opening,
                      uint8_t commitment[32], uint8_t *tree, uint8_t *lcs, uint8_t *q)
 {
-    const size_t tau = shape[0], k = shape[1], entries = (size_t)1 << k, leaves = tau << k;
+    const size_t tau = shape[0], leaves = leaf_count(shape);
     const uint8_t *slots = opening + 48 * tau;
     uint8_t keys[32 * 48], hashes[32 * 32], covered[2 * 10 * 4096] = {0};
     uint32_t nodes[512];
@@ -184,7 +174,7 @@ size_t c_reconstruct(const size_t shape[4], size_t b, const uint8_t iv[16], cons
             return 0;
     c_shake(iv, 16, 0, keys, 48 * tau);
     for (size_t i = 0; i < tau; i++)
-        covered[leaves - 1 + tau * hidden_index(shape, ch, i) + i] = 1;
+        covered[leaf_of(shape, i, hidden_index(shape, ch, i))] = 1;
     for (size_t a = leaves - 1; a-- > 0;)
         covered[a] = covered[2 * a + 1] | covered[2 * a + 2];
     memset(tree, 0, 16);
@@ -202,14 +192,14 @@ size_t c_reconstruct(const size_t shape[4], size_t b, const uint8_t iv[16], cons
     }
     memset(q, 0, 128 * b);
     for (size_t i = 0; i < tau; i++) {
-        const size_t hidden = hidden_index(shape, ch, i);
-        uint8_t *own = lcs + 48 * entries * i, *cols = q + b * k * i;
+        const size_t hidden = hidden_index(shape, ch, i), depth = depth_of(shape, i);
+        uint8_t *own = lcs + 48 * first_entry(shape, i), *cols = q + b * first_bit(shape, i);
         memcpy(own + 48 * hidden, opening + 48 * i, 48);
         add_entries(shape, i, hidden, hidden, b, iv, keys + 48 * i, tree, own, NULL, cols);
-        for (size_t j = 0; i > 0 && j < k; j++)
-            if (bit(ch, i * k + j))
+        for (size_t j = 0; i > 0 && j < depth; j++)
+            if (challenge_bit(ch, first_bit(shape, i) + j))
                 xor_bytes(cols + b * j, corrections + b * (i - 1), b);
-        c_shake(own, 48 * entries, 1, hashes + 32 * i, 32);
+        c_shake(own, (size_t)48 << depth, 1, hashes + 32 * i, 32);
     }
     c_shake(hashes, 32 * tau, 1, commitment, 32);
     return n;

@@ -1,4 +1,4 @@
-/* Times the proved functions beside portable C: the same work in turn, the least of many short runs of each, and whether the results agree. */
+/* Times the proved primitives, plan and the tree beside portable C: the same work in turn, the least of many short runs of each, and whether the results agree. */
 #include "portable.h"
 #include <stdio.h>
 #include <string.h>
@@ -9,26 +9,19 @@ enum { TAU = 11, DEPTH = 11, ALLOWED = 102, LEAVES = TAU << DEPTH, BITS = 1680, 
 #define SHAPE TAU, DEPTH, 128 - TAU * DEPTH, ALLOWED
 static const size_t shape[4] = {SHAPE};
 
-static uint8_t table[256], key[16], iv[16], message[98304], challenge[16], clear[16], accepted[16];
+static uint8_t table[256], key[16], iv[16], message[98304], challenge[16], clear[16];
 static uint64_t multiples[16][6];
 /* what each side worked on last: index 0 the C, index 1 the Rattle */
 static uint8_t block[2][16], node[2][32], row[2][224], hash[2][32], keys[2][528], only_tree[2][32 * LEAVES - 16];
 static uint64_t state[2][25];
 static uint32_t nodes[2][ALLOWED], few[2][ALLOWED];
-static size_t count[2], few_count[2], opened[2], reconstructed[2], number[2];
+static size_t count[2], few_count[2], number[2];
 static struct {
     uint8_t stretched[64], commitment[48];
 } leaf[2];
 static struct {
     uint8_t total[ROW], columns[DEPTH * ROW];
 } added[2];
-static struct {
-    uint8_t commitment[32], tree[32 * LEAVES - 16], leaf_commitments[48 * LEAVES], u[ROW], v[128 * ROW], corrections[(TAU - 1) * ROW];
-} made[2];
-static uint8_t opening[2][48 * TAU + 16 * ALLOWED];
-static struct {
-    uint8_t commitment[32], tree[32 * LEAVES - 16], leaf_commitments[48 * LEAVES], q[128 * ROW];
-} again[2];
 
 static void block_c(void) { uint8_t k[16]; memcpy(k, block[0], 16); c_schedule_and_block(k, block[0]); }
 static void block_rattle(void) { uint8_t k[16]; memcpy(k, block[1], 16); rattle_schedule_and_block(table, k, block[1]); }
@@ -71,33 +64,6 @@ static void add_rattle(void)
 
 static void tree_c(void) { c_grow(shape, key, iv, only_tree[0]); }
 static void tree_rattle(void) { rattle_grow(table, key, 16, iv, LEAVES, only_tree[1], sizeof only_tree[1]); }
-static void commit_c(void)
-{
-    c_commit(shape, ROW, key, iv, made[0].commitment, made[0].tree, made[0].leaf_commitments, made[0].u, made[0].v, made[0].corrections);
-}
-static void commit_rattle(void)
-{
-    rattle_commit(SHAPE, BITS, key, 16, iv, 16, made[1].commitment, sizeof made[1].commitment, made[1].tree, sizeof made[1].tree,
-                  made[1].leaf_commitments, sizeof made[1].leaf_commitments, made[1].u, sizeof made[1].u, made[1].v, sizeof made[1].v,
-                  made[1].corrections, sizeof made[1].corrections);
-}
-static void open_c(void) { opened[0] = c_open(shape, accepted, made[0].tree, made[0].leaf_commitments, opening[0]); }
-static void open_rattle(void)
-{
-    opened[1] = rattle_open(SHAPE, accepted, 16, made[1].tree, sizeof made[1].tree, made[1].leaf_commitments, sizeof made[1].leaf_commitments, opening[1],
-                            sizeof opening[1]);
-}
-static void reconstruct_c(void)
-{
-    reconstructed[0] = c_reconstruct(shape, ROW, iv, accepted, made[0].corrections, opening[0], again[0].commitment, again[0].tree,
-                                     again[0].leaf_commitments, again[0].q);
-}
-static void reconstruct_rattle(void)
-{
-    reconstructed[1] = rattle_reconstruct(SHAPE, BITS, iv, 16, accepted, 16, made[1].corrections, sizeof made[1].corrections, opening[1], sizeof opening[1],
-                                          again[1].commitment, sizeof again[1].commitment, again[1].tree, sizeof again[1].tree,
-                                          again[1].leaf_commitments, sizeof again[1].leaf_commitments, again[1].q, sizeof again[1].q);
-}
 
 static const struct work {
     const char *name;
@@ -117,11 +83,8 @@ static const struct work {
     {"H1, 98,304 to 32 bytes", h1_c, h1_rattle, 1, {hash[0], hash[1]}, 32, ""},
     {"plan, refused with 5", plan_c, plan_rattle, 20, {nodes[0], nodes[1]}, sizeof nodes[0], "1.5"},
     {"plan, all hidden indices 0", few_c, few_rattle, 20, {few[0], few[1]}, sizeof few[0], "1.5"},
-}, calls[] = {
+}, large[] = {
     {"the tree", tree_c, tree_rattle, 1, {only_tree[0], only_tree[1]}, sizeof only_tree[0], ""},
-    {"commit", commit_c, commit_rattle, 1, {&made[0], &made[1]}, sizeof made[0], "0.65"},
-    {"open", open_c, open_rattle, 20, {opening[0], opening[1]}, sizeof opening[0], "100 us"},
-    {"reconstruct", reconstruct_c, reconstruct_rattle, 1, {&again[0], &again[1]}, sizeof again[0], "0.65"},
 };
 
 static double nanoseconds(clockid_t clock, void (*work)(void), int times)
@@ -170,7 +133,6 @@ static int measure(clockid_t clock, const struct work *all, int n, int runs)
 
 int main(void)
 {
-    uint32_t list[ALLOWED];
     int wrong;
     for (size_t i = 0; i < sizeof message; i++)
         message[i] = (uint8_t)(i * 7 + i / 251);
@@ -183,25 +145,12 @@ int main(void)
     }
     for (int i = 0; i < 64; i++)
         leaf[0].stretched[i] = leaf[1].stretched[i] = (uint8_t)(37 * i + 1);
-    /* the two sides begin with other bytes */
-    memset(&made[0], 0x55, sizeof made[0]);
-    memset(opening[0], 0x55, sizeof opening[0]);
-    memset(&again[0], 0x55, sizeof again[0]);
     rattle_table(table);
     rattle_multiples(message + 100, multiples);
-    /* the first challenge of a list that is accepted: parts of the message, the grinding bits cleared */
-    for (size_t n = 0, c = ALLOWED + 1; c > ALLOWED; n++) {
-        memcpy(accepted, message + 1009 * n, 16);
-        accepted[15] &= 1;
-        c = c_plan(shape, accepted, list);
-    }
-    /* a call is longer than what the system gives a process at a time: its time is that of the processor */
     wrong = measure(CLOCK_MONOTONIC, parts, sizeof parts / sizeof parts[0], 3000);
-    wrong |= measure(CLOCK_PROCESS_CPUTIME_ID, calls, sizeof calls / sizeof calls[0], 25);
-    if (count[0] != count[1] || few_count[0] != few_count[1] || opened[0] != opened[1] || reconstructed[0] != reconstructed[1])
+    wrong |= measure(CLOCK_PROCESS_CPUTIME_ID, large, sizeof large / sizeof large[0], 25);
+    if (count[0] != count[1] || few_count[0] != few_count[1])
         wrong = printf("COUNTS DIFFER\n");
-    if (memcmp(made[1].commitment, again[1].commitment, 32))
-        wrong = printf("THE RECONSTRUCTED COMMITMENT IS ANOTHER\n");
-    printf("nodes planned: %zu and %zu; nodes opened: %zu\n", count[0], few_count[0], opened[0]);
+    printf("nodes planned: %zu and %zu\n", count[0], few_count[0]);
     return wrong != 0;
 }

@@ -7,6 +7,7 @@
 The cases are the calls of these forms in crates/vectors/src/main.rt, whose first lines say what they mean:
 
     case(TAU, K, T, ROWBITS, ROOTIV, CHALLENGE, CHALLENGE)     commit, open, reconstruct
+    uneven(TAU, K, W, T, ROWBITS, ROOTIV, CHALLENGE, CHALLENGE)  the same
     refused_shape(TAU, K, W, T, ROWBITS)                       the same
     flipped(TAU, K, T, ROWBITS, FLIP)                          the same
     probe_commit(..), probe_open(..), probe_reconstruct(..)    the command of this name
@@ -27,14 +28,14 @@ CRATES = HERE.parent / 'crates'
 STORED = CRATES / 'vectors' / 'stdout'
 SOURCE = re.sub(r'//[^\n]*', '', (CRATES / 'vectors' / 'src' / 'main.rt').read_text())
 INPUTS = (CRATES / 'vectors_calls' / 'src' / 'inputs.rt').read_text()
-LENGTHS = {'case': 7, 'refused_shape': 5, 'flipped': 5, 'probe_commit': 7, 'probe_open': 7, 'probe_reconstruct': 9,
+LENGTHS = {'case': 7, 'uneven': 8, 'refused_shape': 5, 'flipped': 5, 'probe_commit': 7, 'probe_open': 7, 'probe_reconstruct': 9,
            'decode': 6, 'plan': 6, 'probe_decode': 7, 'probe_plan': 7}
 
 
 def cases():
     """The form and the numbers of each case, in the order of the program."""
     for form, text in re.findall(r'\b(%s)\(([^)]*)\)' % '|'.join(LENGTHS), SOURCE):
-        found = [int(word, 0) for word in text.split(',')]
+        found = [int(word, 0) for word in text.rstrip(', \n').split(',')]
         if len(found) != LENGTHS[form]:
             sys.exit(f'derive_vectors: {form}({text}) has another form')
         yield form, found
@@ -54,13 +55,15 @@ def commands(form, case):
     if form in ('decode', 'plan'):
         return [[form, *map(str, case[:4]), words(*case[4:])]]
     known, challenge, flip = 13, (0, 0), []
-    if form == 'refused_shape':
-        tau, k, w, t, row_bits = case
+    if form in ('refused_shape', 'uneven'):
+        tau, k, w, t, row_bits = case[:5]
     else:
         tau, k, t, row_bits = case[:4]
         w = 128 - tau * k if tau else 0
     if form == 'case':
         known, challenge = case[4], case[5:]
+    if form == 'uneven':
+        known, challenge = case[5], case[6:]
     if form == 'flipped':
         flip = [str(case[4])]
     signer = [*map(str, (tau, k, w, t, row_bits)), NUMBERED[known // 10], NUMBERED[known % 10]]

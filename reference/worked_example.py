@@ -17,10 +17,13 @@ from pathlib import Path
 EXAMPLES = {
     'WorkedExample': (3, 2, 122, 7, 2, [0x1E]),
     'LongRowsExample': (3, 3, 119, 9, 18, [0x5E, 0x01]),
+    'UnevenExample': (3, 1, 123, 6, 2, [0x16]),
 }
 TAU, K, W, T, B, FIRST = EXAMPLES[Path(sys.argv[1]).stem]
-N = 1 << K
-L = TAU * N
+TAU_1 = 128 - W - TAU * K
+DEPTHS = [K + (i < TAU_1) for i in range(TAU)]
+N = [1 << depth for depth in DEPTHS]
+L = sum(N)
 ROOT = [(7 * i + 1) % 256 for i in range(16)]
 IV = [(11 * i + 3) % 256 for i in range(16)]
 CHALLENGE = FIRST + [0] * (16 - len(FIRST))
@@ -61,12 +64,13 @@ def xor(a, b):
 
 
 def pos_in_tree(i, j):
-    return L - 1 + TAU * j + i
+    common = 1 << K
+    return L - 1 + (TAU * j + i if j < common else TAU * common + TAU_1 * (j - common) + i)
 
 
 def hidden_indices():
     bits = [CHALLENGE[b // 8] >> b % 8 & 1 for b in range(128)]
-    return [sum(bits[i * K + j] << j for j in range(K)) for i in range(TAU)]
+    return [sum(bits[sum(DEPTHS[:i]) + j] << j for j in range(DEPTHS[i])) for i in range(TAU)]
 
 
 def leaf_commit(key, i):
@@ -96,7 +100,7 @@ def commit():
     for a in range(L - 1):
         both = prg(nodes[a], a, 32)
         nodes[2 * a + 1], nodes[2 * a + 2] = both[:16], both[16:]
-    leaves = [[leaf_commit(nodes[pos_in_tree(i, j)], i) for j in range(N)] for i in range(TAU)]
+    leaves = [[leaf_commit(nodes[pos_in_tree(i, j)], i) for j in range(N[i])] for i in range(TAU)]
     coms = [[com for _, com in vector] for vector in leaves]
     voles = [convert_to_vole([seed for seed, _ in vector], i) for i, vector in enumerate(leaves)]
     return {
@@ -125,7 +129,7 @@ def marked():
 def opened(tree, coms):
     out = []
     for i, delta in enumerate(hidden_indices()):
-        at = 48 * (N * i + delta)
+        at = 48 * (sum(N[:i]) + delta)
         out += coms[at:at + 48]
     for a in marked()[1]:
         out += tree[16 * a:16 * a + 16]
@@ -143,9 +147,9 @@ def reconstruct(opening, corrections):
             nodes[2 * a + 1], nodes[2 * a + 2] = both[:16], both[16:]
     coms, q = [], []
     for i, delta in enumerate(hidden_indices()):
-        leaves = [leaf_commit(nodes[pos_in_tree(i, j)], i) for j in range(N)]
-        coms.append([opening[48 * i:48 * i + 48] if j == delta else leaves[j][1] for j in range(N)])
-        permuted = [None] + [leaves[e ^ delta][0] for e in range(1, N)]
+        leaves = [leaf_commit(nodes[pos_in_tree(i, j)], i) for j in range(N[i])]
+        coms.append([opening[48 * i:48 * i + 48] if j == delta else leaves[j][1] for j in range(N[i])])
+        permuted = [None] + [leaves[e ^ delta][0] for e in range(1, N[i])]
         _, columns = convert_to_vole(permuted, i)
         if i > 0:
             c = corrections[B * (i - 1):B * i]

@@ -21,9 +21,15 @@ pub enum Bottom {
     UnusedSlotNotZero,
 }
 
-/// Figure 5.2: BAVC.PosInTree, the leaf of entry j of vector i.
+/// Figure 5.2: BAVC.PosInTree, the leaf of entry j of vector i. The entries that
+/// all vectors have come first, interleaved, then those of the deeper vectors.
 pub fn pos_in_tree(shape: &Shape, i: usize, j: usize) -> usize {
-    shape.leaves() - 1 + shape.tau * j + i
+    let common = 1 << shape.k;
+    let place = match j < common {
+        true => shape.tau * j + i,
+        false => shape.tau * common + shape.tau_1() * (j - common) + i,
+    };
+    shape.leaves() - 1 + place
 }
 
 /// Figure 5.3: FAEST.LeafHash, h = u x_0 + x_1 in the field of 2^384 elements.
@@ -68,7 +74,7 @@ fn commit_leaves(
     for i in 0..shape.tau {
         let twk = (i + shape.leaves() - 1) as u32;
         let (mut coms_i, mut seeds_i) = (Vec::new(), Vec::new());
-        for j in 0..shape.entries() {
+        for j in 0..shape.entries(i) {
             let (seed, com) = match &nodes[pos_in_tree(shape, i, j)] {
                 Some(node) => {
                     let (seed, com) = leaf_commit(node, iv, twk, &uhash[i]);
@@ -140,7 +146,7 @@ pub fn revealed_nodes(shape: &Shape, hidden: &[usize]) -> Vec<usize> {
 pub fn open(shape: &Shape, tree: &[u8], leaf_coms: &[u8], hidden: &[usize]) -> Option<Vec<u8>> {
     let mut decom = Vec::new();
     for (i, &delta) in hidden.iter().enumerate() {
-        let at = 48 * (shape.entries() * i + delta);
+        let at = 48 * (shape.entries_before(i) + delta);
         decom.extend(&leaf_coms[at..at + 48]);
     }
     if node_count(shape, hidden) > shape.t {

@@ -1,11 +1,13 @@
 //! Shapes, row lengths and challenges: document 01 for the limits, table 5.1
 //! and section 5.5.1 of document 000 for what they mean.
 
+use std::ops::Range;
+
 use crate::Block;
 
-/// A shape as a caller gives it: τ vectors of depth k, grinding width w, node
-/// allowance T. Document 000 calls this k the smaller depth, k - 1, and has
-/// τ_1 = 0.
+/// A shape as a caller gives it: τ vectors, the first τ_1 of depth k + 1 and
+/// the others of depth k, grinding width w, node allowance T. Document 000
+/// calls this k the smaller depth, k - 1.
 #[derive(Clone, Copy, Debug, PartialEq, Eq)]
 pub struct Shape {
     pub tau: usize,
@@ -32,17 +34,32 @@ impl Shape {
             && (1..=12).contains(&self.k)
             && (0..=127).contains(&self.w)
             && (1..=512).contains(&self.t);
-        (in_range && self.tau * self.k + self.w == 128).then_some(self)
+        (in_range && self.k == (128 - self.w) / self.tau && self.depth(0) <= 12).then_some(self)
     }
 
-    /// Table 5.1: N_i, the entries of a vector.
-    pub fn entries(&self) -> usize {
-        1 << self.k
+    /// Table 5.1: τ_1, the number of the deeper vectors.
+    pub fn tau_1(&self) -> usize {
+        (128 - self.w) % self.tau
+    }
+
+    /// The depth of vector i: k or k - 1 of document 000.
+    pub fn depth(&self, i: usize) -> usize {
+        self.k + usize::from(i < self.tau_1())
+    }
+
+    /// Table 5.1: N_i, the entries of vector i.
+    pub fn entries(&self, i: usize) -> usize {
+        1 << self.depth(i)
+    }
+
+    /// The entries of the vectors before vector i.
+    pub fn entries_before(&self, i: usize) -> usize {
+        (0..i).map(|i| self.entries(i)).sum()
     }
 
     /// Table 5.1: L, the leaves of the tree.
     pub fn leaves(&self) -> usize {
-        self.tau * self.entries()
+        self.entries_before(self.tau)
     }
 
     /// The bytes of a tree of 2L - 1 nodes.
@@ -83,9 +100,19 @@ fn num_rec(bits: impl DoubleEndedIterator<Item = bool>) -> usize {
     bits.rev().fold(0, |sum, bit| 2 * sum + usize::from(bit))
 }
 
+/// Figure 5.7: DecodeChall_3, the bits of Δ_i.
+fn decode_chall(shape: &Shape, i: usize) -> Range<usize> {
+    let (tau_1, k) = (shape.tau_1(), shape.k + 1);
+    if i < tau_1 {
+        return i * k..(i + 1) * k;
+    }
+    let t = i - tau_1;
+    tau_1 * k + t * (k - 1)..tau_1 * k + (t + 1) * (k - 1)
+}
+
 /// Figure 5.7: DecodeAllChall_3, the hidden indices Δ_0 to Δ_(τ-1).
 pub fn decode_all_chall(shape: &Shape, challenge: &Block) -> Vec<usize> {
     (0..shape.tau)
-        .map(|i| num_rec((i * shape.k..(i + 1) * shape.k).map(|n| challenge_bit(challenge, n))))
+        .map(|i| num_rec(decode_chall(shape, i).map(|n| challenge_bit(challenge, n))))
         .collect()
 }

@@ -3,9 +3,9 @@
 
 Nothing here comes from src/: SHAKE128 is hashlib's, AES is that of the Python
 package `cryptography`, field elements are Python integers, and what is computed
-follows the definitions of document 01 word by word (a node is covered if it has
-a hidden leaf beneath it; column j is the xor of the rows whose entry has bit j
-set) and not the procedures of document 000's figures.
+follows the definitions of documents 01 and 02 word by word (a node is covered if
+it has a hidden leaf beneath it; column j is the xor of the rows whose entry has
+bit j set) and not the procedures of document 000's figures.
 
 usage: python3 tests/derive.py > tests/known_answers.txt
 """
@@ -48,15 +48,24 @@ class Shape:
         if (tau, k, w, t) == (0, 0, 0, 0):
             tau, k, w, t = 11, 11, 7, 102
         self.tau, self.k, self.w, self.t = tau, k, w, t
-        self.leaves = tau * 2**k
+        self.r = 128 - w - tau * k
+        self.depths = [k + 1 if i < self.r else k for i in range(tau)]
+        self.leaves = (tau + self.r) * 2**k
         self.nodes = 2 * self.leaves - 1
 
     def leaf(self, i, j):
-        return self.leaves - 1 + self.tau * j + i
+        near = 2**self.k
+        if j < near:
+            return self.leaves - 1 + self.tau * j + i
+        return self.leaves - 1 + self.tau * near + self.r * (j - near) + i
 
     def indices(self, challenge):
         number = int.from_bytes(challenge, "little")
-        return [number >> (i * self.k) & (2**self.k - 1) for i in range(self.tau)]
+        indices = []
+        for depth in self.depths:
+            indices.append(number % 2**depth)
+            number >>= depth
+        return indices
 
     def covered(self, challenge):
         """The hidden leaves and every node above one."""
@@ -96,7 +105,7 @@ class Signer:
         for i in range(s.tau):
             key = int.from_bytes(keys[48 * i : 48 * i + 48], "little")
             coms, rows = [], []
-            for j in range(2**s.k):
+            for j in range(2 ** s.depths[i]):
                 out = generator(self.tree[s.leaf(i, j)], iv, i + s.leaves - 1, 64)
                 high = times(key, int.from_bytes(out[:16], "little"))
                 coms.append(xor(high.to_bytes(48, "little"), out[16:]))
@@ -117,8 +126,8 @@ class Signer:
         s = self.shape
         us = [self.sum(rows) for rows in self.rows]
         v = b""
-        for rows in self.rows:
-            for bit in range(s.k):
+        for depth, rows in zip(s.depths, self.rows):
+            for bit in range(depth):
                 v += self.sum(r for e, r in enumerate(rows) if e >> bit & 1)
         return [
             ("commitment", self.commitment),
@@ -144,7 +153,7 @@ class Signer:
         us = [self.sum(rows) for rows in self.rows]
         q = b""
         for i, hidden in enumerate(s.indices(challenge)):
-            for bit in range(s.k):
+            for bit in range(s.depths[i]):
                 rows = self.rows[i]
                 column = self.sum(
                     r for e, r in enumerate(rows) if (e ^ hidden) >> bit & 1
@@ -204,6 +213,10 @@ CASES = [
     ((16, 8, 0, 120), 72, None),
     ((0, 0, 0, 0), 1680, None),
     ((10, 12, 8, 110), 8, "ff" * 16),
+    ((2, 1, 125, 4), 128, None),
+    ((3, 1, 123, 6), 24, "ff" * 16),
+    ((32, 3, 1, 512), 72, None),
+    ((16, 7, 8, 110), 1680, None),
 ]
 
 

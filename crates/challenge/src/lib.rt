@@ -49,7 +49,8 @@ pub fn grinding_ok(s: Shape, ch: &[u8]) -> bool
     requires { ⌜ (shapeOk s ≡ true) × (length (now ch) ≡ 16) ⌝ }
     ensures { λ r. ⌜ r ≡ grindingOk s (now (ch .entry)) ⌝ }
 {
-    clear(ch, s.tau * s.k, s.w)
+    let n = s.tau;
+    clear(ch, rules::first_bit(s, n), s.w)
 }
 
 // The hidden index of vector i.
@@ -57,7 +58,7 @@ pub fn hidden_index(s: Shape, ch: &[u8], i: usize) -> usize
     requires { ⌜ (shapeOk s ≡ true) × (length (now ch) ≡ 16) × (i < s .tau) ⌝ }
     ensures { λ r. ⌜ (r ≡ hiddenIndex s (now (ch .entry)) i) × (r < entriesOf s i) × (r < 4096) ⌝ }
 {
-    index(ch, i * s.k, s.k)
+    index(ch, rules::first_bit(s, i), rules::depth_of(s, i))
 }
 
 // The hidden leaf of vector i.

@@ -1,35 +1,29 @@
--- The hidden leaves of a shape and a challenge are leaves of its tree, one for each vector, and distinct: leaf numbers of different vectors differ modulo
--- tau. By induction on the vectors.
-use Prim.Native.Nat.{ℕ, zero, suc, _+_, _-_, _*_, _^_, _≤_, _<_}
+-- The hidden leaves of a shape and a challenge are leaves of its tree, one for each vector, and distinct, since no two entries have one leaf. By induction on
+-- the vectors.
+use Prim.Native.Nat.{ℕ, zero, suc, _+_, _*_, _≤_, _<_}
 use mathlib.Core.Path.{_≡_, refl, ap₂}
 use mathlib.Core.Bool.{false, _||_}
 use mathlib.Core.List.{List}
 use native.Mathlib.Omega.{arith}
-use native.Mathlib.Decide.{decLt}
 use lib.Dec.{eqb}
 use lib.ListN.{length}
 use borrow.Author.Tests.{ne-eqb}
 use Rattle.spec.specs.declared.Shape.{Shape}
 use Rattle.spec.specs.Bytes.{tabulate}
 use Rattle.spec.specs.Tree.{some}
-use Rattle.spec.specs.Shapes.{depthOf, firstBit, leaves, leafOf, hiddenIndex, hiddenLeaf, hiddenLeaves}
+use Rattle.spec.specs.Shapes.{depthOf, entriesOf, firstBit, leaves, leafOf, hiddenIndex, hiddenLeaf, hiddenLeaves}
 use Rattle.laws.proofs.Lists.{length-tabulate}
 use Rattle.planning_laws.specs.Lists.{Leaves, WithoutDuplicates}
 use Rattle.planning_laws.proofs.Bits.{index-lt}
-use Rattle.planning_laws.proofs.ShapeFacts.{interleaved-lt}
+use Rattle.planning_laws.proofs.Depths.{leaf-of-entry, leaf-one}
 
 pub hidden-count : (s : Shape) (ch : List ℕ) → length (hiddenLeaves s ch) ≡ s .tau
 unfolding hiddenLeaves
 hidden-count s ch = length-tabulate (s .tau) (hiddenLeaf s ch)
 
--- an entry of a vector is a leaf
-pub leaf-of-entry : (s : Shape) (i j : ℕ) → i < s .tau → j < 2 ^ s .k → (leaves s ≤ leafOf s i j + 1) × (leafOf s i j + 1 < 2 * leaves s)
-unfolding leafOf leaves
-leaf-of-entry s i j h l = (let q = interleaved-lt (s .tau) (2 ^ s .k) j i l h in (omega arith, omega arith))
-
-pub hidden-index-lt : (s : Shape) (ch : List ℕ) (i : ℕ) → hiddenIndex s ch i < 2 ^ s .k
-unfolding hiddenIndex depthOf
-hidden-index-lt s ch i = index-lt ch (firstBit s i) (s .k)
+pub hidden-index-lt : (s : Shape) (ch : List ℕ) (i : ℕ) → hiddenIndex s ch i < entriesOf s i
+unfolding hiddenIndex entriesOf
+hidden-index-lt s ch i = index-lt ch (firstBit s i) (depthOf s i)
 
 tabulated-leaves : (L : ℕ) (f : ℕ → ℕ) (n : ℕ) → ((i : ℕ) → i < n → (L ≤ f i + 1) × (f i + 1 < 2 * L)) → Leaves L (tabulate n f)
 unfolding tabulate
@@ -42,14 +36,6 @@ hidden-leaves s ch =
     tabulated-leaves (leaves s) (hiddenLeaf s ch) (s .tau) (λ i l. leaf-of-entry s i (hiddenIndex s ch i) l (hidden-index-lt s ch i))
 
 -- ---- distinct
-
-apart : (tau L b c j k : ℕ) → j < k → k < tau → L + tau * b + j ≡ L + tau * c + k → ⊥
-apart tau L b c j k h l e = go (decLt b c) (decLt c b)
-  where
-    go : Dec (b < c) → Dec (c < b) → ⊥
-    go (yes p) d = (let z = interleaved-lt tau c b j p (omega arith) in omega arith)
-    go (no p) (yes q) = (let z = interleaved-lt tau b c k q l in omega arith)
-    go (no p) (no q) = (let z : b ≡ c = omega arith in let w : L + tau * c + j ≡ L + tau * c + k = rw z at e in omega arith)
 
 absent : (f : ℕ → ℕ) (x n : ℕ) → ((i : ℕ) → i < n → x ≡ f i → ⊥) → some (eqb x) (tabulate n f) ≡ false
 unfolding tabulate some
@@ -65,7 +51,9 @@ distinct f (suc n) h = (
 )
 
 pub hidden-distinct : (s : Shape) (ch : List ℕ) → WithoutDuplicates (hiddenLeaves s ch)
-unfolding hiddenLeaves hiddenLeaf leafOf
+unfolding hiddenLeaves hiddenLeaf
 hidden-distinct s ch =
-    distinct (λ i. leaves s - 1 + s .tau * hiddenIndex s ch i + i) (s .tau)
-    (λ j k a b. apart (s .tau) (leaves s - 1) (hiddenIndex s ch j) (hiddenIndex s ch k) j k a b)
+    distinct (λ i. leafOf s i (hiddenIndex s ch i)) (s .tau)
+    (λ j k a b e.
+    let q = leaf-one s j (hiddenIndex s ch j) k (hiddenIndex s ch k) (omega arith) (hidden-index-lt s ch j) b (hidden-index-lt s ch k) e .0 in
+    omega arith)

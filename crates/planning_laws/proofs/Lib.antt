@@ -6,6 +6,7 @@ pub mod Count
 pub mod Rising
 pub mod Revealed
 pub mod Bits
+pub mod Depths
 pub mod ShapeFacts
 pub mod HiddenLeaves
 pub mod ExpandTree

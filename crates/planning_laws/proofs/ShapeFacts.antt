@@ -1,113 +1,158 @@
 -- The shape rules as facts, and the numbers that follow: a vector's bits lie in the challenge, its leaves in the tree, and no tree is large. By taking the
 -- conjunction of the rules apart.
 use Prim.Native.Nat.{ℕ, zero, suc, _+_, _-_, _*_, _^_, _≤_, _<_}
-use mathlib.Core.Path.{_≡_, refl, sym}
-use mathlib.Core.Bool.{Bool, true, false, _&&_, true≢false}
+use mathlib.Core.Path.{_≡_, refl, sym, ap, ap₂, _∙_}
+use mathlib.Core.Bool.{Bool, true, false, _&&_, _||_, true≢false}
 use native.Mathlib.Omega.{arith}
-use native.Mathlib.Nat.{mul-le-mul, le-refl, suc-mul, mul-suc}
-use lib.Dec.{eqb, leb}
+use native.Mathlib.Nat.{mul-le-mul}
+use native.Mathlib.Decide.{decLt}
+use lib.Dec.{eqb, leb, ltb}
 use lib.Pow.{pow-mono, pow-pos}
-use borrow.Author.Tests.{leb-true, eqb-true, le-leb}
+use borrow.Author.Tests.{leb-true, ltb-true, le-leb, lt-ltb, le-ltb, eq-eqb, ne-eqb}
 use Rattle.spec.specs.declared.Shape.{Shape}
-use Rattle.spec.specs.Shapes.{level, depthOf, entriesOf, firstBit, leaves, shapeOk}
+use Rattle.spec.specs.Shapes.{level, deeper, depthOf, entriesOf, firstBit, leaves, shapeOk}
 use Rattle.laws.proofs.Conjunctions.{refuted}
+use Rattle.laws.proofs.Stretches.{stretch-before}
+use Rattle.planning_laws.proofs.Depths.{depth-range, depth-deep, depth-flat, bit-next, leaves-split}
 
 pub record ShapeFacts (s : Shape) : Type 0 where
   pub tau-pos : 1 ≤ s .tau
   pub tau-max : s .tau ≤ 32
   pub k-pos : 1 ≤ s .k
   pub k-max : s .k ≤ 12
+  pub depth-max : depthOf s 0 ≤ 12
   pub w-max : s .w ≤ 127
   pub t-pos : 1 ≤ s .t
   pub t-max : s .t ≤ 512
-  pub total : s .tau * s .k + s .w ≡ 128
+  pub total : s .tau * s .k + deeper s + s .w ≡ 128
+  pub few : deeper s < s .tau
 
-all-eight : (a b c d e f g h : Bool) → (a && b && c && d && e && f && g && h) ≡ true
-    → (a ≡ true) × (b ≡ true) × (c ≡ true) × (d ≡ true) × (e ≡ true) × (f ≡ true) × (g ≡ true) × (h ≡ true)
-all-eight false b c d e f g h p = absurd (true≢false (sym p))
-all-eight true false c d e f g h p = absurd (true≢false (sym p))
-all-eight true true false d e f g h p = absurd (true≢false (sym p))
-all-eight true true true false e f g h p = absurd (true≢false (sym p))
-all-eight true true true true false f g h p = absurd (true≢false (sym p))
-all-eight true true true true true false g h p = absurd (true≢false (sym p))
-all-eight true true true true true true false h p = absurd (true≢false (sym p))
-all-eight true true true true true true true false p = absurd (true≢false (sym p))
-all-eight true true true true true true true true p = (refl, refl, refl, refl, refl, refl, refl, refl)
+all-nine : (a b c d e f g h i : Bool) → (a && b && c && d && e && f && g && h && i) ≡ true
+    → (a ≡ true) × (b ≡ true) × (c ≡ true) × (d ≡ true) × (e ≡ true) × (f ≡ true) × (g ≡ true) × (h ≡ true) × (i ≡ true)
+all-nine false b c d e f g h i p = absurd (true≢false (sym p))
+all-nine true false c d e f g h i p = absurd (true≢false (sym p))
+all-nine true true false d e f g h i p = absurd (true≢false (sym p))
+all-nine true true true false e f g h i p = absurd (true≢false (sym p))
+all-nine true true true true false f g h i p = absurd (true≢false (sym p))
+all-nine true true true true true false g h i p = absurd (true≢false (sym p))
+all-nine true true true true true true false h i p = absurd (true≢false (sym p))
+all-nine true true true true true true true false i p = absurd (true≢false (sym p))
+all-nine true true true true true true true true false p = absurd (true≢false (sym p))
+all-nine true true true true true true true true true p = (refl, refl, refl, refl, refl, refl, refl, refl, refl)
+
+pub deeper-is : (s : Shape) → deeper s ≡ 128 - s .w - s .tau * s .k
+unfolding deeper level
+deeper-is s = refl
 
 pub shape-facts : (s : Shape) → shapeOk s ≡ true → ShapeFacts s
 unfolding shapeOk level
 shape-facts s e =
     let q =
-    all-eight (leb 1 (s .tau)) (leb (s .tau) 32) (leb 1 (s .k)) (leb (s .k) 12) (leb (s .w) 127) (leb 1 (s .t)) (leb (s .t) 512)
-    (eqb (s .tau * s .k + s .w) 128) e in
+    all-nine (leb 1 (s .tau)) (leb (s .tau) 32) (leb 1 (s .k)) (leb (depthOf s 0) 12) (leb (s .w) 127) (leb 1 (s .t)) (leb (s .t) 512)
+    (leb (s .tau * s .k + s .w) 128) (ltb (deeper s) (s .tau)) e in
+    let depth : depthOf s 0 ≤ 12 = leb-true _ _ (q .3) in
+    let room : s .tau * s .k + s .w ≤ 128 = leb-true _ _ (q .7) in
     record {
       tau-pos = leb-true _ _ (q .0);
       tau-max = leb-true _ _ (q .1);
       k-pos = leb-true _ _ (q .2);
-      k-max = leb-true _ _ (q .3);
+      k-max = (let r = depth-range s 0 in omega arith);
+      depth-max = depth;
       w-max = leb-true _ _ (q .4);
       t-pos = leb-true _ _ (q .5);
       t-max = leb-true _ _ (q .6);
-      total = eqb-true _ _ (q .7);
+      total = (let d = deeper-is s in omega arith);
+      few = ltb-true _ _ (q .8);
     }
 
 pub shape-refused : (s : Shape) → (ShapeFacts s → ⊥) → false ≡ shapeOk s
 shape-refused s h = refuted (shapeOk s) (λ e. h (shape-facts s e))
 
--- with every limit kept, the sum decides
-pub shape-by-sum : (s : Shape) → 1 ≤ s .tau → s .tau ≤ 32 → 1 ≤ s .k → s .k ≤ 12 → s .w ≤ 127 → 1 ≤ s .t → s .t ≤ 512
-    → eqb (s .tau * s .k + s .w) 128 ≡ shapeOk s
+shape-accepted : (s : Shape) → 1 ≤ s .tau → s .tau ≤ 32 → 1 ≤ s .k → depthOf s 0 ≤ 12 → s .w ≤ 127 → 1 ≤ s .t → s .t ≤ 512 → s .tau * s .k + s .w ≤ 128
+    → deeper s < s .tau → true ≡ shapeOk s
 unfolding shapeOk level
-shape-by-sum s a b c d e f g =
+shape-accepted s a b c d e f g h i =
     simp (
       le-leb 1 (s .tau) a,
       le-leb (s .tau) 32 b,
       le-leb 1 (s .k) c,
-      le-leb (s .k) 12 d,
+      le-leb (depthOf s 0) 12 d,
       le-leb (s .w) 127 e,
       le-leb 1 (s .t) f,
       le-leb (s .t) 512 g,
+      le-leb (s .tau * s .k + s .w) 128 h,
+      lt-ltb (deeper s) (s .tau) i,
     )
+
+-- with every other limit kept, the depth of the deeper vectors decides
+pub shape-by-depth : (s : Shape) (r : ℕ) → 1 ≤ s .tau → s .tau ≤ 32 → 1 ≤ s .k → s .k ≤ 12 → s .w ≤ 127 → 1 ≤ s .t → s .t ≤ 512 → s .tau * s .k + s .w ≤ 128
+    → r ≡ deeper s → r < s .tau → (eqb r 0 || ltb (s .k) 12) ≡ shapeOk s
+shape-by-depth s r a b c d e f g h i j = go (decLt 0 r) (decLt (s .k) 12)
+  where
+    accepted : depthOf s 0 ≤ 12 → true ≡ shapeOk s
+    accepted l = shape-accepted s a b c l e f g h (omega arith)
+
+    go : Dec (0 < r) → Dec (s .k < 12) → (eqb r 0 || ltb (s .k) 12) ≡ shapeOk s
+    go (no p) q = ap (λ (x : Bool). x || ltb (s .k) 12) (eq-eqb r 0 (omega arith)) ∙ accepted (let z = depth-flat s 0 (omega arith) in omega arith)
+    go (yes p) (yes q) =
+        ap₂ _||_ (ne-eqb r 0 (λ z. omega arith)) (lt-ltb (s .k) 12 q) ∙ accepted (let z = depth-deep s 0 (omega arith) in omega arith)
+    go (yes p) (no q) =
+        ap₂ _||_ (ne-eqb r 0 (λ z. omega arith)) (le-ltb (s .k) 12 (omega arith))
+        ∙ shape-refused s (λ m. let z = depth-deep s 0 (omega arith) in omega (arith, m .depth-max))
 
 -- ---- numbers
 
-pub vector-bits : (s : Shape) (i : ℕ) → ShapeFacts s → i < s .tau → firstBit s i + depthOf s i ≤ 128
-unfolding firstBit depthOf
-vector-bits s i f h =
-    let l : suc i * s .k ≤ s .tau * s .k = mul-le-mul h (le-refl (s .k)) in
-    omega (arith, suc-mul i (s .k))
+pub bit-all : (s : Shape) → ShapeFacts s → firstBit s (s .tau) + s .w ≡ 128
+unfolding firstBit
+bit-all s f = omega arith
 
--- tau numbers for each of p places, interleaved
-pub interleaved-lt : (tau p b i : ℕ) → b < p → i < tau → tau * b + i < tau * p
-interleaved-lt tau p b i h l =
-    let m : tau * suc b ≤ tau * p = mul-le-mul (le-refl tau) h in
-    omega (arith, mul-suc tau b)
+pub vector-bits : (s : Shape) (i : ℕ) → ShapeFacts s → i < s .tau → firstBit s i + depthOf s i ≤ 128
+vector-bits s i f h =
+    let a = stretch-before (firstBit s) (depthOf s) (s .tau) i (λ n l. bit-next s n) h in
+    let b = bit-all s f in
+    omega arith
+
+pub depth-small : (s : Shape) (i : ℕ) → ShapeFacts s → depthOf s i ≤ 12
+depth-small s i f = (let r = depth-range s i in omega arith)
+
+-- with depth 12 none is deeper
+none-deeper : (r k : ℕ) → 12 ≤ k → (0 < r → k < 12) → r ≡ 0
+none-deeper r k h d = go (decLt 0 r)
+  where
+    go : Dec (0 < r) → r ≡ 0
+    go (yes p) = absurd (let z = d p in omega arith)
+    go (no p) = omega arith
 
 -- the largest tree has 10 vectors of depth 12
-leaves-bound : (tau k : ℕ) → tau ≤ 32 → k ≤ 12 → tau * k ≤ 128 → tau * 2 ^ k ≤ 40960
-leaves-bound tau zero a b c = omega arith
-leaves-bound tau (suc zero) a b c = omega arith
-leaves-bound tau (suc (suc zero)) a b c = omega arith
-leaves-bound tau (suc (suc (suc zero))) a b c = omega arith
-leaves-bound tau (suc (suc (suc (suc zero)))) a b c = omega arith
-leaves-bound tau (suc (suc (suc (suc (suc zero))))) a b c = omega arith
-leaves-bound tau (suc (suc (suc (suc (suc (suc zero)))))) a b c = omega arith
-leaves-bound tau (suc (suc (suc (suc (suc (suc (suc zero))))))) a b c = omega arith
-leaves-bound tau (suc (suc (suc (suc (suc (suc (suc (suc zero)))))))) a b c = omega arith
-leaves-bound tau (suc (suc (suc (suc (suc (suc (suc (suc (suc zero))))))))) a b c = omega arith
-leaves-bound tau (suc (suc (suc (suc (suc (suc (suc (suc (suc (suc zero)))))))))) a b c = omega arith
-leaves-bound tau (suc (suc (suc (suc (suc (suc (suc (suc (suc (suc (suc zero))))))))))) a b c = omega arith
-leaves-bound tau (suc (suc (suc (suc (suc (suc (suc (suc (suc (suc (suc (suc zero)))))))))))) a b c = omega arith
-leaves-bound tau (suc (suc (suc (suc (suc (suc (suc (suc (suc (suc (suc (suc (suc k))))))))))))) a b c = absurd (omega arith)
+leaves-bound : (tau r k : ℕ) → tau ≤ 32 → k ≤ 12 → (0 < r → k < 12) → r < tau → tau * k + r ≤ 128 → (tau + r) * 2 ^ k ≤ 40960
+leaves-bound tau r zero a b d c e = omega arith
+leaves-bound tau r (suc zero) a b d c e = omega arith
+leaves-bound tau r (suc (suc zero)) a b d c e = omega arith
+leaves-bound tau r (suc (suc (suc zero))) a b d c e = omega arith
+leaves-bound tau r (suc (suc (suc (suc zero)))) a b d c e = omega arith
+leaves-bound tau r (suc (suc (suc (suc (suc zero))))) a b d c e = omega arith
+leaves-bound tau r (suc (suc (suc (suc (suc (suc zero)))))) a b d c e = omega arith
+leaves-bound tau r (suc (suc (suc (suc (suc (suc (suc zero))))))) a b d c e = omega arith
+leaves-bound tau r (suc (suc (suc (suc (suc (suc (suc (suc zero)))))))) a b d c e = omega arith
+leaves-bound tau r (suc (suc (suc (suc (suc (suc (suc (suc (suc zero))))))))) a b d c e = omega arith
+leaves-bound tau r (suc (suc (suc (suc (suc (suc (suc (suc (suc (suc zero)))))))))) a b d c e = omega arith
+leaves-bound tau r (suc (suc (suc (suc (suc (suc (suc (suc (suc (suc (suc zero))))))))))) a b d c e = omega arith
+leaves-bound tau r (suc (suc (suc (suc (suc (suc (suc (suc (suc (suc (suc (suc zero)))))))))))) a b d c e =
+    (let z = none-deeper r 12 (omega arith) d in omega arith)
+leaves-bound tau r (suc (suc (suc (suc (suc (suc (suc (suc (suc (suc (suc (suc (suc k))))))))))))) a b d c e = absurd (omega arith)
 
 pub leaves-max : (s : Shape) → ShapeFacts s → leaves s ≤ 40960
 unfolding leaves
-leaves-max s f = leaves-bound (s .tau) (s .k) (f .tau-max) (f .k-max) (omega arith)
+leaves-max s f =
+    leaves-bound (s .tau) (deeper s) (s .k) (f .tau-max) (f .k-max) (λ h. let d = depth-deep s 0 h in omega (arith, f .depth-max)) (f .few)
+    (omega (arith, f .total))
 
 pub leaves-pos : (s : Shape) → ShapeFacts s → 1 ≤ leaves s
-unfolding leaves
-leaves-pos s f = mul-le-mul (f .tau-pos) (pow-pos (s .k))
+leaves-pos s f =
+    let a = leaves-split s in
+    let b : 1 * 1 ≤ s .tau * 2 ^ s .k = mul-le-mul (f .tau-pos) (pow-pos (s .k)) in
+    omega arith
 
 pub entries-small : (s : Shape) (i : ℕ) → ShapeFacts s → entriesOf s i ≤ 4096
-unfolding entriesOf depthOf
-entries-small s i f = pow-mono (f .k-max)
+unfolding entriesOf
+entries-small s i f = pow-mono (depth-small s i f)

@@ -1,12 +1,11 @@
 -- What the laws of the two halves know of a shape: its vectors' bits, columns and entries follow one another, each entry has a leaf of its own, a hidden
 -- index is an entry. Nothing that cites this record looks into a shape. By the shape rules.
-use Prim.Native.Nat.{ℕ, zero, suc, _+_, _-_, _*_, _/_, _%_, _^_, _≤_, _<_}
-use mathlib.Core.Path.{_≡_, refl, sym, ap, _∙_}
+use Prim.Native.Nat.{ℕ, zero, suc, _+_, _*_, _/_, _%_, _^_, _≤_, _<_}
+use mathlib.Core.Path.{_≡_, sym, ap, _∙_}
 use mathlib.Core.Bool.{true}
 use mathlib.Core.List.{List, [], _∷_}
 use native.Mathlib.Omega.{arith}
-use native.Mathlib.Nat.{mul-comm, zero-mul, suc-mul, pow-succ', div-one, div-div-eq-div-mul}
-use lib.Arith.{digits-div, digits-mod}
+use native.Mathlib.Nat.{pow-succ', div-one, div-div-eq-div-mul}
 use lib.Dec.{eqb}
 use lib.ListN.{length, getD}
 use borrow.Author.Tests.{eqb-true}
@@ -17,9 +16,10 @@ use Rattle.spec.specs.Shapes.{shapeOk, level, depthOf, entriesOf, firstBit, fir
 use Rattle.laws.proofs.Conjunctions.{both-true}
 use Rattle.laws.proofs.Stretches.{stretch-before}
 use Rattle.laws.proofs.Lists.{length-tabulate, getD-tabulate}
-use Rattle.planning_laws.proofs.Bits.{bit-lt, index-more, index-lt}
-use Rattle.planning_laws.proofs.ShapeFacts.{shape-facts, leaves-pos}
-use Rattle.planning_laws.proofs.HiddenLeaves.{leaf-of-entry}
+use Rattle.planning_laws.proofs.Bits.{bit-lt, index-more}
+use Rattle.planning_laws.proofs.Depths.{bit-none, bit-next, entry-none, entry-next, entry-all, leaf-of-entry, leaf-one}
+use Rattle.planning_laws.proofs.ShapeFacts.{shape-facts, bit-all, leaves-pos}
+use Rattle.planning_laws.proofs.HiddenLeaves.{hidden-index-lt}
 
 pub record ShapeLaws (s : Shape) : Type 0 where
   pub tau-pos : 1 ≤ s .tau
@@ -39,30 +39,23 @@ pub record ShapeLaws (s : Shape) : Type 0 where
   -- a hidden index is one of the vector's entries
   pub hidden-in : (ch : List ℕ) (i : ℕ) → hiddenIndex s ch i < entriesOf s i
 
-digits-one : (t i j m n : ℕ) → i < t → m < t → t * j + i ≡ t * n + m → (i ≡ m) × (j ≡ n)
-digits-one t i j m n h l e =
-    let a = mul-comm t j in
-    let b = mul-comm t n in
-    let g : j * t + i ≡ n * t + m = omega arith in
-    (sym (digits-mod j h) ∙ ap (λ (x : ℕ). x % t) g ∙ digits-mod n l, sym (digits-div j h) ∙ ap (λ (x : ℕ). x / t) g ∙ digits-div n l)
-
 pub shape-laws : (s : Shape) → shapeOk s ≡ true → ShapeLaws s
-unfolding level depthOf entriesOf firstBit firstEntry leaves leafOf hiddenIndex
+unfolding level
 shape-laws s e =
     let f = shape-facts s e in
     record {
       tau-pos = f .tau-pos;
       leaves-pos = leaves-pos s f;
-      bit-none = zero-mul (s .k);
-      bit-next = λ i. suc-mul i (s .k);
-      bit-all = f .total;
-      entry-none = zero-mul (2 ^ s .k);
-      entry-next = λ i. suc-mul i (2 ^ s .k);
-      entry-all = refl;
+      bit-none = bit-none s;
+      bit-next = bit-next s;
+      bit-all = bit-all s f;
+      entry-none = entry-none s;
+      entry-next = entry-next s;
+      entry-all = entry-all s (omega (arith, f .few));
       leaf-low = λ i j h l. leaf-of-entry s i j h l .0;
       leaf-high = λ i j h l. leaf-of-entry s i j h l .1;
-      leaf-one = λ i j m n h hj l ln g. digits-one (s .tau) i j m n h l (omega arith);
-      hidden-in = λ ch i. index-lt ch (i * s .k) (s .k);
+      leaf-one = leaf-one s;
+      hidden-in = hidden-index-lt s;
     }
 
 -- ---- bits of a challenge

@@ -1,8 +1,8 @@
-// The shape rules of document 01, and the numbers that a shape gives; lengths compared, and an answer made.
+// The shape rules of documents 01 and 02, and the numbers that a shape gives; lengths compared, and an answer made.
 ghost use mathlib.Core.Path.{_≡_};
 ghost use mathlib.Core.Bool.{true};
-ghost use Prim.Native.Nat.{_+_, _*_, _^_, _<_, _≤_};
-ghost use Rattle.spec.specs.Shapes.{resolved, shapeOk, entriesOf, firstEntry, leaves, leafOf};
+ghost use Prim.Native.Nat.{_+_, _-_, _*_, _^_, _<_, _≤_};
+ghost use Rattle.spec.specs.Shapes.{resolved, shapeOk, deeper, depthOf, entriesOf, firstBit, firstEntry, leaves, leafOf};
 ghost use mathlib.Core.List.{[], _∷_};
 ghost use Rattle.spec.specs.Calls.{rowOk, fits};
 use spec::Answer;
@@ -64,7 +64,15 @@ pub fn is_shape(s: Shape) -> bool
     if 512 < s.t {
         return false;
     }
-    s.tau * s.k + s.w == 128
+    let used = s.tau * s.k + s.w;
+    if 128 < used {
+        return false;
+    }
+    let r = 128 - used;
+    if s.tau <= r {
+        return false;
+    }
+    (r == 0) | (s.k < 12)
 }
 
 // Whether n is a row length in bits.
@@ -115,22 +123,74 @@ pub fn fit8(
                 & ((d == v) & ((a2 == x2) & ((b2 == y2) & ((c2 == z2) & ((d2 == v2) & true)))))))
 }
 
+// 2 to the power of a depth.
+fn power(d: usize) -> usize
+    requires { ⌜ d ≤ 12 ⌝ }
+    ensures { λ r. ⌜ (r ≡ 2 ^ d) × (1 ≤ r) × (r ≤ 4096) ⌝ }
+{
+    1usize << d
+}
+
+// How many vectors are deeper than the others: r, the first r.
+pub fn deeper_count(s: Shape) -> usize
+    requires { ⌜ shapeOk s ≡ true ⌝ }
+    ensures { λ r. ⌜ (r ≡ deeper s) × (r < s .tau) ⌝ }
+{
+    128 - s.w - s.tau * s.k
+}
+
+// The depth of vector i, the number of its bits and of its columns.
+pub fn depth_of(s: Shape, i: usize) -> usize
+    requires { ⌜ shapeOk s ≡ true ⌝ }
+    ensures { λ r. ⌜ (r ≡ depthOf s i) × (r ≤ 12) ⌝ }
+{
+    if i < deeper_count(s) { s.k + 1 } else { s.k }
+}
+
+// The number of entries of vector i.
+pub fn entry_count(s: Shape, i: usize) -> usize
+    requires { ⌜ shapeOk s ≡ true ⌝ }
+    ensures { λ r. ⌜ (r ≡ entriesOf s i) × (1 ≤ r) × (r ≤ 4096) ⌝ }
+{
+    power(depth_of(s, i))
+}
+
+// The first bit, and the first column, of vector i; behind the last vector, those of the grinding bits.
+pub fn first_bit(s: Shape, i: usize) -> usize
+    requires { ⌜ (shapeOk s ≡ true) × (i ≤ s .tau) ⌝ }
+    ensures { λ r. ⌜ (r ≡ firstBit s i) × (r ≤ 128) ⌝ }
+{
+    i * s.k + numbers::min(i, deeper_count(s))
+}
+
+// The place of the first entry of vector i among the entries of all vectors, one vector after another.
+pub fn first_entry(s: Shape, i: usize) -> usize
+    requires { ⌜ (shapeOk s ≡ true) × (i ≤ s .tau) ⌝ }
+    ensures { λ r. ⌜ (r ≡ firstEntry s i) × (r ≤ leaves s) × (r ≤ 40960) ⌝ }
+{
+    let k = s.k;
+    (i + numbers::min(i, deeper_count(s))) << k
+}
+
 // L, the number of leaves.
 pub fn leaf_count(s: Shape) -> usize
     requires { ⌜ shapeOk s ≡ true ⌝ }
     ensures { λ r. ⌜ (r ≡ leaves s) × (1 ≤ r) × (r ≤ 40960) ⌝ }
 {
-    let k = s.k;
-    s.tau << k
+    let n = s.tau;
+    first_entry(s, n)
 }
 
-// The number of entries of a vector.
-pub fn entry_count(s: Shape) -> usize
-    requires { ⌜ shapeOk s ≡ true ⌝ }
-    ensures { λ r. ⌜ (r ≡ 2 ^ s .k) × (1 ≤ r) × (r ≤ 4096) ⌝ }
+// The place of entry j of vector i among the leaves of the tree: the entries below 2^k of all vectors are interleaved, and behind them those of the deeper vectors.
+fn leaf_place(s: Shape, i: usize, j: usize) -> usize
+    requires { ⌜ (shapeOk s ≡ true) × (i < s .tau) × (j < entriesOf s i) ⌝ }
+    ensures { λ r. ⌜ (leafOf s i j ≡ leaves s - 1 + r) × (r < leaves s) × (r < 40960) ⌝ }
 {
-    let k = s.k;
-    1usize << k
+    let near = power(s.k);
+    if j < near {
+        return s.tau * j + i;
+    }
+    s.tau * near + deeper_count(s) * (j - near) + i
 }
 
 // The node of entry j of vector i.
@@ -138,7 +198,7 @@ pub fn leaf_of(s: Shape, i: usize, j: usize) -> usize
     requires { ⌜ (shapeOk s ≡ true) × (i < s .tau) × (j < entriesOf s i) ⌝ }
     ensures { λ r. ⌜ (r ≡ leafOf s i j) × (leaves s ≤ r + 1) × (r + 1 < 2 * leaves s) × (r < 81920) ⌝ }
 {
-    leaf_count(s) - 1 + s.tau * j + i
+    leaf_count(s) - 1 + leaf_place(s, i, j)
 }
 
 // The place of entry j of vector i among the entries of all vectors, one vector after another.
@@ -146,6 +206,5 @@ pub fn entry_of(s: Shape, i: usize, j: usize) -> usize
     requires { ⌜ (shapeOk s ≡ true) × (i < s .tau) × (j < entriesOf s i) ⌝ }
     ensures { λ r. ⌜ (r ≡ firstEntry s i + j) × (r < leaves s) × (r < 40960) ⌝ }
 {
-    let k = s.k;
-    (i << k) + j
+    first_entry(s, i) + j
 }

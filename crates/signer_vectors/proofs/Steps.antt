@@ -1,8 +1,7 @@
 -- One vector's bytes, from what was added to cleared columns and to a total; the buffers of the first vectors with one vector more; and the whole buffers.
 -- By the laws of strings put one behind another.
-use Prim.Native.Nat.{ℕ, _+_, _-_, _*_, _^_, _≤_}
+use Prim.Native.Nat.{ℕ, _+_, _-_, _*_, _≤_}
 use mathlib.Core.Path.{_≡_, refl, sym, ap, ap₂, _∙_, subst}
-use mathlib.Core.Bool.{true}
 use mathlib.Core.List.{List, _++_, append-nil}
 use native.Mathlib.Omega.{arith}
 use native.Mathlib.Nat.{zero-add, mul-zero}
@@ -13,7 +12,7 @@ use Rattle.spec.specs.declared.Shape.{Shape}
 use Rattle.spec.specs.Bytes.{bit, tabulate, concat, zeros, xorBelow}
 use Rattle.spec.specs.Sponge.{sponge, shake}
 use Rattle.spec.specs.Hashes.{hash1}
-use Rattle.spec.specs.Shapes.{level, nodeBytes, leafCommitmentBytes, hashBytes, rate, depthOf, entriesOf, leaves, shapeOk, leafCommitmentsBytes, matrixBytes}
+use Rattle.spec.specs.Shapes.{level, nodeBytes, leafCommitmentBytes, hashBytes, rate, depthOf, entriesOf, firstBit, firstEntry}
 use Rattle.spec.specs.Primitives.{faest}
 use Rattle.spec.specs.Leaves.{leafKey, leafCommitment, vectorCommitments, vectorHash}
 use Rattle.spec.specs.Rows.{rowByte, uByte, columnByte}
@@ -22,9 +21,9 @@ use Rattle.laws.proofs.Lists.{length-tabulate, getD-tabulate, tabulate-same, is
 use Rattle.laws.proofs.Sums.{xor-same}
 use Rattle.laws.proofs.Concat.{concat-same, even-length}
 use Rattle.laws.proofs.Strings.{getD-zeros}
-use Rattle.planning_laws.proofs.ShapeFacts.{shape-facts}
+use Rattle.planning_laws.proofs.Depths.{bit-none, entry-none}
 use Rattle.columns.specs.Columns.{Added}
-use Rattle.vector.proofs.Buffers.{put-block, put-all, all-commitments, all-columns, rest-columns, cleared-columns}
+use Rattle.vector.proofs.Buffers.{put-behind, put-block, put-all, commitments-next, columns-next, cleared-columns}
 use Rattle.signer_vectors.specs.Vectors.{Converted, UpTo}
 
 -- the one column of a total
@@ -35,12 +34,12 @@ sum-of b f g old new e r h =
     ap (λ (q : ℕ). getD new q 0) (sym z) ∙ r .known 0 p (omega arith) l ∙ ap₂ (λ (q x : ℕ). bitXor (getD old q 0) x) z (h p))
 
 module _ (s : Shape) (b : ℕ) (iv tree : List ℕ) where
-  pub converted : (i n m : ℕ) (total total′ lcs cols before hash : List ℕ) → n ≡ entriesOf s i → m ≡ b * s .k → length total ≡ b → length before ≡ 32
+  pub converted : (i n m : ℕ) (total total′ lcs cols before hash : List ℕ) → n ≡ entriesOf s i → m ≡ b * depthOf s i → length total ≡ b → length before ≡ 32
       → lcs ≡ concat n (λ e. leafCommitment faest s iv i (leafKey s tree i (0 + e)))
       → Added b 1 (λ j p. xorBelow n (λ e. rowByte faest s iv tree i (0 + e) p)) total total′
-      → Added b (s .k) (λ j p. xorBelow n (λ e. bit j (bitXor (0 + e) 0) * rowByte faest s iv tree i (0 + e) p)) (zeros m) cols
+      → Added b (depthOf s i) (λ j p. xorBelow n (λ e. bit j (bitXor (0 + e) 0) * rowByte faest s iv tree i (0 + e) p)) (zeros m) cols
       → hash ≡ hash1 168 lcs (length before) → Converted s b iv tree i total total′ lcs cols hash
-  unfolding level nodeBytes hashBytes rate depthOf faest vectorCommitments vectorHash uByte columnByte signerLeafCommitment signerColumn
+  unfolding level nodeBytes hashBytes rate faest vectorCommitments vectorHash uByte columnByte signerLeafCommitment signerColumn
   converted i n m total total′ lcs cols before hash en em et eh l t c h =
       let own : (e : ℕ) → 0 + e ≡ e = zero-add in
       let leaves =
@@ -53,8 +52,8 @@ module _ (s : Shape) (b : ℕ) (iv tree : List ℕ) where
             (λ p. xor-same n (λ e. rowByte faest s iv tree i (0 + e) p) (λ e. rowByte faest s iv tree i e p) (λ e k. ap (λ (x : ℕ). rowByte faest s iv tree i x p) (own e))
             ∙ ap (λ (x : ℕ). xorBelow x (λ e. rowByte faest s iv tree i e p)) en);
         columns =
-            cleared-columns b (s .k) m (λ j p. xorBelow n (λ e. bit j (bitXor (0 + e) 0) * rowByte faest s iv tree i (0 + e) p)) (zeros m) cols (length-zeros m ∙ em) refl c
-            ∙ concat-same (λ j. tabulate b (λ p. xorBelow n (λ e. bit j (bitXor (0 + e) 0) * rowByte faest s iv tree i (0 + e) p))) (λ j. tabulate b (columnByte faest s iv tree (λ e. e) i j)) (s .k)
+            cleared-columns b (depthOf s i) m (λ j p. xorBelow n (λ e. bit j (bitXor (0 + e) 0) * rowByte faest s iv tree i (0 + e) p)) (zeros m) cols (length-zeros m ∙ em) refl c
+            ∙ concat-same (λ j. tabulate b (λ p. xorBelow n (λ e. bit j (bitXor (0 + e) 0) * rowByte faest s iv tree i (0 + e) p))) (λ j. tabulate b (columnByte faest s iv tree (λ e. e) i j)) (depthOf s i)
             (λ j hj. tabulate-same b (λ p. xorBelow n (λ e. bit j (bitXor (0 + e) 0) * rowByte faest s iv tree i (0 + e) p)) (columnByte faest s iv tree (λ e. e) i j)
             (λ p hp. xor-same n (λ e. bit j (bitXor (0 + e) 0) * rowByte faest s iv tree i (0 + e) p) (λ e. bit j e * rowByte faest s iv tree i e p)
             (λ e k. ap₂ (λ (x y : ℕ). bit j x * rowByte faest s iv tree i y p) (xor-zero-r (0 + e) ∙ own e) (own e))
@@ -79,13 +78,13 @@ module _ (s : Shape) (b : ℕ) (iv tree : List ℕ) where
 
   -- ---- lengths
 
-  leaves-length : (i : ℕ) → length (vectorCommitments s (signerLeafCommitment faest s iv tree) i) ≡ 48 * 2 ^ s .k
-  unfolding level nodeBytes leafCommitmentBytes depthOf entriesOf leafCommitment vectorCommitments signerLeafCommitment
-  leaves-length i = even-length (signerLeafCommitment faest s iv tree i) 48 (2 ^ s .k) (λ j h. rw length-tabulate)
+  leaves-length : (i : ℕ) → length (vectorCommitments s (signerLeafCommitment faest s iv tree) i) ≡ 48 * entriesOf s i
+  unfolding level nodeBytes leafCommitmentBytes leafCommitment vectorCommitments signerLeafCommitment
+  leaves-length i = even-length (signerLeafCommitment faest s iv tree i) 48 (entriesOf s i) (λ j h. rw length-tabulate)
 
-  columns-length : (i : ℕ) → length (concat (depthOf s i) (signerColumn faest s b iv tree i)) ≡ b * s .k
-  unfolding depthOf signerColumn
-  columns-length i = even-length (signerColumn faest s b iv tree i) b (s .k) (λ j h. rw length-tabulate)
+  columns-length : (i : ℕ) → length (concat (depthOf s i) (signerColumn faest s b iv tree i)) ≡ b * depthOf s i
+  unfolding signerColumn
+  columns-length i = even-length (signerColumn faest s b iv tree i) b (depthOf s i) (λ j h. rw length-tabulate)
 
   digest-length : (i : ℕ) → length (vectorHash faest s (signerLeafCommitment faest s iv tree) i) ≡ 32
   unfolding level nodeBytes hashBytes faest hash1 shake sponge vectorHash
@@ -93,10 +92,10 @@ module _ (s : Shape) (b : ℕ) (iv tree : List ℕ) where
 
   -- ---- buffers
 
-  -- string 0, at the front
-  start : (f : ℕ → List ℕ) (w : ℕ) (l : List ℕ) → take w l ≡ f 0 → take (w * (0 + 1)) l ≡ concat (0 + 1) f
+  -- string 0, of w bytes, at the front; it ends at q
+  start : (f : ℕ → List ℕ) (w p q : ℕ) (l : List ℕ) → p ≡ 0 → q ≡ p + w → take w l ≡ f 0 → take q l ≡ concat (0 + 1) f
   unfolding concat
-  start f w l e = (let one : w * 1 ≡ w = omega arith in ap (λ (n : ℕ). take n l) one ∙ e)
+  start f w p q l ep eq e = (let z : q ≡ w = omega arith in ap (λ (n : ℕ). take n l) z ∙ e)
 
   abbrev Leaves : ℕ → List ℕ
   Leaves = vectorCommitments s (signerLeafCommitment faest s iv tree)
@@ -112,37 +111,37 @@ module _ (s : Shape) (b : ℕ) (iv tree : List ℕ) where
 
   -- the parts lent, as the fronts of their buffers
   pub fronts : (i : ℕ) (total sum d e f ls cols hash zl zv zh : List ℕ) → Converted s b iv tree i total sum ls cols hash
-      → Converted s b iv tree i total sum (take (48 * 2 ^ s .k) (take 0 d ++ (ls ++ zl))) (take (b * s .k) (take 0 e ++ (cols ++ zv))) (take 32 (take 0 f ++ (hash ++ zh)))
+      → Converted s b iv tree i total sum (take (48 * entriesOf s i) (take 0 d ++ (ls ++ zl))) (take (b * depthOf s i) (take 0 e ++ (cols ++ zv))) (take 32 (take 0 f ++ (hash ++ zh)))
   fronts i total sum d e f ls cols hash zl zv zh r =
       record {
-        leaves = take-at ls zl (48 * 2 ^ s .k) (ap length (r .leaves) ∙ leaves-length i) ∙ r .leaves;
+        leaves = take-at ls zl (48 * entriesOf s i) (ap length (r .leaves) ∙ leaves-length i) ∙ r .leaves;
         sum = r .sum;
-        columns = take-at cols zv (b * s .k) (ap length (r .columns) ∙ columns-length i) ∙ r .columns;
+        columns = take-at cols zv (b * depthOf s i) (ap length (r .columns) ∙ columns-length i) ∙ r .columns;
         digest = take-at hash zh 32 (ap length (r .digest) ∙ digest-length i) ∙ r .digest;
       }
 
-  pub up-start : (total sum lcs cs v hs : List ℕ) → Converted s b iv tree 0 total sum (take (48 * 2 ^ s .k) lcs) (take (b * s .k) v) (take 32 hs) → UpTo s b iv tree 0 lcs cs v hs
+  pub up-start : (total sum lcs cs v hs : List ℕ) → Converted s b iv tree 0 total sum (take (48 * entriesOf s 0) lcs) (take (b * depthOf s 0) v) (take 32 hs) → UpTo s b iv tree 0 lcs cs v hs
   unfolding concat
   up-start total sum lcs cs v hs r =
       record {
-        leaves = start Leaves (48 * 2 ^ s .k) lcs (r .leaves);
+        leaves = start Leaves (48 * entriesOf s 0) (48 * firstEntry s 0) (48 * firstEntry s (0 + 1)) lcs (ap (λ (n : ℕ). 48 * n) (entry-none s)) (commitments-next s 0) (r .leaves);
         sums = ap (λ (m : ℕ). take m cs) (mul-zero b);
-        columns = start Columns (b * s .k) v (r .columns);
-        digests = start Digest 32 hs (r .digest);
+        columns = start Columns (b * depthOf s 0) (b * firstBit s 0) (b * firstBit s (0 + 1)) v (ap (λ (n : ℕ). b * n) (bit-none s) ∙ mul-zero b) (columns-next s 0 b) (r .columns);
+        digests = start Digest 32 0 (32 * (0 + 1)) hs refl refl (r .digest);
       }
 
-  pub up-more : (j n : ℕ) (u sum lcs cs v hs ls cols hash zl zc zv zh : List ℕ) → n ≡ 2 ^ s .k → u ≡ signerU faest s b iv tree
-      → 48 * 2 ^ s .k * (j + 1) + 48 * 2 ^ s .k ≤ length lcs → b * j + b ≤ length cs → b * s .k * (j + 1) + b * s .k ≤ length v → 32 * (j + 1) + 32 ≤ length hs
+  pub up-more : (j l c : ℕ) (u sum lcs cs v hs ls cols hash zl zc zv zh : List ℕ) → l ≡ 48 * firstEntry s (j + 1) → c ≡ b * firstBit s (j + 1) → u ≡ signerU faest s b iv tree
+      → 48 * firstEntry s (j + 1 + 1) ≤ length lcs → b * j + b ≤ length cs → b * firstBit s (j + 1 + 1) ≤ length v → 32 * (j + 1) + 32 ≤ length hs
       → Converted s b iv tree (j + 1) u sum ls cols hash → UpTo s b iv tree j lcs cs v hs
-      → UpTo s b iv tree (j + 1) (take (48 * n * (j + 1)) lcs ++ (ls ++ zl)) (take (b * j) cs ++ (sum ++ zc)) (take (b * s .k * (j + 1)) v ++ (cols ++ zv)) (take (32 * (j + 1)) hs ++ (hash ++ zh))
-  up-more j n u sum lcs cs v hs ls cols hash zl zc zv zh en eu hl hc hv hh x r =
+      → UpTo s b iv tree (j + 1) (take l lcs ++ (ls ++ zl)) (take (b * j) cs ++ (sum ++ zc)) (take c v ++ (cols ++ zv)) (take (32 * (j + 1)) hs ++ (hash ++ zh))
+  up-more j l c u sum lcs cs v hs ls cols hash zl zc zv zh el ec eu hl hc hv hh x r =
       let same = correction-of (j + 1) u sum eu (x .sum) in
       let long = ap length (x .sum) ∙ length-tabulate b (λ p. bitXor (getD u p 0) (uByte faest s iv tree (j + 1) p)) in
       record {
-        leaves = put-block Leaves (48 * n) (48 * 2 ^ s .k) (j + 1) lcs ls zl (ap (λ (x : ℕ). 48 * x) en) hl (ap length (x .leaves) ∙ leaves-length (j + 1)) (x .leaves) (r .leaves);
-        sums = put-block Correction b b j cs sum zc refl hc long same (r .sums);
-        columns = put-block Columns (b * s .k) (b * s .k) (j + 1) v cols zv refl hv (ap length (x .columns) ∙ columns-length (j + 1)) (x .columns) (r .columns);
-        digests = put-block Digest 32 32 (j + 1) hs hash zh refl hh (ap length (x .digest) ∙ digest-length (j + 1)) (x .digest) (r .digests);
+        leaves = put-behind Leaves l (48 * firstEntry s (j + 1)) (48 * entriesOf s (j + 1)) (48 * firstEntry s (j + 1 + 1)) (j + 1) lcs ls zl el (commitments-next s (j + 1)) hl (ap length (x .leaves) ∙ leaves-length (j + 1)) (x .leaves) (r .leaves);
+        sums = put-block Correction b j cs sum zc hc long same (r .sums);
+        columns = put-behind Columns c (b * firstBit s (j + 1)) (b * depthOf s (j + 1)) (b * firstBit s (j + 1 + 1)) (j + 1) v cols zv ec (columns-next s (j + 1) b) hv (ap length (x .columns) ∙ columns-length (j + 1)) (x .columns) (r .columns);
+        digests = put-block Digest 32 (j + 1) hs hash zh hh (ap length (x .digest) ∙ digest-length (j + 1)) (x .digest) (r .digests);
       }
 
 -- a buffer that was filled from another of its length
@@ -151,22 +150,9 @@ copied u d e = ap₂ (λ (x y : List ℕ). x ++ y) (take-length u) (drop-of-leng
 
 -- ---- whole buffers
 
-module _ (s : Shape) (ok : shapeOk s ≡ true) where
-  pub leaf-room : 48 * 2 ^ s .k * s .tau ≡ leafCommitmentsBytes s
-  unfolding level nodeBytes leafCommitmentBytes leaves leafCommitmentsBytes
-  leaf-room = all-commitments s ok
+-- the strings of n vectors, told by the number of the last; `from i` is where those of vector i begin
+pub told : (f : ℕ → List ℕ) (from : ℕ → ℕ) (n : ℕ) (l : List ℕ) → 1 ≤ n → take (from (n - 1 + 1)) l ≡ concat (n - 1 + 1) f → take (from n) l ≡ concat n f
+told f from n l h q = (let m : n - 1 + 1 ≡ n = omega arith in subst (λ (x : ℕ). take (from x) l ≡ concat x f) m q)
 
-  pub column-room : (b : ℕ) → b * s .k * s .tau + b * s .w ≡ matrixBytes s b
-  unfolding level matrixBytes
-  column-room b = ap (λ (n : ℕ). n + b * s .w) (all-columns s ok b) ∙ rest-columns s ok b
-
-  -- the columns of the vectors are all but the last w
-  pub columns-used : (b : ℕ) → b * (128 - s .w) ≡ b * s .k * s .tau
-  columns-used b = (let f = shape-facts s ok in ap (λ (n : ℕ). b * n) (let z : 128 - s .w ≡ s .tau * s .k = omega (arith, f .total) in z) ∙ sym (all-columns s ok b))
-
--- n strings of w bytes, told by the number of the last
-pub told : (f : ℕ → List ℕ) (w n : ℕ) (l : List ℕ) → 1 ≤ n → take (w * (n - 1 + 1)) l ≡ concat (n - 1 + 1) f → take (w * n) l ≡ concat n f
-told f w n l h q = (let m : n - 1 + 1 ≡ n = omega arith in subst (λ (x : ℕ). take (w * x) l ≡ concat x f) m q)
-
-pub whole : (f : ℕ → List ℕ) (w n : ℕ) (l : List ℕ) → 1 ≤ n → length l ≡ w * n → take (w * (n - 1 + 1)) l ≡ concat (n - 1 + 1) f → l ≡ concat n f
-whole f w n l h e q = put-all f w n l e (told f w n l h q)
+pub whole : (f : ℕ → List ℕ) (from : ℕ → ℕ) (n : ℕ) (l : List ℕ) → 1 ≤ n → length l ≡ from n → take (from (n - 1 + 1)) l ≡ concat (n - 1 + 1) f → l ≡ concat n f
+whole f from n l h e q = put-all f (from n) n l e (told f from n l h q)

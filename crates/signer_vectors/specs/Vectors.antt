@@ -1,12 +1,12 @@
 -- What one vector, and the first vectors, leave in the buffers of the signing half. b is the length of a row in bytes.
-use Prim.Native.Nat.{ℕ, _+_, _*_, _^_}
+use Prim.Native.Nat.{ℕ, _+_, _*_}
 use mathlib.Core.Path.{_≡_}
 use mathlib.Core.List.{List}
 use lib.Bits.{bitXor}
 use lib.ListN.{getD, take}
 use Rattle.spec.specs.declared.Shape.{Shape}
 use Rattle.spec.specs.Bytes.{tabulate, concat}
-use Rattle.spec.specs.Shapes.{depthOf}
+use Rattle.spec.specs.Shapes.{depthOf, firstBit, firstEntry}
 use Rattle.spec.specs.Primitives.{faest}
 use Rattle.spec.specs.Leaves.{vectorCommitments, vectorHash}
 use Rattle.spec.specs.Rows.{uByte}
@@ -21,7 +21,7 @@ pub record Converted (s : Shape) (b : ℕ) (iv tree : List ℕ) (i : ℕ) (total
 
 -- vectors 0 to j stand at the front of the buffers
 pub record UpTo (s : Shape) (b : ℕ) (iv tree : List ℕ) (j : ℕ) (lcs corrections v hashes : List ℕ) : Type 0 where
-  pub leaves : take (48 * 2 ^ s .k * (j + 1)) lcs ≡ concat (j + 1) (vectorCommitments s (signerLeafCommitment faest s iv tree))
+  pub leaves : take (48 * firstEntry s (j + 1)) lcs ≡ concat (j + 1) (vectorCommitments s (signerLeafCommitment faest s iv tree))
   pub sums : take (b * j) corrections ≡ concat j (λ i. correction faest s b iv tree (i + 1))
-  pub columns : take (b * s .k * (j + 1)) v ≡ concat (j + 1) (λ i. concat (depthOf s i) (signerColumn faest s b iv tree i))
+  pub columns : take (b * firstBit s (j + 1)) v ≡ concat (j + 1) (λ i. concat (depthOf s i) (signerColumn faest s b iv tree i))
   pub digests : take (32 * (j + 1)) hashes ≡ concat (j + 1) (vectorHash faest s (signerLeafCommitment faest s iv tree))

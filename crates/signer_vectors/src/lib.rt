@@ -1,11 +1,11 @@
 // All vectors of the signing half: leaf commitments and the hashes of the vectors, u, corrections and the matrix, from the bytes of a tree.
 ghost use mathlib.Core.Path.{_≡_};
 ghost use mathlib.Core.Bool.{true};
-ghost use Prim.Native.Nat.{_+_, _-_, _*_, _^_, _≤_, _<_};
+ghost use Prim.Native.Nat.{_+_, _*_, _≤_, _<_};
 ghost use lib.ListN.{length, take};
 ghost use Rattle.spec.specs.Bytes.{concat, zeros};
 ghost use Rattle.spec.specs.Gf256.{SboxTable};
-ghost use Rattle.spec.specs.Shapes.{shapeOk, treeBytes, leafCommitmentsBytes, matrixBytes, correctionsBytes};
+ghost use Rattle.spec.specs.Shapes.{shapeOk, depthOf, entriesOf, treeBytes, leafCommitmentsBytes, matrixBytes, correctionsBytes};
 ghost use Rattle.spec.specs.Primitives.{faest};
 ghost use Rattle.spec.specs.Leaves.{leafCommitments, vectorHash};
 ghost use Rattle.spec.specs.Rows.{matrixOf};
@@ -30,10 +30,10 @@ fn convert(
 )
     requires { ⌜ SboxTable (now t) ⌝ }
     requires { ⌜ (shapeOk s ≡ true) × (i < s .tau) × (b ≤ 8192) × (now keys ≡ faest .h0 s iv (48 * s .tau)) × (length (now tree) ≡ treeBytes s) ⌝ }
-    requires { ⌜ (length (now lcs) ≡ 48 * 2 ^ s .k) × (length (now total) ≡ b) × (length (now cols) ≡ b * s .k) × (length (now hash) ≡ 32) ⌝ }
+    requires { ⌜ (length (now lcs) ≡ 48 * entriesOf s i) × (length (now total) ≡ b) × (length (now cols) ≡ b * depthOf s i) × (length (now hash) ≡ 32) ⌝ }
     ensures { λ _. ⌜ Converted s b iv (now (tree .entry)) i (now (total .entry)) (now (total .exit)) (now (lcs .exit)) (now (cols .exit)) (now (hash .exit)) ⌝ }
 {
-    let n = rules::entry_count(s);
+    let n = rules::entry_count(s, i);
     let m = field::multiples(&keys[48 * i..48 * i + 48]);
     buffers::clear_from(cols, 0);
     vector::add_entries(t, &m, s, i, 0, n, 0, b, iv, tree, lcs, 1, total, cols);
@@ -56,11 +56,11 @@ fn vector_of_u(
 )
     requires { ⌜ SboxTable (now t) ⌝ }
     requires { ⌜ (shapeOk s ≡ true) × (i < s .tau) × (b ≤ 8192) × (now keys ≡ faest .h0 s iv (48 * s .tau)) × (length (now tree) ≡ treeBytes s) ⌝ }
-    requires { ⌜ (48 * 2 ^ s .k ≤ length (now lcs)) × (length (now u) ≡ b) × (b * s .k ≤ length (now v)) × (32 ≤ length (now hashes)) ⌝ }
-    ensures { λ _. ⌜ Converted s b iv (now (tree .entry)) i (zeros b) (now (u .exit)) (take (48 * 2 ^ s .k) (now (lcs .exit))) (take (b * s .k) (now (v .exit))) (take 32 (now (hashes .exit))) ⌝ }
+    requires { ⌜ (48 * entriesOf s i ≤ length (now lcs)) × (length (now u) ≡ b) × (b * depthOf s i ≤ length (now v)) × (32 ≤ length (now hashes)) ⌝ }
+    ensures { λ _. ⌜ Converted s b iv (now (tree .entry)) i (zeros b) (now (u .exit)) (take (48 * entriesOf s i) (now (lcs .exit))) (take (b * depthOf s i) (now (v .exit))) (take 32 (now (hashes .exit))) ⌝ }
 {
-    let w = 48 * rules::entry_count(s);
-    let c = b * s.k;
+    let w = 48 * rules::entry_count(s, i);
+    let c = b * rules::depth_of(s, i);
     buffers::clear_from(u, 0);
     convert(
         t,
@@ -94,7 +94,7 @@ fn correct(
 )
     requires { ⌜ SboxTable (now t) ⌝ }
     requires { ⌜ (shapeOk s ≡ true) × (i < s .tau) × (b ≤ 8192) × (now keys ≡ faest .h0 s iv (48 * s .tau)) × (length (now tree) ≡ treeBytes s) ⌝ }
-    requires { ⌜ (length (now u) ≡ b) × (length (now lcs) ≡ 48 * 2 ^ s .k) × (length (now correction) ≡ b) × (length (now cols) ≡ b * s .k) × (length (now hash) ≡ 32) ⌝ }
+    requires { ⌜ (length (now u) ≡ b) × (length (now lcs) ≡ 48 * entriesOf s i) × (length (now correction) ≡ b) × (length (now cols) ≡ b * depthOf s i) × (length (now hash) ≡ 32) ⌝ }
     ensures { λ _. ⌜ Converted s b iv (now (tree .entry)) i (now (u .entry)) (now (correction .exit)) (now (lcs .exit)) (now (cols .exit)) (now (hash .exit)) ⌝ }
 {
     bytes::copy(u, correction);
@@ -118,13 +118,15 @@ fn other_vector(
 )
     requires { ⌜ SboxTable (now t) ⌝ }
     requires { ⌜ (shapeOk s ≡ true) × (j + 1 < s .tau) × (b ≤ 8192) × (now keys ≡ faest .h0 s iv (48 * s .tau)) × (length (now tree) ≡ treeBytes s) × (now u ≡ signerU faest s b iv (now tree)) ⌝ }
-    requires { ⌜ (48 * 2 ^ s .k * s .tau ≤ length (now lcs)) × (b * (s .tau - 1) ≤ length (now corrections)) × (b * s .k * s .tau ≤ length (now v)) × (32 * s .tau ≤ length (now hashes)) ⌝ }
+    requires { ⌜ (length (now lcs) ≡ leafCommitmentsBytes s) × (length (now corrections) ≡ correctionsBytes s b) × (length (now v) ≡ matrixBytes s b) × (length (now hashes) ≡ 32 * s .tau) ⌝ }
     ensures { λ _. ⌜ (UpTo s b iv (now (tree .entry)) j (now (lcs .entry)) (now (corrections .entry)) (now (v .entry)) (now (hashes .entry))
         → UpTo s b iv (now (tree .entry)) (j + 1) (now (lcs .exit)) (now (corrections .exit)) (now (v .exit)) (now (hashes .exit))) ⌝ }
 {
     let next = j + 1;
-    let w = 48 * rules::entry_count(s);
-    let c = b * s.k;
+    let lcs_from = vector::commitments_from(s, next);
+    let lcs_to = vector::commitments_from(s, next + 1);
+    let v_from = vector::columns_from(s, next, b);
+    let v_to = vector::columns_from(s, next + 1, b);
     correct(
         t,
         s,
@@ -134,9 +136,9 @@ fn other_vector(
         keys,
         tree,
         u,
-        &mut lcs[w * next..w * next + w],
+        &mut lcs[lcs_from..lcs_to],
         &mut corrections[b * j..b * j + b],
-        &mut v[c * next..c * next + c],
+        &mut v[v_from..v_to],
         &mut hashes[32 * next..32 * next + 32],
     );
 }
@@ -158,7 +160,7 @@ fn other_vectors(
 )
     requires { ⌜ SboxTable (now t) ⌝ }
     requires { ⌜ (shapeOk s ≡ true) × (last < s .tau) × (b ≤ 8192) × (now keys ≡ faest .h0 s iv (48 * s .tau)) × (length (now tree) ≡ treeBytes s) × (now u ≡ signerU faest s b iv (now tree)) ⌝ }
-    requires { ⌜ (48 * 2 ^ s .k * s .tau ≤ length (now lcs)) × (b * (s .tau - 1) ≤ length (now corrections)) × (b * s .k * s .tau ≤ length (now v)) × (32 * s .tau ≤ length (now hashes)) ⌝ }
+    requires { ⌜ (length (now lcs) ≡ leafCommitmentsBytes s) × (length (now corrections) ≡ correctionsBytes s b) × (length (now v) ≡ matrixBytes s b) × (length (now hashes) ≡ 32 * s .tau) ⌝ }
     ensures { λ _. ⌜ (UpTo s b iv (now (tree .entry)) 0 (now (lcs .entry)) (now (corrections .entry)) (now (v .entry)) (now (hashes .entry))
         → UpTo s b iv (now (tree .entry)) last (now (lcs .exit)) (now (corrections .exit)) (now (v .exit)) (now (hashes .exit))) ⌝ }
 {
@@ -207,6 +209,7 @@ pub fn write_vectors(
         v,
         hashes,
     );
-    let w = s.w;
-    buffers::clear_from(v, b * (128 - w));
+    let n = s.tau;
+    let used = vector::columns_from(s, n, b);
+    buffers::clear_from(v, used);
 }

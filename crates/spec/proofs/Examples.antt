@@ -1,4 +1,5 @@
--- Document 01's examples P1 to P10, and how far one index moved a count, as entries of one table about the definitions; each is computed.
+-- Document 01's examples P1 to P10, and how far one index moved a count, as entries of one table about the definitions; behind it hidden indices and shapes of two depths. Each
+-- is computed.
 use Prim.Native.Nat.{ℕ}
 use mathlib.Core.Path.{_≡_, refl}
 use mathlib.Core.List.{List, [], _∷_, _++_}
@@ -7,7 +8,7 @@ use Rattle.spec.specs.declared.Shape.{Shape}
 use Rattle.spec.specs.Bytes.{tabulate, zeros, allZero, number}
 use Rattle.spec.specs.Tree.{parent, isAncestorWithin, isAncestor, some, covered, siblingToReveal, revealedFrom, revealed, nodeCount}
 use Rattle.spec.specs.Challenge.{bitAt, bitsAt, indexAt, clearAt}
-use Rattle.spec.specs.Shapes.{faest128s, resolved, level, challengeBytes, depthOf, firstBit, firstEntry, leaves, leafOf, shapeOk, hiddenIndex, hiddenIndices, hiddenLeaf, hiddenLeaves, grindingOk, planned, plannedCount}
+use Rattle.spec.specs.Shapes.{faest128s, resolved, level, challengeBytes, deeper, depthOf, firstBit, firstEntry, leaves, leafOf, shapeOk, hiddenIndex, hiddenIndices, hiddenLeaf, hiddenLeaves, grindingOk, planned, plannedCount}
 use Rattle.spec.specs.Calls.{written, countWith, nodesOk, planNumber}
 
 -- a call of plan with a challenge of one byte and fifteen zeros and a list of t zeros: its number, its count and the list after it
@@ -76,7 +77,7 @@ OneIndex =
     × (plannedCount s (0x0c ∷ zeros 15) ≡ 4)
 
 pub table : P1 × P2 × P3 × P4 × P5 × P6 × P7 × P8 × P9 × P10 × OneIndex
-unfolding challengeOf Planned row tabulate zeros allZero number parent isAncestorWithin isAncestor some covered siblingToReveal revealedFrom revealed nodeCount bitAt bitsAt indexAt clearAt faest128s resolved level challengeBytes depthOf firstBit firstEntry leaves leafOf shapeOk hiddenIndex hiddenLeaf hiddenLeaves grindingOk planned plannedCount countWith nodesOk planNumber
+unfolding challengeOf Planned row tabulate zeros allZero number parent isAncestorWithin isAncestor some covered siblingToReveal revealedFrom revealed nodeCount bitAt bitsAt indexAt clearAt faest128s resolved level challengeBytes depthOf firstBit firstEntry leaves leafOf shapeOk hiddenIndex hiddenLeaf hiddenLeaves grindingOk planned plannedCount countWith nodesOk planNumber deeper
 table = (
   (refl, refl, refl),
   (refl, refl, refl),
@@ -99,5 +100,20 @@ varied = 8 ∷ 118 ∷ 246 ∷ 103 ∷ 12 ∷ 60 ∷ 245 ∷ 175 ∷ 148 ∷ 147
 pub default-indices :
     hiddenIndices faest128s varied
     ≡ 1544 ∷ 1742 ∷ 415 ∷ 1542 ∷ 1875 ∷ 351 ∷ 1253 ∷ 1868 ∷ 1536 ∷ 1883 ∷ 1876 ∷ []
-unfolding tabulate number bitAt bitsAt indexAt faest128s depthOf firstBit hiddenIndex hiddenIndices
+unfolding tabulate number bitAt bitsAt indexAt faest128s depthOf firstBit hiddenIndex hiddenIndices deeper level
 default-indices = refl
+
+-- ---- two depths: at 2, 1, 125, 4 vector 0 has depth 2 and vector 1 depth 1; the fast set's last leaf is the last entry of its last deeper vector
+
+abbrev pub Uneven : Type 0
+Uneven =
+    Planned (row 2 1 125 4 0x00 0 1 (1 ∷ 0 ∷ 0 ∷ 0 ∷ []))
+    × Planned (row 2 1 125 4 0x07 0 3 (9 ∷ 7 ∷ 2 ∷ 0 ∷ []))
+    × Planned (row 2 1 125 4 0x02 0 3 (10 ∷ 5 ∷ 3 ∷ 0 ∷ []))
+    × Planned (row 2 1 125 2 0x02 5 3 (0 ∷ 0 ∷ []))
+    × Planned (row 2 1 125 4 0x08 4 0 (0 ∷ 0 ∷ 0 ∷ 0 ∷ []))
+    × (let s : Shape = record { tau = 16; k = 7; w = 8; t = 110 } in (leaves s ≡ 3072) × (leafOf s 15 127 ≡ 5118) × (leafOf s 7 255 ≡ 6142))
+
+pub uneven : Uneven
+unfolding challengeOf Planned row tabulate zeros allZero number parent isAncestorWithin isAncestor some covered siblingToReveal revealedFrom revealed nodeCount bitAt bitsAt indexAt clearAt faest128s resolved level challengeBytes deeper depthOf firstBit leaves leafOf shapeOk hiddenIndex hiddenLeaf hiddenLeaves grindingOk planned plannedCount countWith nodesOk planNumber
+uneven = ((refl, refl, refl), (refl, refl, refl), (refl, refl, refl), (refl, refl, refl), (refl, refl, refl), (refl, refl, refl))

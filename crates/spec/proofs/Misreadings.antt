@@ -10,7 +10,7 @@ use Rattle.spec.specs.declared.Shape.{Shape}
 use Rattle.spec.specs.Bytes.{tabulate, concat, zeros, allZero, xorBelow, number}
 use Rattle.spec.specs.Tree.{parent, isAncestorWithin, isAncestor, some, covered, siblingToReveal, revealedFrom, revealed, nodeCount}
 use Rattle.spec.specs.Challenge.{bitAt, bitsAt, indexAt, clearAt}
-use Rattle.spec.specs.Shapes.{level, nodeBytes, challengeBytes, leafCommitmentBytes, depthOf, entriesOf, firstBit, firstEntry, leaves, leafOf, shapeOk, hiddenIndex, hiddenLeaf, hiddenLeaves, grindingOk, planned, plannedCount, treeBytes, leafCommitmentsBytes, openingBytes}
+use Rattle.spec.specs.Shapes.{level, nodeBytes, challengeBytes, leafCommitmentBytes, deeper, depthOf, entriesOf, firstBit, firstEntry, leaves, leafOf, shapeOk, hiddenIndex, hiddenLeaf, hiddenLeaves, grindingOk, planned, plannedCount, treeBytes, leafCommitmentsBytes, openingBytes}
 use Rattle.spec.specs.Primitives.{prg}
 use Rattle.spec.specs.Leaves.{nodeAt, leafKey, stretched, leafSeed}
 use Rattle.spec.specs.Rows.{rowByte, uByte}
@@ -35,7 +35,7 @@ vectorAfterVector s i j = leaves s - 1 + firstEntry s i + j
 
 pub not-vector-after-vector :
     revealed (leaves shape) (tabulate 3 (λ i. vectorAfterVector shape i (hiddenIndex shape challenge i))) ≡ planned shape challenge → ⊥
-unfolding vectorAfterVector tabulate zeros number parent isAncestorWithin isAncestor some covered siblingToReveal revealedFrom revealed bitAt bitsAt indexAt depthOf firstBit firstEntry leaves leafOf hiddenIndex hiddenLeaf hiddenLeaves planned
+unfolding vectorAfterVector tabulate zeros number parent isAncestorWithin isAncestor some covered siblingToReveal revealedFrom revealed bitAt bitsAt indexAt depthOf firstBit firstEntry leaves leafOf hiddenIndex hiddenLeaf hiddenLeaves planned deeper level
 not-vector-after-vector =
     apart (revealed (leaves shape) (tabulate 3 (λ i. vectorAfterVector shape i (hiddenIndex shape challenge i)))) (planned shape challenge) 0 tt
 
@@ -46,7 +46,7 @@ revealedDownward c zero = []
 revealedDownward c (suc a) = revealedDownward c a ++ siblingToReveal (c (2 * a + 1)) (c (2 * a + 2)) a
 
 pub not-root-downward : revealedDownward (covered (hiddenLeaves shape challenge)) 11 ≡ planned shape challenge → ⊥
-unfolding revealedDownward tabulate number parent isAncestorWithin isAncestor some covered siblingToReveal revealedFrom revealed bitAt bitsAt indexAt depthOf firstBit leaves leafOf hiddenIndex hiddenLeaf hiddenLeaves planned
+unfolding revealedDownward tabulate number parent isAncestorWithin isAncestor some covered siblingToReveal revealedFrom revealed bitAt bitsAt indexAt depthOf firstBit leaves leafOf hiddenIndex hiddenLeaf hiddenLeaves planned deeper level
 not-root-downward = apart (revealedDownward (covered (hiddenLeaves shape challenge)) 11) (planned shape challenge) 0 tt
 
 pub coveredChildren : (ℕ → Bool) → ℕ → List ℕ
@@ -54,7 +54,7 @@ coveredChildren c zero = []
 coveredChildren c (suc a) = siblingToReveal (c (2 * a + 2)) (c (2 * a + 1)) a ++ coveredChildren c a
 
 pub not-covered-child : coveredChildren (covered (hiddenLeaves shape challenge)) 11 ≡ planned shape challenge → ⊥
-unfolding coveredChildren tabulate number parent isAncestorWithin isAncestor some covered siblingToReveal revealedFrom revealed bitAt bitsAt indexAt depthOf firstBit leaves leafOf hiddenIndex hiddenLeaf hiddenLeaves planned
+unfolding coveredChildren tabulate number parent isAncestorWithin isAncestor some covered siblingToReveal revealedFrom revealed bitAt bitsAt indexAt depthOf firstBit leaves leafOf hiddenIndex hiddenLeaf hiddenLeaves planned deeper level
 not-covered-child = apart (coveredChildren (covered (hiddenLeaves shape challenge)) 11) (planned shape challenge) 0 tt
 
 -- ---- T compared with all covered nodes instead of the revealed ones
@@ -67,7 +67,7 @@ pub coveredNumber : Shape → List ℕ → ℕ
 coveredNumber s ch = cond (leb (coveredBelow (hiddenLeaves s ch) (2 * leaves s - 1)) (s .t)) 0 5
 
 pub not-covered-nodes : coveredNumber shape challenge ∷ [] ≡ planNumber shape challenge (zeros 7) ∷ [] → ⊥
-unfolding coveredBelow coveredNumber tabulate zeros allZero number parent isAncestorWithin isAncestor some covered siblingToReveal revealedFrom revealed nodeCount bitAt bitsAt indexAt clearAt level challengeBytes depthOf firstBit leaves leafOf shapeOk hiddenIndex hiddenLeaf hiddenLeaves grindingOk plannedCount nodesOk planNumber
+unfolding coveredBelow coveredNumber tabulate zeros allZero number parent isAncestorWithin isAncestor some covered siblingToReveal revealedFrom revealed nodeCount bitAt bitsAt indexAt clearAt level challengeBytes depthOf firstBit leaves leafOf shapeOk hiddenIndex hiddenLeaf hiddenLeaves grindingOk plannedCount nodesOk planNumber deeper
 not-covered-nodes = apart (coveredNumber shape challenge ∷ []) (planNumber shape challenge (zeros 7) ∷ []) 0 tt
 
 -- ---- the correction of vector 0 taken as u instead of nothing
@@ -76,7 +76,7 @@ pub withVector0 : List ℕ
 withVector0 = signerU standIn shape 2 iv signer-tree ++ corrections standIn shape 2 iv signer-tree
 
 pub not-vector-0 : withVector0 ≡ corrections standIn shape 2 iv signer-tree → ⊥
-unfolding withVector0 tabulate concat xorBelow level nodeBytes leafCommitmentBytes depthOf entriesOf leaves leafOf prg nodeAt leafKey stretched leafSeed rowByte uByte signerU correction corrections
+unfolding withVector0 tabulate concat xorBelow level nodeBytes leafCommitmentBytes depthOf entriesOf leaves leafOf prg nodeAt leafKey stretched leafSeed rowByte uByte signerU correction corrections deeper
 not-vector-0 = apart withVector0 (corrections standIn shape 2 iv signer-tree) 1 tt
 
 -- ---- the opening filled first and the count compared later
@@ -90,5 +90,5 @@ ours before =
     (openingOf tight challenge signer-tree signer-leaf-commitments) before
 
 pub not-filled-first : filledFirst (zeros 208) ≡ ours (zeros 208) → ⊥
-unfolding filledFirst ours tabulate concat zeros allZero number parent isAncestorWithin isAncestor some covered siblingToReveal revealedFrom revealed nodeCount bitAt bitsAt indexAt clearAt level nodeBytes challengeBytes leafCommitmentBytes depthOf firstBit firstEntry leaves leafOf shapeOk hiddenIndex hiddenLeaf hiddenLeaves grindingOk planned plannedCount treeBytes leafCommitmentsBytes openingBytes nodeAt leafCommitmentAt openingOf nodesOk openNumber
+unfolding filledFirst ours tabulate concat zeros allZero number parent isAncestorWithin isAncestor some covered siblingToReveal revealedFrom revealed nodeCount bitAt bitsAt indexAt clearAt level nodeBytes challengeBytes leafCommitmentBytes depthOf firstBit firstEntry leaves leafOf shapeOk hiddenIndex hiddenLeaf hiddenLeaves grindingOk planned plannedCount treeBytes leafCommitmentsBytes openingBytes nodeAt leafCommitmentAt openingOf nodesOk openNumber deeper
 not-filled-first = apart (filledFirst (zeros 208)) (ours (zeros 208)) 0 tt

@@ -10,7 +10,7 @@ use Rattle.spec.specs.declared.Shape.{Shape}
 use Rattle.spec.specs.Bytes.{tabulate, zeros, allZero, number}
 use Rattle.spec.specs.Tree.{parent, isAncestorWithin, isAncestor, some, covered, siblingToReveal, revealedFrom, revealed, nodeCount}
 use Rattle.spec.specs.Challenge.{bitAt, bitsAt, indexAt, clearAt}
-use Rattle.spec.specs.Shapes.{faest128s, resolved, level, nodeBytes, challengeBytes, leafCommitmentBytes, hashBytes, depthOf, firstBit, leaves, leafOf, shapeOk, hiddenIndex, hiddenLeaf, hiddenLeaves, grindingOk, planned, plannedCount, treeBytes, leafCommitmentsBytes, openingBytes, matrixBytes, correctionsBytes}
+use Rattle.spec.specs.Shapes.{faest128s, resolved, level, nodeBytes, challengeBytes, leafCommitmentBytes, hashBytes, deeper, depthOf, firstBit, leaves, leafOf, shapeOk, hiddenIndex, hiddenLeaf, hiddenLeaves, grindingOk, planned, plannedCount, treeBytes, leafCommitmentsBytes, openingBytes, matrixBytes, correctionsBytes}
 use Rattle.spec.specs.Verifier.{slotsOk}
 use Rattle.spec.specs.Calls.{rowOk, nodesOk, countWith, decodeNumber, planNumber, commitNumber, openNumber, reconstructNumber}
 
@@ -28,6 +28,10 @@ Limits =
     × (shapeOk (shape 32 4 0 0) ≡ false)
     × (shapeOk (shape 32 4 0 513) ≡ false)
     × (shapeOk (shape 32 4 1 512) ≡ false)
+    × (shapeOk (shape 16 7 8 110) ≡ true)
+    × (shapeOk (shape 10 11 9 512) ≡ true)
+    × (shapeOk (shape 10 11 8 512) ≡ false)
+    × (shapeOk (shape 10 12 7 512) ≡ false)
     × (rowOk 8 ≡ true)
     × (rowOk 65536 ≡ true)
     × (rowOk 0 ≡ false)
@@ -36,8 +40,8 @@ Limits =
     × (openingBytes faest128s ≡ 2160)
 
 pub limits : Limits
-unfolding faest128s level nodeBytes leafCommitmentBytes shapeOk openingBytes rowOk
-limits = (refl, refl, refl, refl, refl, refl, refl, refl, refl, refl, refl, refl, refl)
+unfolding faest128s level nodeBytes leafCommitmentBytes shapeOk openingBytes rowOk deeper depthOf
+limits = (refl, refl, refl, refl, refl, refl, refl, refl, refl, refl, refl, refl, refl, refl, refl, refl, refl)
 
 -- four zeros are the default; three are not, wherever the fourth number stands
 abbrev pub Defaults : Type 0
@@ -50,7 +54,7 @@ Defaults =
     × (shapeOk (shape 0 0 0 102) ≡ false)
 
 pub defaults : Defaults
-unfolding allZero faest128s resolved shapeOk
+unfolding allZero faest128s resolved shapeOk deeper level depthOf
 defaults = (refl, refl, refl, refl, refl, refl)
 
 -- ---- grinding bits
@@ -71,7 +75,7 @@ Grinding =
     × (grindingOk faest128s (only 15 128) ≡ false)
 
 pub grinding : Grinding
-unfolding tabulate zeros allZero bitAt bitsAt clearAt faest128s firstBit grindingOk
+unfolding tabulate zeros allZero bitAt bitsAt clearAt faest128s firstBit grindingOk deeper level
 grinding = (refl, refl, refl, refl, refl, refl, refl)
 
 -- ---- the calls at τ 1, k 1, w 127, T 1 or, for 5, at P8's shape; a challenge is its first byte and fifteen zeros
@@ -151,7 +155,7 @@ Numbers =
     × (reconstructingAt 160 ≡ 6)
 
 pub numbers : Numbers
-unfolding tabulate zeros allZero number parent isAncestorWithin isAncestor some covered siblingToReveal revealedFrom revealed nodeCount bitAt bitsAt indexAt clearAt level nodeBytes challengeBytes leafCommitmentBytes hashBytes depthOf firstBit leaves leafOf shapeOk hiddenIndex hiddenLeaf hiddenLeaves grindingOk planned plannedCount treeBytes leafCommitmentsBytes openingBytes matrixBytes correctionsBytes slotsOk rowOk nodesOk decodeNumber planNumber commitNumber openNumber reconstructNumber
+unfolding tabulate zeros allZero number parent isAncestorWithin isAncestor some covered siblingToReveal revealedFrom revealed nodeCount bitAt bitsAt indexAt clearAt level nodeBytes challengeBytes leafCommitmentBytes hashBytes depthOf firstBit leaves leafOf shapeOk hiddenIndex hiddenLeaf hiddenLeaves grindingOk planned plannedCount treeBytes leafCommitmentsBytes openingBytes matrixBytes correctionsBytes slotsOk rowOk nodesOk decodeNumber planNumber commitNumber openNumber reconstructNumber deeper
 numbers =
     (refl, refl, refl, refl, refl, refl, refl, refl, refl, refl, refl, refl, refl, refl, refl, refl, refl, refl, refl, refl, refl, refl, refl, refl, refl, refl, refl, refl, refl)
 
@@ -183,7 +187,7 @@ Lengths =
     ≡ replicate 8 3 ++ (0 ∷ []))
 
 pub lengths : Lengths
-unfolding tabulate zeros allZero number parent isAncestorWithin isAncestor some covered siblingToReveal revealedFrom revealed nodeCount bitAt bitsAt indexAt clearAt level nodeBytes challengeBytes leafCommitmentBytes hashBytes depthOf firstBit leaves leafOf shapeOk hiddenIndex hiddenLeaf hiddenLeaves grindingOk planned plannedCount treeBytes leafCommitmentsBytes openingBytes matrixBytes correctionsBytes slotsOk rowOk nodesOk decodeNumber planNumber commitNumber openNumber reconstructNumber
+unfolding tabulate zeros allZero number parent isAncestorWithin isAncestor some covered siblingToReveal revealedFrom revealed nodeCount bitAt bitsAt indexAt clearAt level nodeBytes challengeBytes leafCommitmentBytes hashBytes depthOf firstBit leaves leafOf shapeOk hiddenIndex hiddenLeaf hiddenLeaves grindingOk planned plannedCount treeBytes leafCommitmentsBytes openingBytes matrixBytes correctionsBytes slotsOk rowOk nodesOk decodeNumber planNumber commitNumber openNumber reconstructNumber deeper
 lengths = (refl, refl, refl, refl, refl)
 
 -- the count with each number, where 7 nodes are planned

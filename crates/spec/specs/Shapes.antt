@@ -1,9 +1,9 @@
--- Document 01, "The shape and the tree": shapes, the numbers and widths that a shape gives, and what it makes of a challenge. s is a resolved shape.
--- Other levels and depths change only definitions of this file: all others use their names.
-use Prim.Native.Nat.{ℕ, _+_, _-_, _*_, _/_, _^_}
+-- Document 01, "The shape and the tree", and document 02, E2: shapes, the numbers and widths that a shape gives, and what it makes of a challenge. Behind `resolved`, s is a
+-- resolved shape. Other levels change only definitions of this file: all others use their names.
+use Prim.Native.Nat.{ℕ, _+_, _-_, _*_, _/_, _^_, min}
 use mathlib.Core.Bool.{Bool, _&&_, cond}
 use mathlib.Core.List.{List, [], _∷_}
-use lib.Dec.{leb, eqb}
+use lib.Dec.{leb, ltb}
 use Rattle.spec.specs.declared.Shape.{Shape}
 use Rattle.spec.specs.Bytes.{tabulate, allZero}
 use Rattle.spec.specs.Challenge.{indexAt, clearAt}
@@ -56,10 +56,14 @@ fieldWidth s = 3 * level s
 unfoldable pub fieldPolynomial : Shape → ℕ
 fieldPolynomial s = 2 ^ 384 + 2 ^ 12 + 2 ^ 3 + 2 ^ 2 + 1
 
--- ---- vectors
+-- ---- vectors: the first r have depth k + 1, the others depth k
+
+-- r, the number of the deeper vectors: document 000's tau_1
+unfoldable pub deeper : Shape → ℕ
+deeper s = level s - s .w - s .tau * s .k
 
 unfoldable pub depthOf : Shape → ℕ → ℕ
-depthOf s i = s .k
+depthOf s i = cond (ltb i (deeper s)) (s .k + 1) (s .k)
 
 -- the entries of vector i: document 000's N_i
 unfoldable pub entriesOf : Shape → ℕ → ℕ
@@ -67,26 +71,28 @@ entriesOf s i = 2 ^ depthOf s i
 
 -- the first challenge bit of vector i, which is also the number of its first column
 unfoldable pub firstBit : Shape → ℕ → ℕ
-firstBit s i = i * s .k
+firstBit s i = i * s .k + min i (deeper s)
 
 -- how many entries the vectors before vector i have: the place of its first leaf commitment
 unfoldable pub firstEntry : Shape → ℕ → ℕ
-firstEntry s i = i * 2 ^ s .k
+firstEntry s i = (i + min i (deeper s)) * 2 ^ s .k
 
 -- L, the number of leaves
 unfoldable pub leaves : Shape → ℕ
-leaves s = s .tau * 2 ^ s .k
+leaves s = (s .tau + deeper s) * 2 ^ s .k
 
--- BAVC.PosInTree, section 5.1, as document 01 numbers the leaves: the node of entry j of vector i
+-- BAVC.PosInTree, section 5.1, as documents 01 and 02 number the leaves: the node of entry j of vector i. The entries below 2^k of all vectors are interleaved;
+-- behind them are the others, of the deeper vectors.
 unfoldable pub leafOf : Shape → ℕ → ℕ → ℕ
-leafOf s i j = leaves s - 1 + s .tau * j + i
+leafOf s i j = leaves s - 1 + cond (ltb j (2 ^ s .k)) (s .tau * j) (s .tau * 2 ^ s .k + deeper s * (j - 2 ^ s .k)) + i
 
 -- ---- the shape rules, refusal 1
 
+-- k + 1 counts where a vector has that depth; vector 0 is as deep as any
 unfoldable pub shapeOk : Shape → Bool
 shapeOk s =
-    leb 1 (s .tau) && leb (s .tau) 32 && leb 1 (s .k) && leb (s .k) 12 && leb (s .w) 127 && leb 1 (s .t) && leb (s .t) 512
-    && eqb (s .tau * s .k + s .w) (level s)
+    leb 1 (s .tau) && leb (s .tau) 32 && leb 1 (s .k) && leb (depthOf s 0) 12 && leb (s .w) 127 && leb 1 (s .t) && leb (s .t) 512
+    && leb (s .tau * s .k + s .w) (level s) && ltb (deeper s) (s .tau)
 
 -- ---- what a challenge hides
 

@@ -1,6 +1,7 @@
 // The types that every public contract shares. The definitions stand in ../specs, in the order of specs/Lib.antt.
 
-// A shape: tau vectors of depth k, w grinding bits, and an opening of at most t nodes (document 01, "The shape and the tree").
+// A shape: tau vectors, the first 128 - w - tau k of depth k + 1 and the others of depth k, w grinding bits, and an opening of at most t nodes (document 01, "The
+// shape and the tree"; document 02, E2).
 pub struct Shape {
     pub tau: usize,
     pub k: usize,

@@ -3,3 +3,4 @@ pub mod Recognition
 pub mod KnownAnswers
 pub mod LongMessages
 pub mod LongRowsExample
+pub mod UnevenExample

@@ -8,7 +8,7 @@ use Rattle.spec.specs.declared.Shape.{Shape}
 use Rattle.spec.specs.Bytes.{tabulate, concat, zeros, xorBelow, number, indexOf}
 use Rattle.spec.specs.Tree.{parent, isAncestorWithin, isAncestor, some, covered, siblingToReveal, revealedFrom, revealed, nodeCount, expandTree}
 use Rattle.spec.specs.Challenge.{bitAt, bitsAt, indexAt}
-use Rattle.spec.specs.Shapes.{level, nodeBytes, leafCommitmentBytes, depthOf, entriesOf, firstBit, firstEntry, leaves, leafOf, hiddenIndex, hiddenLeaf, hiddenLeaves, planned, plannedCount}
+use Rattle.spec.specs.Shapes.{level, nodeBytes, leafCommitmentBytes, deeper, depthOf, entriesOf, firstBit, firstEntry, leaves, leafOf, hiddenIndex, hiddenLeaf, hiddenLeaves, planned, plannedCount}
 use Rattle.spec.specs.Primitives.{prg}
 use Rattle.spec.specs.Leaves.{nodeAt, leafKey, children, hashKey, stretched, leafSeed, leafCommitment, vectorCommitments, leafCommitments, vectorHash, commitmentOf}
 use Rattle.spec.specs.Rows.{rowByte, uByte, columnByte, matrixOf}
@@ -59,27 +59,27 @@ verifier-q = 32 ∷ 218 ∷ 40 ∷ 94 ∷ 192 ∷ 250 ∷ 216 ∷ 150 ∷ 224 �
 -- ---- commit
 
 tree-of-root : signerTree standIn shape root iv ≡ signer-tree
-unfolding tabulate expandTree level nodeBytes leaves prg children signerTree
+unfolding tabulate expandTree level nodeBytes leaves prg children signerTree deeper
 tree-of-root = refl
 
 commitments-of-tree : leafCommitments shape (signerLeafCommitment standIn shape iv signer-tree) ≡ signer-leaf-commitments
-unfolding tabulate level nodeBytes leafCommitmentBytes leaves leafOf prg nodeAt leafKey stretched leafSeed concat depthOf entriesOf hashKey leafCommitment vectorCommitments leafCommitments signerLeafCommitment
+unfolding tabulate level nodeBytes leafCommitmentBytes leaves leafOf prg nodeAt leafKey stretched leafSeed concat depthOf entriesOf hashKey leafCommitment vectorCommitments leafCommitments signerLeafCommitment deeper
 commitments-of-tree = refl
 
 hash-of-tree : commitmentOf standIn shape (signerLeafCommitment standIn shape iv signer-tree) ≡ signer-commitment
-unfolding tabulate level nodeBytes leafCommitmentBytes leaves leafOf prg nodeAt leafKey stretched leafSeed concat depthOf entriesOf hashKey leafCommitment vectorCommitments vectorHash commitmentOf signerLeafCommitment
+unfolding tabulate level nodeBytes leafCommitmentBytes leaves leafOf prg nodeAt leafKey stretched leafSeed concat depthOf entriesOf hashKey leafCommitment vectorCommitments vectorHash commitmentOf signerLeafCommitment deeper
 hash-of-tree = refl
 
 u-of-tree : signerU standIn shape 18 iv signer-tree ≡ signer-u
-unfolding tabulate level nodeBytes leafCommitmentBytes leaves leafOf prg nodeAt leafKey stretched leafSeed xorBelow depthOf entriesOf rowByte uByte signerU
+unfolding tabulate level nodeBytes leafCommitmentBytes leaves leafOf prg nodeAt leafKey stretched leafSeed xorBelow depthOf entriesOf rowByte uByte signerU deeper
 u-of-tree = refl
 
 v-of-tree : matrixOf shape 18 (signerColumn standIn shape 18 iv signer-tree) ≡ signer-v ++ zeros (18 * 119)
-unfolding tabulate level nodeBytes leafCommitmentBytes leaves leafOf prg nodeAt leafKey stretched leafSeed xorBelow depthOf entriesOf rowByte concat zeros columnByte matrixOf signerColumn
+unfolding tabulate level nodeBytes leafCommitmentBytes leaves leafOf prg nodeAt leafKey stretched leafSeed xorBelow depthOf entriesOf rowByte concat zeros columnByte matrixOf signerColumn deeper
 v-of-tree = refl
 
 corrections-of-tree : corrections standIn shape 18 iv signer-tree ≡ signer-corrections
-unfolding tabulate level nodeBytes leafCommitmentBytes leaves leafOf prg nodeAt leafKey stretched leafSeed xorBelow depthOf entriesOf rowByte concat uByte correction corrections
+unfolding tabulate level nodeBytes leafCommitmentBytes leaves leafOf prg nodeAt leafKey stretched leafSeed xorBelow depthOf entriesOf rowByte concat uByte correction corrections deeper
 corrections-of-tree = refl
 
 pub commits :
@@ -103,25 +103,25 @@ commits = (
 -- ---- open
 
 pub opens : openingOf shape challenge signer-tree signer-leaf-commitments ≡ opening
-unfolding tabulate number bitAt bitsAt indexAt depthOf firstBit leaves leafOf hiddenIndex parent isAncestorWithin isAncestor some covered siblingToReveal revealedFrom revealed nodeCount hiddenLeaf hiddenLeaves planned plannedCount concat zeros level nodeBytes leafCommitmentBytes firstEntry nodeAt leafCommitmentAt openingOf
+unfolding tabulate number bitAt bitsAt indexAt depthOf firstBit leaves leafOf hiddenIndex parent isAncestorWithin isAncestor some covered siblingToReveal revealedFrom revealed nodeCount hiddenLeaf hiddenLeaves planned plannedCount concat zeros level nodeBytes leafCommitmentBytes firstEntry nodeAt leafCommitmentAt openingOf deeper
 opens = refl
 
 -- ---- reconstruct
 
 tree-of-opening : reconstructedTree standIn shape iv challenge opening ≡ verifier-tree
-unfolding tabulate number bitAt bitsAt indexAt depthOf firstBit leaves leafOf hiddenIndex parent isAncestorWithin isAncestor some covered siblingToReveal revealedFrom revealed nodeCount hiddenLeaf hiddenLeaves planned plannedCount zeros indexOf expandTree level nodeBytes leafCommitmentBytes prg children slot givenNode reconstructedChildren reconstructedTree
+unfolding tabulate number bitAt bitsAt indexAt depthOf firstBit leaves leafOf hiddenIndex parent isAncestorWithin isAncestor some covered siblingToReveal revealedFrom revealed nodeCount hiddenLeaf hiddenLeaves planned plannedCount zeros indexOf expandTree level nodeBytes leafCommitmentBytes prg children slot givenNode reconstructedChildren reconstructedTree deeper
 tree-of-opening = refl
 
 commitments-again : leafCommitments shape (verifierLeafCommitment standIn shape iv challenge opening verifier-tree) ≡ signer-leaf-commitments
-unfolding tabulate level nodeBytes leafCommitmentBytes leaves leafOf prg nodeAt leafKey stretched leafSeed concat depthOf entriesOf hashKey leafCommitment number bitAt bitsAt indexAt firstBit hiddenIndex hiddenLeafCommitment verifierLeafCommitment vectorCommitments leafCommitments
+unfolding tabulate level nodeBytes leafCommitmentBytes leaves leafOf prg nodeAt leafKey stretched leafSeed concat depthOf entriesOf hashKey leafCommitment number bitAt bitsAt indexAt firstBit hiddenIndex hiddenLeafCommitment verifierLeafCommitment vectorCommitments leafCommitments deeper
 commitments-again = refl
 
 hash-again : commitmentOf standIn shape (verifierLeafCommitment standIn shape iv challenge opening verifier-tree) ≡ signer-commitment
-unfolding tabulate level nodeBytes leafCommitmentBytes leaves leafOf prg nodeAt leafKey stretched leafSeed concat depthOf entriesOf hashKey leafCommitment number bitAt bitsAt indexAt firstBit hiddenIndex hiddenLeafCommitment verifierLeafCommitment vectorCommitments vectorHash commitmentOf
+unfolding tabulate level nodeBytes leafCommitmentBytes leaves leafOf prg nodeAt leafKey stretched leafSeed concat depthOf entriesOf hashKey leafCommitment number bitAt bitsAt indexAt firstBit hiddenIndex hiddenLeafCommitment verifierLeafCommitment vectorCommitments vectorHash commitmentOf deeper
 hash-again = refl
 
 q-of-tree : matrixOf shape 18 (verifierColumn standIn shape 18 iv challenge signer-corrections verifier-tree) ≡ verifier-q ++ zeros (18 * 119)
-unfolding tabulate level nodeBytes leafCommitmentBytes leaves leafOf prg nodeAt leafKey stretched leafSeed xorBelow depthOf entriesOf rowByte number bitAt bitsAt indexAt firstBit hiddenIndex concat zeros columnByte matrixOf correctionByte verifierColumn
+unfolding tabulate level nodeBytes leafCommitmentBytes leaves leafOf prg nodeAt leafKey stretched leafSeed xorBelow depthOf entriesOf rowByte number bitAt bitsAt indexAt firstBit hiddenIndex concat zeros columnByte matrixOf correctionByte verifierColumn deeper
 q-of-tree = refl
 
 pub reconstructs :

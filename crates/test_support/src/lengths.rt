@@ -26,19 +26,10 @@ pub fn at_most(n: usize, limit: usize) -> usize
 fn leaves(s: Shape) -> usize
     ensures { λ r. ⌜ (1 ≤ r) × (r ≤ 40960) ⌝ }
 {
-    let tau = s.tau;
-    let k = s.k;
-    if 12 < k {
-        return 1;
+    if rules::is_shape(s) {
+        return rules::leaf_count(s);
     }
-    let n = at_most(tau, 32) << k;
-    if n < 1 {
-        return 1;
-    }
-    if 40960 < n {
-        return 1;
-    }
-    n
+    1
 }
 
 // The product of a number of vectors and a number of bytes or bits.

@@ -10,7 +10,7 @@ use Rattle.spec.specs.declared.Shape.{Shape}
 use Rattle.spec.specs.Bytes.{tabulate, zeros, number}
 use Rattle.spec.specs.Tree.{parent, isAncestorWithin, isAncestor, some, covered, siblingToReveal, revealedFrom, revealed}
 use Rattle.spec.specs.Challenge.{bitAt, bitsAt, indexAt}
-use Rattle.spec.specs.Shapes.{faest128s, depthOf, firstBit, leaves, leafOf, hiddenIndex, hiddenLeaf, hiddenLeaves, planned, plannedCount}
+use Rattle.spec.specs.Shapes.{faest128s, level, deeper, depthOf, firstBit, leaves, leafOf, hiddenIndex, hiddenLeaf, hiddenLeaves, planned, plannedCount}
 use Rattle.spec.proofs.Examples.{OneIndex, table}
 use Rattle.theorems.specs.Planning.{RevealedAt, LeastPower}
 
@@ -23,7 +23,7 @@ abbrev pub challenge4 : List ℕ
 challenge4 = 0x0c ∷ zeros 15
 
 pub planned-4 : (hiddenLeaves shape4 challenge4 ≡ 7 ∷ 14 ∷ []) × (planned shape4 challenge4 ≡ 13 ∷ 8 ∷ 5 ∷ 4 ∷ [])
-unfolding tabulate zeros number parent isAncestorWithin isAncestor some covered siblingToReveal revealedFrom revealed bitAt bitsAt indexAt depthOf firstBit leaves leafOf hiddenIndex hiddenLeaf hiddenLeaves planned
+unfolding tabulate zeros number parent isAncestorWithin isAncestor some covered siblingToReveal revealedFrom revealed bitAt bitsAt indexAt depthOf firstBit leaves leafOf hiddenIndex hiddenLeaf hiddenLeaves planned deeper level
 planned-4 = (refl, refl)
 
 -- which leaves these nodes reveal
@@ -71,5 +71,10 @@ sharp =
 
 -- D of FAEST-128s
 pub least-power-128s : LeastPower (leaves faest128s) 15
-unfolding faest128s leaves
+unfolding faest128s leaves deeper level
 least-power-128s = power-between 22528 14 (omega arith) (omega arith)
+
+-- and of FAEST-128f
+pub least-power-128f : LeastPower (leaves (record { tau = 16; k = 7; w = 8; t = 110 })) 12
+unfolding leaves deeper level
+least-power-128f = power-between 3072 11 (omega arith) (omega arith)

@@ -4,7 +4,8 @@ use Prim.Native.Nat.{ℕ, _+_, _-_, _*_, _^_, _≤_, _<_}
 use mathlib.Core.Path.{_≡_, refl, sym, ap, ap₂, _∙_}
 use mathlib.Core.Bool.{true}
 use mathlib.Core.List.{List, [], _++_}
-use native.Mathlib.Nat.{mul-add, mul-assoc, mul-comm, mul-le-mul}
+use native.Mathlib.Nat.{mul-add, mul-le-mul, le-refl}
+use native.Mathlib.Numerals.{add-one}
 use native.Mathlib.Omega.{arith}
 use lib.Bits.{bitXor, xor-zero-l}
 use lib.ListN.{length, getD, take}
@@ -13,34 +14,52 @@ use mir.Syntax.{w64}
 use mir.Val.{Fits}
 use Rattle.spec.specs.declared.Shape.{Shape}
 use Rattle.spec.specs.Bytes.{part, tabulate, concat, zeros}
-use Rattle.spec.specs.Shapes.{shapeOk}
+use Rattle.spec.specs.Shapes.{level, nodeBytes, leafCommitmentBytes, depthOf, entriesOf, firstBit, firstEntry, shapeOk, leafCommitmentsBytes, matrixBytes}
 use Rattle.laws.proofs.Lists.{length-part}
 use Rattle.laws.proofs.Putting.{put-next}
 use Rattle.laws.proofs.Strings.{getD-zeros}
 use Rattle.laws.proofs.Concat.{is-concat, mul-next, mul-within}
-use Rattle.planning_laws.proofs.ShapeFacts.{shape-facts}
+use Rattle.laws.proofs.Stretches.{stretch-before}
+use Rattle.planning_laws.proofs.Depths.{bit-next, entry-next}
+use Rattle.planning_laws.proofs.ShapeFacts.{shape-facts, bit-all, depth-small}
+use Rattle.planning_laws.proofs.ShapeLaws.{shape-laws}
 use Rattle.columns.specs.Columns.{Added}
 
--- ---- string i, of w bytes, put behind the i before it, in a part lent as v, which is w
+-- ---- string i, of w bytes, put behind the i before it, which end at p, in a part lent from v on; it ends at q
 
-pub put-block : (f : ℕ → List ℕ) (v w i : ℕ) (d y z : List ℕ) → v ≡ w → w * i + w ≤ length d → length y ≡ w → y ≡ f i → take (w * i) d ≡ concat i f
-    → take (w * (i + 1)) (take (v * i) d ++ (y ++ z)) ≡ concat (i + 1) f
-put-block f v w i d y z ev hd hy e q =
-    let a : take (v * i) d ++ (y ++ z) ≡ take (w * i) d ++ (f i ++ z) = ap₂ (λ (n : ℕ) (x : List ℕ). take (n * i) d ++ (x ++ z)) ev e in
-    ap (λ (n : ℕ). take n (take (v * i) d ++ (y ++ z))) (mul-next w i)
-    ∙ put-next f [] w i (w * i) d (take (v * i) d ++ (y ++ z)) z (omega arith) (sym (ap length e) ∙ hy) q a
+pub put-behind : (f : ℕ → List ℕ) (v p w q i : ℕ) (d y z : List ℕ) → v ≡ p → q ≡ p + w → q ≤ length d → length y ≡ w → y ≡ f i → take p d ≡ concat i f
+    → take q (take v d ++ (y ++ z)) ≡ concat (i + 1) f
+put-behind f v p w q i d y z ev eq hd hy e r =
+    let a : take v d ++ (y ++ z) ≡ take p d ++ (f i ++ z) = ap₂ (λ (n : ℕ) (x : List ℕ). take n d ++ (x ++ z)) ev e in
+    ap (λ (n : ℕ). take n (take v d ++ (y ++ z))) eq
+    ∙ put-next f [] w i p d (take v d ++ (y ++ z)) z (omega arith) (sym (ap length e) ∙ hy) r a
+
+-- string i of strings of w bytes
+pub put-block : (f : ℕ → List ℕ) (w i : ℕ) (d y z : List ℕ) → w * i + w ≤ length d → length y ≡ w → y ≡ f i → take (w * i) d ≡ concat i f
+    → take (w * (i + 1)) (take (w * i) d ++ (y ++ z)) ≡ concat (i + 1) f
+put-block f w i d y z hd hy e r = (let n = mul-next w i in put-behind f (w * i) (w * i) w (w * (i + 1)) i d y z refl n (omega arith) hy e r)
 
 -- all of them
-pub put-all : (f : ℕ → List ℕ) (w n : ℕ) (d : List ℕ) → length d ≡ w * n → take (w * n) d ≡ concat n f → d ≡ concat n f
-put-all f w n d l e = sym (take-all (w * n) d (omega arith)) ∙ e
+pub put-all : (f : ℕ → List ℕ) (p n : ℕ) (d : List ℕ) → length d ≡ p → take p d ≡ concat n f → d ≡ concat n f
+put-all f p n d l e = sym (take-all p d (omega arith)) ∙ e
 
 -- ---- places and sizes
 
 pub part-size : (at n : ℕ) → at + n - at ≡ n
 part-size at n = omega arith
 
-pub lent : (at n : ℕ) (l : List ℕ) → at + n ≤ length l → length (part l at (at + n - at)) ≡ n
-lent at n l h = ap (λ (m : ℕ). length (part l at m)) (part-size at n) ∙ length-part l at n h
+-- a part of n bytes, lent from v to w
+pub lent : (v w n : ℕ) (l : List ℕ) → w ≡ v + n → w ≤ length l → length (part l v (w - v)) ≡ n
+lent v w n l e h =
+    let z : w - v ≡ n = omega arith in
+    ap (λ (m : ℕ). length (part l v m)) z ∙ length-part l v n (omega arith)
+
+pub lent-order : (v w n : ℕ) → w ≡ v + n → v ≤ w
+lent-order v w n e = omega arith
+
+-- string i of n, each of w bytes, ends within a buffer that has room for all
+pub block-end : (w i n d : ℕ) → i < n → w * n ≤ d → w * i + w ≤ d
+block-end w i n d h l = (let m = mul-within w i n h in omega arith)
 
 -- the start and the end of a part that is lent are numbers of a word
 module _ (at n d : ℕ) (e : at + n ≤ d) (h : d < 2 ^ 64) where
@@ -50,29 +69,48 @@ module _ (at n d : ℕ) (e : at + n ≤ d) (h : d < 2 ^ 64) where
   pub end-fits : Fits w64 (at + n)
   end-fits = record { fits = omega arith }
 
--- string i of n ends within a buffer that has room for all, in a part lent as v, which is w
-pub block-end : (v w i n d : ℕ) → v ≡ w → i < n → w * n ≤ d → v * i + v ≤ d
-block-end v w i n d e h l = rw e (let m = mul-within w i n h in omega arith)
+-- ---- the parts of vector i: its leaf commitments from `48 * firstEntry s i` on, its columns from `b * firstBit s i` on
 
-pub commitments-end : (s : Shape) (n i d : ℕ) → n ≡ 2 ^ s .k → i < s .tau → 48 * 2 ^ s .k * s .tau ≤ d → 48 * n * i + 48 * n ≤ d
-commitments-end s n i d e h l = block-end (48 * n) (48 * 2 ^ s .k) i (s .tau) d (ap (λ (m : ℕ). 48 * m) e) h l
+module _ (s : Shape) (i : ℕ) where
+  pub commitments-next : 48 * firstEntry s (i + 1) ≡ 48 * firstEntry s i + 48 * entriesOf s i
+  commitments-next = (let e = ap (firstEntry s) (add-one i) ∙ entry-next s i in omega arith)
 
-pub columns-end : (s : Shape) (b i d : ℕ) → i < s .tau → b * s .k * s .tau ≤ d → b * s .k * i + b * s .k ≤ d
-columns-end s b i d h l = block-end (b * s .k) (b * s .k) i (s .tau) d refl h l
+  pub columns-next : (b : ℕ) → b * firstBit s (i + 1) ≡ b * firstBit s i + b * depthOf s i
+  columns-next b = ap (λ (n : ℕ). b * n) (ap (firstBit s) (add-one i) ∙ bit-next s i) ∙ mul-add b (firstBit s i) (depthOf s i)
 
-module _ (s : Shape) (e : shapeOk s ≡ true) where
-  pub columns-fit : (b : ℕ) → b ≤ 8192 → Fits w64 (b * s .k)
-  columns-fit b h = (let m : b * s .k ≤ 8192 * 12 = mul-le-mul h (shape-facts s e .k-max) in record { fits = omega arith })
+  -- as a part is lent, from v to w
+  pub commitments-size : (v w : ℕ) → v ≡ 48 * firstEntry s i → w ≡ 48 * firstEntry s (i + 1) → w ≡ v + 48 * entriesOf s i
+  commitments-size v w ev ew = (let n = commitments-next in omega arith)
 
-  -- the leaf commitments of all vectors, and their columns, to which the last w are added
-  pub all-commitments : 48 * 2 ^ s .k * s .tau ≡ 48 * (s .tau * 2 ^ s .k)
-  all-commitments = mul-assoc 48 (2 ^ s .k) (s .tau) ∙ ap (λ (n : ℕ). 48 * n) (mul-comm (2 ^ s .k) (s .tau))
+  pub columns-size : (b v w : ℕ) → v ≡ b * firstBit s i → w ≡ b * firstBit s (i + 1) → w ≡ v + b * depthOf s i
+  columns-size b v w ev ew = (let n = columns-next b in omega arith)
 
-  pub all-columns : (b : ℕ) → b * s .k * s .tau ≡ b * (s .tau * s .k)
-  all-columns b = mul-assoc b (s .k) (s .tau) ∙ ap (λ (n : ℕ). b * n) (mul-comm (s .k) (s .tau))
+module _ (s : Shape) (ok : shapeOk s ≡ true) where
+  -- those of all vectors; to the columns the last w are added
+  pub all-commitments : 48 * firstEntry s (s .tau) ≡ leafCommitmentsBytes s
+  unfolding level nodeBytes leafCommitmentBytes leafCommitmentsBytes
+  all-commitments = ap (λ (n : ℕ). 48 * n) (shape-laws s ok .entry-all)
 
-  pub rest-columns : (b : ℕ) → b * (s .tau * s .k) + b * s .w ≡ b * 128
-  rest-columns b = sym (mul-add b (s .tau * s .k) (s .w)) ∙ ap (λ (n : ℕ). b * n) (shape-facts s e .total)
+  pub all-columns : (b : ℕ) → b * firstBit s (s .tau) + b * s .w ≡ matrixBytes s b
+  unfolding level matrixBytes
+  all-columns b = sym (mul-add b (firstBit s (s .tau)) (s .w)) ∙ ap (λ (n : ℕ). b * n) (bit-all s (shape-facts s ok))
+
+  -- each ends within its buffer: w is where, d the buffer's length
+  pub commitments-end : (i w d : ℕ) → i < s .tau → w ≡ 48 * firstEntry s (i + 1) → d ≡ leafCommitmentsBytes s → w ≤ d
+  commitments-end i w d h ew ed =
+      let a = stretch-before (firstEntry s) (entriesOf s) (s .tau) i (λ n l. entry-next s n) h in
+      let b = all-commitments in
+      omega (arith, commitments-next s i)
+
+  pub columns-end : (b i w d : ℕ) → i < s .tau → w ≡ b * firstBit s (i + 1) → d ≡ matrixBytes s b → w ≤ d
+  columns-end b i w d h ew ed =
+      let a = stretch-before (firstBit s) (depthOf s) (s .tau) i (λ n l. bit-next s n) h in
+      let e = ap (firstBit s) (add-one i) ∙ bit-next s i in
+      let m : b * firstBit s (i + 1) ≤ b * firstBit s (s .tau) = mul-le-mul (le-refl b) (omega arith) in
+      omega (arith, all-columns b)
+
+  pub columns-fit : (b i : ℕ) → b ≤ 8192 → Fits w64 (b * depthOf s i)
+  columns-fit b i h = (let m : b * depthOf s i ≤ 8192 * 12 = mul-le-mul h (depth-small s i (shape-facts s ok)) in record { fits = omega arith })
 
 -- ---- columns that were cleared
 

@@ -1,6 +1,7 @@
 // The five calls on fixed cases. `stdout` holds what the second implementation (reference/) prints for each: reference/derive_vectors.py derives it from the lines of this file.
 //
 //     case(TAU, K, T, ROWBITS, ROOTIV, CHALLENGE, CHALLENGE)    the three calls; W is 128 - TAU K, or 0 where TAU is 0; the challenge is two words, the least byte first
+//     uneven(TAU, K, W, T, ROWBITS, ROOTIV, CHALLENGE, CHALLENGE)  the same with any W
 //     refused_shape(TAU, K, W, T, ROWBITS)                      the same with any W, with 13 for ROOTIV and a challenge of zeros
 //     flipped(TAU, K, T, ROWBITS, FLIP)                         the same with 13 and zeros, and the byte FLIP of the opening flipped before reconstruct
 //     probe_commit(..), probe_open(..), probe_reconstruct(..)   one call, on buffers of which one may have a wrong length
@@ -14,6 +15,7 @@ use vectors_calls::decode;
 use vectors_calls::flipped;
 use vectors_calls::plan;
 use vectors_calls::refused_shape;
+use vectors_calls::uneven;
 use vectors_probes::probe_commit;
 use vectors_probes::probe_decode;
 use vectors_probes::probe_open;
@@ -102,6 +104,50 @@ fn row_lengths() {
     case(14, 2, 22, 264, 10, 0x461dd69, 0);
 }
 
+// Two depths: FAEST-128f, the second opening with all 110 nodes and the third refused; the smallest tree, one vector deeper, all but one deeper, depth 12. In
+// all but the refused ones entries are hidden on both sides of 2^k.
+fn uneven_depths() {
+    uneven(16, 7, 8, 110, 1680, 13, 0x512bd1311072231, 0x8ca59966ceab36);
+    uneven(
+        16,
+        7,
+        8,
+        110,
+        1680,
+        24,
+        0xae66267594c9c950,
+        0xffed92288bc781,
+    );
+    uneven(16, 7, 8, 110, 16, 13, 0x26d0b944a2863a7f, 0xed038dde383784);
+    uneven(2, 1, 125, 4, 16, 13, 2, 0);
+    uneven(2, 1, 125, 4, 16, 13, 7, 0);
+    uneven(2, 1, 125, 4, 16, 13, 8, 0);
+    uneven(3, 1, 123, 5, 128, 24, 0x12, 0);
+    uneven(2, 11, 105, 23, 120, 90, 0x48dbac, 0);
+    uneven(11, 10, 8, 108, 8, 14, 0xdcf4bb99f4bea973, 0xd95baff2a4d27b);
+    uneven(11, 11, 6, 115, 8, 3, 0x1027c4d1c386bbc4, 0x78bfae414c343c);
+    uneven(
+        10,
+        11,
+        9,
+        112,
+        128,
+        29,
+        0x91b7584a2265b1f5,
+        0x66b09fd8f16adf,
+    );
+    uneven(
+        32,
+        3,
+        1,
+        105,
+        136,
+        95,
+        0x91b7584a2265b1f5,
+        0x66b09f18d8f16adf,
+    );
+}
+
 // Refusal 5 where the allowance is one less than the node count, refusal 4 at the first and at the last grinding bit, and 4 before 5.
 fn refused_challenges() {
     case(32, 4, 127, 16, 24, 0x2459e7a10bf638dc, 0x10293db768cfe45a);
@@ -123,8 +169,11 @@ fn refused_shapes() {
     refused_shape(1, 13, 115, 4, 8);
     refused_shape(2, 2, 124, 0, 8);
     refused_shape(2, 2, 124, 513, 8);
-    refused_shape(2, 2, 123, 4, 8);
+    refused_shape(2, 2, 122, 4, 8);
     refused_shape(2, 2, 125, 4, 8);
+    refused_shape(31, 1, 66, 4, 8);
+    refused_shape(10, 11, 8, 4, 8);
+    refused_shape(10, 12, 7, 4, 8);
     refused_shape(0, 11, 7, 102, 8);
     refused_shape(11, 0, 128, 4, 8);
     refused_shape(0, 0, 128, 1, 8);
@@ -178,7 +227,7 @@ fn probes_of_commit() {
     probe_commit(2, 2, 124, 4, 16, 6, 1);
     probe_commit(2, 2, 124, 4, 16, 7, 0);
     probe_commit(2, 2, 124, 4, 16, 7, 1);
-    probe_commit(2, 2, 123, 4, 12, 0, 0);
+    probe_commit(2, 2, 122, 4, 12, 0, 0);
     probe_commit(2, 2, 124, 4, 12, 0, 0);
     probe_commit(2, 2, 124, 4, 16, 8, 0);
 }
@@ -193,7 +242,7 @@ fn probes_of_open() {
     probe_open(2, 2, 124, 4, 0x0c, 2, 1);
     probe_open(2, 2, 124, 4, 0x0c, 3, 0);
     probe_open(2, 2, 124, 4, 0x0c, 3, 1);
-    probe_open(2, 2, 123, 3, 0x1c, 3, 0);
+    probe_open(2, 2, 122, 3, 0x1c, 3, 0);
     probe_open(2, 2, 124, 3, 0x1c, 3, 0);
     probe_open(2, 2, 124, 3, 0x1c, 4, 0);
     probe_open(2, 2, 124, 3, 0x0c, 4, 0);
@@ -218,7 +267,7 @@ fn probes_of_reconstruct() {
     probe_reconstruct(2, 2, 124, 4, 16, 0, 6, 1, 128);
     probe_reconstruct(2, 2, 124, 4, 16, 0, 7, 0, 128);
     probe_reconstruct(2, 2, 124, 4, 16, 0, 7, 1, 128);
-    probe_reconstruct(2, 2, 123, 3, 12, 0x1c, 3, 0, 100);
+    probe_reconstruct(2, 2, 122, 3, 12, 0x1c, 3, 0, 100);
     probe_reconstruct(2, 2, 124, 3, 12, 0x1c, 3, 0, 100);
     probe_reconstruct(2, 2, 124, 3, 16, 0x1c, 3, 0, 100);
     probe_reconstruct(2, 2, 124, 3, 16, 0x1c, 8, 0, 100);
@@ -246,10 +295,13 @@ fn decoded_challenges() {
     decode(25, 5, 3, 106, 0xeb09034685249596, 0x1ae4e7455b2495d1);
     decode(5, 3, 113, 1, 0, 0);
     decode(33, 3, 29, 4, 0, 0);
-    decode(2, 2, 123, 4, 0x10, 0);
+    decode(2, 2, 122, 4, 0x10, 0);
     decode(0, 0, 0, 0, 0, 0x200000000000000);
     decode(0, 0, 0, 0, 0, 0x8000000000000000);
     decode(1, 1, 127, 1, 2, 0);
+    decode(16, 7, 8, 110, 0xae66267594c9c950, 0xffed92288bc781);
+    decode(2, 1, 125, 4, 7, 0);
+    decode(2, 1, 125, 4, 8, 0);
 }
 
 // Revealed nodes: P4, P8 and P9 of document 01, the most nodes, the default with all 102 of its nodes, and a refused shape.
@@ -270,7 +322,7 @@ fn probes_of_decode() {
     probe_decode(2, 2, 124, 4, 0x0c, 1, 0);
     probe_decode(2, 2, 124, 4, 0x0c, 1, 1);
     probe_decode(0, 0, 0, 0, 0x0c, 1, 0);
-    probe_decode(2, 2, 123, 4, 0x1c, 1, 0);
+    probe_decode(2, 2, 122, 4, 0x1c, 1, 0);
     probe_decode(2, 2, 124, 4, 0x1c, 1, 0);
     probe_decode(2, 2, 124, 4, 0x1c, 1, 1);
     probe_decode(2, 2, 124, 4, 0x1c, 2, 0);
@@ -283,7 +335,7 @@ fn probes_of_plan() {
     probe_plan(2, 2, 124, 4, 0x0c, 0, 1);
     probe_plan(2, 2, 124, 4, 0x0c, 1, 0);
     probe_plan(2, 2, 124, 4, 0x0c, 1, 1);
-    probe_plan(2, 2, 123, 3, 0x1c, 1, 0);
+    probe_plan(2, 2, 122, 3, 0x1c, 1, 0);
     probe_plan(2, 2, 124, 3, 0x1c, 1, 0);
     probe_plan(2, 2, 124, 3, 0x1c, 2, 0);
     probe_plan(2, 2, 124, 3, 0x0c, 2, 0);
@@ -297,6 +349,7 @@ fn main() {
     shallow_vectors();
     deep_vectors();
     row_lengths();
+    uneven_depths();
     refused_challenges();
     refused_shapes();
     refused_rows();

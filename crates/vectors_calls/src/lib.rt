@@ -32,6 +32,20 @@ pub fn case(tau: usize, k: usize, t: usize, row_bits: usize, known: usize, c0: u
     run_case(shape_of(tau, k, t), row_bits, known, words(c0, c1), NONE);
 }
 
+// A case whose vectors have two depths: w does not follow from tau and k.
+pub fn uneven(
+    tau: usize,
+    k: usize,
+    w: usize,
+    t: usize,
+    row_bits: usize,
+    known: usize,
+    c0: u64,
+    c1: u64,
+) {
+    run_case(Shape { tau, k, w, t }, row_bits, known, words(c0, c1), NONE);
+}
+
 // A case with any four numbers for a shape, and a challenge of zeros.
 pub fn refused_shape(tau: usize, k: usize, w: usize, t: usize, row_bits: usize) {
     run_case(

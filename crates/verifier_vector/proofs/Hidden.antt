@@ -56,20 +56,20 @@ module _ (s : Shape) (iv tree : List ℕ) (i d : ℕ) where
   entry j p e = bit j (bitXor e d) * rowByte faest s iv tree i e p
 
   -- the entries before d, counted from 0, and behind it
-  visible-column : (r j p : ℕ) → d + (1 + r) ≡ 2 ^ s .k
+  visible-column : (r j p : ℕ) → d + (1 + r) ≡ entriesOf s i
       → bitXor (xorBelow d (λ e. entry j p (0 + e))) (xorBelow r (λ e. entry j p (d + 1 + e))) ≡ columnByte faest s iv tree (λ e. bitXor e d) i j p
-  unfolding depthOf entriesOf columnByte
+  unfolding columnByte
   visible-column r j p h =
       ap (λ (x : ℕ). bitXor x (xorBelow r (λ e. entry j p (d + 1 + e)))) (xor-same d (λ e. entry j p (0 + e)) (entry j p) (λ e l. ap (entry j p) (zero-add e)))
-      ∙ sym (split-sum (entry j p) d r (2 ^ s .k) h (none j d (rowByte faest s iv tree i d p)))
+      ∙ sym (split-sum (entry j p) d r (entriesOf s i) h (none j d (rowByte faest s iv tree i d p)))
 
-  pub visible-added : (r b : ℕ) (old mid new : List ℕ) → d + (1 + r) ≡ 2 ^ s .k → Added b (s .k) (λ j p. xorBelow d (λ e. entry j p (0 + e))) old mid
-      → Added b (s .k) (λ j p. xorBelow r (λ e. entry j p (d + 1 + e))) mid new → Added b (s .k) (columnByte faest s iv tree (λ e. bitXor e d) i) old new
+  pub visible-added : (r b : ℕ) (old mid new : List ℕ) → d + (1 + r) ≡ entriesOf s i → Added b (depthOf s i) (λ j p. xorBelow d (λ e. entry j p (0 + e))) old mid
+      → Added b (depthOf s i) (λ j p. xorBelow r (λ e. entry j p (d + 1 + e))) mid new → Added b (depthOf s i) (columnByte faest s iv tree (λ e. bitXor e d) i) old new
   visible-added r b old mid new h x y =
       let before : ℕ → ℕ → ℕ = λ j p. xorBelow d (λ e. entry j p (0 + e)) in
       let behind : ℕ → ℕ → ℕ = λ j p. xorBelow r (λ e. entry j p (d + 1 + e)) in
-      added-same b (s .k) (λ j p. bitXor (before j p) (behind j p)) (columnByte faest s iv tree (λ e. bitXor e d) i) old new (λ j p hj hp. visible-column r j p h)
-      (added-then b (s .k) before behind old mid new x y)
+      added-same b (depthOf s i) (λ j p. bitXor (before j p) (behind j p)) (columnByte faest s iv tree (λ e. bitXor e d) i) old new (λ j p hj hp. visible-column r j p h)
+      (added-then b (depthOf s i) before behind old mid new x y)
 
 -- ---- the leaf commitments
 
@@ -102,12 +102,12 @@ module _ (s : Shape) (iv ch opening tree : List ℕ) (i d : ℕ) (hd : d ≡ hid
   elsewhere e q = ap (λ (t : Bool). cond t (hiddenLeafCommitment s opening i) (own e)) (ne-eqb e (hiddenIndex s ch i) (λ z. q (z ∙ sym hd)))
 
   -- the hidden one between the others
-  pub given-commitments : (r : ℕ) → d + (1 + r) ≡ 2 ^ s .k
+  pub given-commitments : (r : ℕ) → d + (1 + r) ≡ entriesOf s i
       → concat d own ++ (hiddenLeafCommitment s opening i ++ concat r (λ e. own (d + 1 + e))) ≡ vectorCommitments s (verifierLeafCommitment faest s iv ch opening tree) i
-  unfolding depthOf entriesOf vectorCommitments
+  unfolding vectorCommitments
   given-commitments r h =
       sym
-      (split-strings given d r (2 ^ s .k) h
+      (split-strings given d r (entriesOf s i) h
       ∙ ap₂ (λ (x y : List ℕ). x ++ y) (concat-same given own d (λ e l. elsewhere e (λ z. omega arith)))
       (ap₂ (λ (x y : List ℕ). x ++ y) at-hidden
       (concat-same (λ e. given (d + 1 + e)) (λ e. own (d + 1 + e)) r (λ e l. elsewhere (d + 1 + e) (λ z. omega arith)))))

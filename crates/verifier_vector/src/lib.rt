@@ -3,13 +3,13 @@
 ghost use mathlib.Core.Path.{_≡_};
 ghost use mathlib.Core.Bool.{true};
 ghost use mathlib.Core.List.{List, _++_};
-ghost use Prim.Native.Nat.{ℕ, _+_, _-_, _*_, _^_, _≤_, _<_};
+ghost use Prim.Native.Nat.{ℕ, _+_, _-_, _*_, _≤_, _<_};
 ghost use lib.Bits.{bitXor};
 ghost use lib.ListN.{length, take, drop};
 ghost use Rattle.spec.specs.Bytes.{bit, number, concat, xorBelow};
 ghost use Rattle.spec.specs.Gf256.{SboxTable};
 ghost use Rattle.spec.specs.Hashes.{hash1};
-ghost use Rattle.spec.specs.Shapes.{shapeOk, hiddenIndex, treeBytes};
+ghost use Rattle.spec.specs.Shapes.{shapeOk, depthOf, entriesOf, hiddenIndex, treeBytes};
 ghost use Rattle.spec.specs.Primitives.{faest};
 ghost use Rattle.spec.specs.Leaves.{hashKey, leafKey, leafCommitment};
 ghost use Rattle.spec.specs.Rows.{rowByte, columnByte};
@@ -47,11 +47,11 @@ fn add_run(
     cols: &mut [u8],
 )
     requires { ⌜ SboxTable (now t) ⌝ }
-    requires { ⌜ (shapeOk s ≡ true) × (i < s .tau) × (from + n ≤ 2 ^ s .k) × (b ≤ 8192) × (length (now tree) ≡ treeBytes s) ⌝ }
-    requires { ⌜ (length (now lcs) ≡ 48 * 2 ^ s .k) × (length (now cols) ≡ b * s .k) ⌝ }
+    requires { ⌜ (shapeOk s ≡ true) × (i < s .tau) × (from + n ≤ entriesOf s i) × (b ≤ 8192) × (length (now tree) ≡ treeBytes s) ⌝ }
+    requires { ⌜ (length (now lcs) ≡ 48 * entriesOf s i) × (length (now cols) ≡ b * depthOf s i) ⌝ }
     requires { ⌜ Multiples 384 p384 (number 8 (hashKey faest s iv i)) (now m) ⌝ }
     ensures { λ _. ⌜ now (lcs .exit) ≡ take (48 * from) (now (lcs .entry)) ++ (concat n (λ e. leafCommitment faest s iv i (leafKey s (now (tree .entry)) i (from + e))) ++ drop (48 * from + 48 * n) (now (lcs .entry))) ⌝ }
-    ensures { λ _. ⌜ Added b (s .k) (λ j p. xorBelow n (λ e. bit j (bitXor (from + e) mask) * rowByte faest s iv (now (tree .entry)) i (from + e) p)) (now (cols .entry)) (now (cols .exit)) ⌝ }
+    ensures { λ _. ⌜ Added b (depthOf s i) (λ j p. xorBelow n (λ e. bit j (bitXor (from + e) mask) * rowByte faest s iv (now (tree .entry)) i (from + e) p)) (now (cols .entry)) (now (cols .exit)) ⌝ }
 {
     // the checking half has no total
     let mut none = [0u8; 1];
@@ -90,14 +90,14 @@ fn add_visible(
     cols: &mut [u8],
 )
     requires { ⌜ SboxTable (now t) ⌝ }
-    requires { ⌜ (shapeOk s ≡ true) × (i < s .tau) × (d < 2 ^ s .k) × (b ≤ 8192) × (length (now tree) ≡ treeBytes s) ⌝ }
-    requires { ⌜ (length (now hidden) ≡ 48) × (length (now lcs) ≡ 48 * 2 ^ s .k) × (length (now cols) ≡ b * s .k) ⌝ }
+    requires { ⌜ (shapeOk s ≡ true) × (i < s .tau) × (d < entriesOf s i) × (b ≤ 8192) × (length (now tree) ≡ treeBytes s) ⌝ }
+    requires { ⌜ (length (now hidden) ≡ 48) × (length (now lcs) ≡ 48 * entriesOf s i) × (length (now cols) ≡ b * depthOf s i) ⌝ }
     requires { ⌜ Multiples 384 p384 (number 8 (hashKey faest s iv i)) (now m) ⌝ }
     ensures { λ _. ⌜ now (lcs .exit) ≡ concat d (λ e. leafCommitment faest s iv i (leafKey s (now (tree .entry)) i e))
-        ++ (now (hidden .entry) ++ concat (2 ^ s .k - d - 1) (λ e. leafCommitment faest s iv i (leafKey s (now (tree .entry)) i (d + 1 + e)))) ⌝ }
-    ensures { λ _. ⌜ Added b (s .k) (columnByte faest s iv (now (tree .entry)) (λ e. bitXor e d) i) (now (cols .entry)) (now (cols .exit)) ⌝ }
+        ++ (now (hidden .entry) ++ concat (entriesOf s i - d - 1) (λ e. leafCommitment faest s iv i (leafKey s (now (tree .entry)) i (d + 1 + e)))) ⌝ }
+    ensures { λ _. ⌜ Added b (depthOf s i) (columnByte faest s iv (now (tree .entry)) (λ e. bitXor e d) i) (now (cols .entry)) (now (cols .exit)) ⌝ }
 {
-    let rest = rules::entry_count(s) - d - 1;
+    let rest = rules::entry_count(s, i) - d - 1;
     add_run(t, m, s, i, 0, d, d, b, iv, tree, lcs, cols);
     buffers::copy_part(hidden, 0, 48, lcs, 48 * d);
     add_run(t, m, s, i, d + 1, rest, d, b, iv, tree, lcs, cols);
@@ -119,8 +119,8 @@ pub fn convert(
     hash: &mut [u8],
 )
     requires { ⌜ SboxTable (now t) ⌝ }
-    requires { ⌜ (shapeOk s ≡ true) × (i < s .tau) × (d < 2 ^ s .k) × (b ≤ 8192) × (now keys ≡ faest .h0 s iv (48 * s .tau)) × (length (now tree) ≡ treeBytes s) ⌝ }
-    requires { ⌜ (length (now hidden) ≡ 48) × (length (now lcs) ≡ 48 * 2 ^ s .k) × (length (now cols) ≡ b * s .k) × (length (now hash) ≡ 32) ⌝ }
+    requires { ⌜ (shapeOk s ≡ true) × (i < s .tau) × (d < entriesOf s i) × (b ≤ 8192) × (now keys ≡ faest .h0 s iv (48 * s .tau)) × (length (now tree) ≡ treeBytes s) ⌝ }
+    requires { ⌜ (length (now hidden) ≡ 48) × (length (now lcs) ≡ 48 * entriesOf s i) × (length (now cols) ≡ b * depthOf s i) × (length (now hash) ≡ 32) ⌝ }
     ensures { λ _. ⌜ ((ch opening : List ℕ) → d ≡ hiddenIndex s ch i → now (hidden .entry) ≡ hiddenLeafCommitment s opening i
         → Converted s b iv ch opening (now (tree .entry)) i (now (lcs .exit)) (now (cols .exit)) (now (hash .exit))) ⌝ }
 {

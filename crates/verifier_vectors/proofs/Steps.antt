@@ -2,39 +2,40 @@
 -- another.
 use mathlib.Core.Path.{_≡_, refl, ap, ap₂, _∙_}
 use mathlib.Core.List.{List, _++_}
-use Prim.Native.Nat.{ℕ, zero, suc, _+_, _-_, _*_, _^_, _≤_, _<_}
+use Prim.Native.Nat.{ℕ, zero, suc, _+_, _-_, _*_, _≤_, _<_}
 use native.Mathlib.Nat.{mul-zero}
 use native.Mathlib.Omega.{arith}
 use lib.Bits.{bitXor}
 use lib.ListN.{length, getD, take}
 use Rattle.spec.specs.declared.Shape.{Shape}
 use Rattle.spec.specs.Bytes.{bit, part, tabulate, concat}
-use Rattle.spec.specs.Shapes.{depthOf, hiddenIndex}
+use Rattle.spec.specs.Shapes.{depthOf, entriesOf, firstBit, firstEntry, hiddenIndex}
 use Rattle.spec.specs.Primitives.{faest}
 use Rattle.spec.specs.Leaves.{vectorCommitments, vectorHash}
 use Rattle.spec.specs.Rows.{columnByte}
 use Rattle.spec.specs.Verifier.{verifierLeafCommitment, correctionByte, verifierColumn}
 use Rattle.laws.proofs.Lists.{getD-part}
-use Rattle.laws.proofs.Concat.{concat-byte, is-concat, mul-within}
+use Rattle.laws.proofs.Concat.{concat-byte, is-concat}
+use Rattle.planning_laws.proofs.Depths.{bit-none, entry-none}
 use Rattle.planning_laws.proofs.ShapeLaws.{hidden-bit}
 use Rattle.columns.specs.Columns.{Added}
 use Rattle.columns.proofs.Adding.{added-none, added-same}
-use Rattle.vector.proofs.Buffers.{put-block}
+use Rattle.vector.proofs.Buffers.{put-behind, put-block, commitments-next, columns-next}
 use Rattle.verifier_vectors.specs.Vectors.{Reconstructed, Before}
 
 -- ---- the correction
 
 module _ (s : Shape) (b : ℕ) (ch corrections : List ℕ) where
   -- vector 0 has none
-  pub corrected-none : (i : ℕ) (old : List ℕ) → i ≡ 0 → Added b (s .k) (correctionByte s b ch corrections i) old old
+  pub corrected-none : (i : ℕ) (old : List ℕ) → i ≡ 0 → Added b (depthOf s i) (correctionByte s b ch corrections i) old old
   unfolding correctionByte
-  corrected-none zero old e = added-none b (s .k) old (λ j p. 0) (λ j p hj hp. refl)
+  corrected-none zero old e = added-none b (depthOf s 0) old (λ j p. 0) (λ j p hj hp. refl)
   corrected-none (suc i) old e = absurd (omega arith)
 
   -- another vector has its part, under the number that the challenge hides
-  correction-byte : (i d j p : ℕ) → 0 < i → d ≡ hiddenIndex s ch i → j < s .k → p < b
+  correction-byte : (i d j p : ℕ) → 0 < i → d ≡ hiddenIndex s ch i → j < depthOf s i → p < b
       → bit j d * getD (part corrections (b * (i - 1)) b) p 0 ≡ correctionByte s b ch corrections i j p
-  unfolding depthOf correctionByte
+  unfolding correctionByte
   correction-byte zero d j p h hd hj hp = absurd (omega arith)
   correction-byte (suc i) d j p h hd hj hp =
       let e : suc i - 1 ≡ i = omega arith in
@@ -42,22 +43,22 @@ module _ (s : Shape) (b : ℕ) (ch corrections : List ℕ) where
       (getD-part corrections (b * (suc i - 1)) b p hp ∙ ap (λ (n : ℕ). getD corrections (b * n + p) 0) e)
 
   pub corrected : (i d : ℕ) (old new : List ℕ) → 0 < i → d ≡ hiddenIndex s ch i
-      → Added b (s .k) (λ j p. bit j d * getD (part corrections (b * (i - 1)) b) p 0) old new → Added b (s .k) (correctionByte s b ch corrections i) old new
+      → Added b (depthOf s i) (λ j p. bit j d * getD (part corrections (b * (i - 1)) b) p 0) old new → Added b (depthOf s i) (correctionByte s b ch corrections i) old new
   corrected i d old new h hd x =
-      added-same b (s .k) (λ j p. bit j d * getD (part corrections (b * (i - 1)) b) p 0) (correctionByte s b ch corrections i) old new
+      added-same b (depthOf s i) (λ j p. bit j d * getD (part corrections (b * (i - 1)) b) p 0) (correctionByte s b ch corrections i) old new
       (λ j p hj hp. correction-byte i d j p h hd hj hp) x
 
   -- the columns of a vector with its correction
-  pub corrected-columns : (iv tree : List ℕ) (i : ℕ) (old new : List ℕ) → length old ≡ b * s .k
+  pub corrected-columns : (iv tree : List ℕ) (i : ℕ) (old new : List ℕ) → length old ≡ b * depthOf s i
       → old ≡ concat (depthOf s i) (λ j. tabulate b (columnByte faest s iv tree (λ e. bitXor e (hiddenIndex s ch i)) i j))
-      → Added b (s .k) (correctionByte s b ch corrections i) old new → new ≡ concat (depthOf s i) (verifierColumn faest s b iv ch corrections tree i)
-  unfolding depthOf verifierColumn
+      → Added b (depthOf s i) (correctionByte s b ch corrections i) old new → new ≡ concat (depthOf s i) (verifierColumn faest s b iv ch corrections tree i)
+  unfolding verifierColumn
   corrected-columns iv tree i old new l e x =
       let own : ℕ → ℕ → ℕ = columnByte faest s iv tree (λ e. bitXor e (hiddenIndex s ch i)) i in
-      is-concat b (s .k) (λ j p. bitXor (own j p) (correctionByte s b ch corrections i j p)) new (x .size ∙ l)
+      is-concat b (depthOf s i) (λ j p. bitXor (own j p) (correctionByte s b ch corrections i j p)) new (x .size ∙ l)
       (λ j p hj hp.
       x .known j p hj hp
-      ∙ ap (λ (y : ℕ). bitXor y (correctionByte s b ch corrections i j p)) (ap (λ (y : List ℕ). getD y (b * j + p) 0) e ∙ concat-byte b (s .k) own j p hj hp))
+      ∙ ap (λ (y : ℕ). bitXor y (correctionByte s b ch corrections i j p)) (ap (λ (y : List ℕ). getD y (b * j + p) 0) e ∙ concat-byte b (depthOf s i) own j p hj hp))
 
 -- ---- all vectors
 
@@ -66,25 +67,23 @@ module _ (s : Shape) (b : ℕ) (iv ch corrections opening tree : List ℕ) where
   unfolding concat
   before-none lcs q hashes =
       record {
-        leaves = ap (λ (n : ℕ). take n lcs) (mul-zero (48 * 2 ^ s .k));
-        columns = ap (λ (n : ℕ). take n q) (mul-zero (b * s .k));
+        leaves = ap (λ (n : ℕ). take (48 * n) lcs) (entry-none s);
+        columns = ap (λ (n : ℕ). take n q) (ap (λ (n : ℕ). b * n) (bit-none s) ∙ mul-zero b);
         digests = refl;
       }
 
-  -- one vector more, in parts that come back from it
-  pub before-more : (v i : ℕ) (lcs q hashes x y z x′ y′ z′ : List ℕ) → v ≡ 48 * 2 ^ s .k → i < s .tau
-      → 48 * 2 ^ s .k * s .tau ≤ length lcs → b * s .k * s .tau ≤ length q → 32 * s .tau ≤ length hashes
-      → length x ≡ 48 * 2 ^ s .k → length y ≡ b * s .k → length z ≡ 32
+  -- one vector more, in parts that come back from it; l and c are where they begin
+  pub before-more : (i l c : ℕ) (lcs q hashes x y z x′ y′ z′ : List ℕ) → l ≡ 48 * firstEntry s i → c ≡ b * firstBit s i
+      → 48 * firstEntry s (i + 1) ≤ length lcs → b * firstBit s (i + 1) ≤ length q → 32 * i + 32 ≤ length hashes
+      → length x ≡ 48 * entriesOf s i → length y ≡ b * depthOf s i → length z ≡ 32
       → Reconstructed s b iv ch corrections opening tree i x y z → Before s b iv ch corrections opening tree i lcs q hashes
-      → Before s b iv ch corrections opening tree (i + 1) (take (v * i) lcs ++ (x ++ x′)) (take (b * s .k * i) q ++ (y ++ y′)) (take (32 * i) hashes ++ (z ++ z′))
-  before-more v i lcs q hashes x y z x′ y′ z′ e h hl hq hh lx ly lz r f =
-      let w = 48 * 2 ^ s .k in
-      let n = b * s .k in
+      → Before s b iv ch corrections opening tree (i + 1) (take l lcs ++ (x ++ x′)) (take c q ++ (y ++ y′)) (take (32 * i) hashes ++ (z ++ z′))
+  before-more i l c lcs q hashes x y z x′ y′ z′ el ec hl hq hh lx ly lz r f =
       let lc : ℕ → ℕ → List ℕ = verifierLeafCommitment faest s iv ch opening tree in
-      let one = mul-within w i (s .tau) h in
-      let two = mul-within n i (s .tau) h in
       record {
-        leaves = put-block (vectorCommitments s lc) v w i lcs x x′ e (omega arith) lx (r .leaves) (f .leaves);
-        columns = put-block (λ i. concat (depthOf s i) (verifierColumn faest s b iv ch corrections tree i)) n n i q y y′ refl (omega arith) ly (r .columns) (f .columns);
-        digests = put-block (vectorHash faest s lc) 32 32 i hashes z z′ refl (omega arith) lz (r .digest) (f .digests);
+        leaves = put-behind (vectorCommitments s lc) l (48 * firstEntry s i) (48 * entriesOf s i) (48 * firstEntry s (i + 1)) i lcs x x′ el (commitments-next s i) hl lx (r .leaves) (f .leaves);
+        columns =
+            put-behind (λ i. concat (depthOf s i) (verifierColumn faest s b iv ch corrections tree i)) c (b * firstBit s i) (b * depthOf s i) (b * firstBit s (i + 1)) i q y y′ ec (columns-next s i b) hq ly
+            (r .columns) (f .columns);
+        digests = put-block (vectorHash faest s lc) 32 i hashes z z′ hh lz (r .digest) (f .digests);
       }

@@ -1,11 +1,11 @@
 -- What one vector, and the first vectors, leave in the buffers of the checking half. b is the length of a row in bytes.
-use Prim.Native.Nat.{ℕ, _*_, _^_}
+use Prim.Native.Nat.{ℕ, _*_}
 use mathlib.Core.Path.{_≡_}
 use mathlib.Core.List.{List}
 use lib.ListN.{take}
 use Rattle.spec.specs.declared.Shape.{Shape}
 use Rattle.spec.specs.Bytes.{concat}
-use Rattle.spec.specs.Shapes.{depthOf}
+use Rattle.spec.specs.Shapes.{depthOf, firstBit, firstEntry}
 use Rattle.spec.specs.Primitives.{faest}
 use Rattle.spec.specs.Leaves.{vectorCommitments, vectorHash}
 use Rattle.spec.specs.Verifier.{verifierLeafCommitment, verifierColumn}
@@ -18,6 +18,6 @@ pub record Reconstructed (s : Shape) (b : ℕ) (iv ch corrections opening tree :
 
 -- the first n vectors stand at the front of the buffers
 pub record Before (s : Shape) (b : ℕ) (iv ch corrections opening tree : List ℕ) (n : ℕ) (lcs q hashes : List ℕ) : Type 0 where
-  pub leaves : take (48 * 2 ^ s .k * n) lcs ≡ concat n (vectorCommitments s (verifierLeafCommitment faest s iv ch opening tree))
-  pub columns : take (b * s .k * n) q ≡ concat n (λ i. concat (depthOf s i) (verifierColumn faest s b iv ch corrections tree i))
+  pub leaves : take (48 * firstEntry s n) lcs ≡ concat n (vectorCommitments s (verifierLeafCommitment faest s iv ch opening tree))
+  pub columns : take (b * firstBit s n) q ≡ concat n (λ i. concat (depthOf s i) (verifierColumn faest s b iv ch corrections tree i))
   pub digests : take (32 * n) hashes ≡ concat n (vectorHash faest s (verifierLeafCommitment faest s iv ch opening tree))

@@ -3,11 +3,11 @@
 ghost use mathlib.Core.Path.{_≡_};
 ghost use mathlib.Core.Bool.{true};
 ghost use mathlib.Core.List.{List};
-ghost use Prim.Native.Nat.{ℕ, _+_, _-_, _*_, _^_, _≤_, _<_};
+ghost use Prim.Native.Nat.{ℕ, _+_, _*_, _≤_, _<_};
 ghost use lib.ListN.{length};
 ghost use Rattle.spec.specs.Bytes.{concat};
 ghost use Rattle.spec.specs.Gf256.{SboxTable};
-ghost use Rattle.spec.specs.Shapes.{shapeOk, hiddenIndex, treeBytes, leafCommitmentsBytes, openingBytes, matrixBytes, correctionsBytes};
+ghost use Rattle.spec.specs.Shapes.{shapeOk, depthOf, entriesOf, hiddenIndex, treeBytes, leafCommitmentsBytes, openingBytes, matrixBytes, correctionsBytes};
 ghost use Rattle.spec.specs.Primitives.{faest};
 ghost use Rattle.spec.specs.Leaves.{leafCommitments, vectorHash};
 ghost use Rattle.spec.specs.Rows.{matrixOf};
@@ -18,12 +18,12 @@ use spec::Shape;
 
 // Adds the correction of vector i to its columns: nothing in vector 0, or where the bit of the hidden index d is 0.
 fn correct(s: Shape, i: usize, d: usize, b: usize, corrections: &[u8], cols: &mut [u8])
-    requires { ⌜ (shapeOk s ≡ true) × (i < s .tau) × (b ≤ 8192) × (length (now corrections) ≡ b * (s .tau - 1)) × (length (now cols) ≡ b * s .k) ⌝ }
-    ensures { λ _. ⌜ ((ch : List ℕ) → d ≡ hiddenIndex s ch i → Added b (s .k) (correctionByte s b ch (now (corrections .entry)) i) (now (cols .entry)) (now (cols .exit))) ⌝ }
+    requires { ⌜ (shapeOk s ≡ true) × (i < s .tau) × (b ≤ 8192) × (length (now corrections) ≡ correctionsBytes s b) × (length (now cols) ≡ b * depthOf s i) ⌝ }
+    ensures { λ _. ⌜ ((ch : List ℕ) → d ≡ hiddenIndex s ch i → Added b (depthOf s i) (correctionByte s b ch (now (corrections .entry)) i) (now (cols .entry)) (now (cols .exit))) ⌝ }
 {
     if 0 < i {
         let at = b * (i - 1);
-        columns::add_bytes(cols, b, s.k, d, &corrections[at..at + b]);
+        columns::add_bytes(cols, b, rules::depth_of(s, i), d, &corrections[at..at + b]);
     }
 }
 
@@ -44,8 +44,8 @@ fn corrected_vector(
     hash: &mut [u8],
 )
     requires { ⌜ SboxTable (now t) ⌝ }
-    requires { ⌜ (shapeOk s ≡ true) × (i < s .tau) × (b ≤ 8192) × (now keys ≡ faest .h0 s iv (48 * s .tau)) × (length (now ch) ≡ 16) × (length (now tree) ≡ treeBytes s) × (length (now corrections) ≡ b * (s .tau - 1)) ⌝ }
-    requires { ⌜ (length (now hidden) ≡ 48) × (length (now lcs) ≡ 48 * 2 ^ s .k) × (length (now cols) ≡ b * s .k) × (length (now hash) ≡ 32) ⌝ }
+    requires { ⌜ (shapeOk s ≡ true) × (i < s .tau) × (b ≤ 8192) × (now keys ≡ faest .h0 s iv (48 * s .tau)) × (length (now ch) ≡ 16) × (length (now tree) ≡ treeBytes s) × (length (now corrections) ≡ correctionsBytes s b) ⌝ }
+    requires { ⌜ (length (now hidden) ≡ 48) × (length (now lcs) ≡ 48 * entriesOf s i) × (length (now cols) ≡ b * depthOf s i) × (length (now hash) ≡ 32) ⌝ }
     ensures { λ _. ⌜ ((opening : List ℕ) → now (hidden .entry) ≡ hiddenLeafCommitment s opening i
         → Reconstructed s b iv (now (ch .entry)) (now (corrections .entry)) opening (now (tree .entry)) i (now (lcs .exit)) (now (cols .exit)) (now (hash .exit))) ⌝ }
 {
@@ -71,13 +71,15 @@ fn next_vector(
     hashes: &mut [u8],
 )
     requires { ⌜ SboxTable (now t) ⌝ }
-    requires { ⌜ (shapeOk s ≡ true) × (i < s .tau) × (b ≤ 8192) × (now keys ≡ faest .h0 s iv (48 * s .tau)) × (length (now ch) ≡ 16) × (length (now tree) ≡ treeBytes s) × (length (now corrections) ≡ b * (s .tau - 1)) × (48 * s .tau ≤ length (now opening)) ⌝ }
-    requires { ⌜ (48 * 2 ^ s .k * s .tau ≤ length (now lcs)) × (b * s .k * s .tau ≤ length (now q)) × (32 * s .tau ≤ length (now hashes)) ⌝ }
+    requires { ⌜ (shapeOk s ≡ true) × (i < s .tau) × (b ≤ 8192) × (now keys ≡ faest .h0 s iv (48 * s .tau)) × (length (now ch) ≡ 16) × (length (now tree) ≡ treeBytes s) × (length (now corrections) ≡ correctionsBytes s b) × (length (now opening) ≡ openingBytes s) ⌝ }
+    requires { ⌜ (length (now lcs) ≡ leafCommitmentsBytes s) × (length (now q) ≡ matrixBytes s b) × (length (now hashes) ≡ 32 * s .tau) ⌝ }
     ensures { λ _. ⌜ (Before s b iv (now (ch .entry)) (now (corrections .entry)) (now (opening .entry)) (now (tree .entry)) i (now (lcs .entry)) (now (q .entry)) (now (hashes .entry))
         → Before s b iv (now (ch .entry)) (now (corrections .entry)) (now (opening .entry)) (now (tree .entry)) (i + 1) (now (lcs .exit)) (now (q .exit)) (now (hashes .exit))) ⌝ }
 {
-    let w = 48 * rules::entry_count(s);
-    let c = b * s.k;
+    let lcs_from = vector::commitments_from(s, i);
+    let lcs_to = vector::commitments_from(s, i + 1);
+    let q_from = vector::columns_from(s, i, b);
+    let q_to = vector::columns_from(s, i + 1, b);
     corrected_vector(
         t,
         s,
@@ -89,8 +91,8 @@ fn next_vector(
         tree,
         corrections,
         &opening[48 * i..48 * i + 48],
-        &mut lcs[w * i..w * i + w],
-        &mut q[c * i..c * i + c],
+        &mut lcs[lcs_from..lcs_to],
+        &mut q[q_from..q_to],
         &mut hashes[32 * i..32 * i + 32],
     );
 }
@@ -111,8 +113,8 @@ fn each_vector(
     hashes: &mut [u8],
 )
     requires { ⌜ SboxTable (now t) ⌝ }
-    requires { ⌜ (shapeOk s ≡ true) × (b ≤ 8192) × (now keys ≡ faest .h0 s iv (48 * s .tau)) × (length (now ch) ≡ 16) × (length (now tree) ≡ treeBytes s) × (length (now corrections) ≡ b * (s .tau - 1)) × (48 * s .tau ≤ length (now opening)) ⌝ }
-    requires { ⌜ (48 * 2 ^ s .k * s .tau ≤ length (now lcs)) × (b * s .k * s .tau ≤ length (now q)) × (32 * s .tau ≤ length (now hashes)) ⌝ }
+    requires { ⌜ (shapeOk s ≡ true) × (b ≤ 8192) × (now keys ≡ faest .h0 s iv (48 * s .tau)) × (length (now ch) ≡ 16) × (length (now tree) ≡ treeBytes s) × (length (now corrections) ≡ correctionsBytes s b) × (length (now opening) ≡ openingBytes s) ⌝ }
+    requires { ⌜ (length (now lcs) ≡ leafCommitmentsBytes s) × (length (now q) ≡ matrixBytes s b) × (length (now hashes) ≡ 32 * s .tau) ⌝ }
     ensures { λ _. ⌜ Before s b iv (now (ch .entry)) (now (corrections .entry)) (now (opening .entry)) (now (tree .entry)) (s .tau) (now (lcs .exit)) (now (q .exit)) (now (hashes .exit)) ⌝ }
 {
     let n = s.tau;
@@ -171,6 +173,7 @@ pub fn write_vectors(
         q,
         hashes,
     );
-    let used = s.tau * s.k;
-    buffers::clear_from(q, b * used);
+    let n = s.tau;
+    let used = vector::columns_from(s, n, b);
+    buffers::clear_from(q, used);
 }

@@ -53,7 +53,7 @@ fn refusals() {
     let short = &ROOT[2..];
     for (rest, answer) in [
         (
-            format!("2 2 123 4 200 {ROOT} {ROOT} {CHALLENGE_0C}"),
+            format!("2 2 122 4 200 {ROOT} {ROOT} {CHALLENGE_0C}"),
             (1, 0),
         ),
         (
@@ -113,7 +113,7 @@ fn probes() {
     for (args, number, count, outputs) in [
         ("commit 2 2 124 4 16 8 0", 0, 0, "written"),
         ("commit 2 2 124 4 16 7 1", 3, 0, "kept"),
-        ("commit 2 2 123 4 12 7 1", 1, 0, "kept"),
+        ("commit 2 2 122 4 12 7 1", 1, 0, "kept"),
         ("open 2 2 124 4 12 4 0", 0, 4, "written"),
         ("open 2 2 124 4 12 3 0", 3, 0, "kept"),
         ("open 2 2 124 3 12 4 0", 5, 4, "kept"),
@@ -125,7 +125,7 @@ fn probes() {
         ("decode 2 2 124 4 16 2 0", 4, 0, "kept"),
         ("decode 2 2 124 4 16 1 0", 3, 0, "kept"),
         ("decode 2 2 124 4 16 0 1", 3, 0, "kept"),
-        ("decode 2 2 123 4 16 1 0", 1, 0, "kept"),
+        ("decode 2 2 122 4 16 1 0", 1, 0, "kept"),
         ("plan 2 2 124 4 12 2 0", 0, 4, "written"),
         ("plan 2 2 124 3 12 2 0", 5, 4, "kept"),
         ("plan 2 2 124 3 28 2 0", 4, 0, "kept"),

@@ -17,5 +17,5 @@ fn every_known_answer() {
         compared += 1;
     }
     // Eleven shapes with decode, plan, commit, open and reconstruct each.
-    assert_eq!(compared, 55);
+    assert_eq!(compared, 75);
 }

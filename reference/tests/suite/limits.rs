@@ -45,6 +45,9 @@ fn shapes_of_the_paper() {
         (1, 12, 116, 1),
         (32, 1, 96, 1),
         (16, 8, 0, 110),
+        (16, 7, 8, 110),
+        (11, 11, 6, 102),
+        (10, 11, 9, 512),
     ] {
         let shape = Shape::new(tau, k, w, t);
         assert_eq!(numbers(shape), NOT_REFUSED, "{shape:?}");
@@ -56,7 +59,8 @@ fn shapes_of_the_paper() {
         (9, 13, 11, 102),
         (11, 11, 7, 0),
         (11, 11, 7, 513),
-        (11, 11, 6, 102),
+        (10, 11, 8, 512),
+        (10, 12, 7, 512),
         (11, 11, 8, 102),
         (1, 1, 128, 1),
         (0, 11, 128, 102),
@@ -77,9 +81,11 @@ fn shapes_of_the_paper() {
 
 #[test]
 fn how_many_shapes_there_are() {
-    // 255 pairs of τ up to 32 and k up to 12 have τ × k up to 128, each with
-    // one w (python3: sum(t * k <= 128 for t in range(1, 33) for k in
-    // range(1, 13))); two of the four T are allowed; and there are the zeros.
+    // 2980 triples of τ up to 32, k up to 12 and w up to 127 leave r from 0 to
+    // τ - 1, and 0 where k is 12 (python3: sum(0 <= 128 - w - t * k < t and
+    // (128 - w == t * k or k < 12) for t in range(1, 33) for k in range(1, 13)
+    // for w in range(128))); two of the four T are allowed; and there are the
+    // zeros.
     let mut allowed = 0;
     for tau in 0..=140 {
         for k in 0..=140 {
@@ -92,7 +98,7 @@ fn how_many_shapes_there_are() {
             }
         }
     }
-    assert_eq!(allowed, 2 * 255 + 1);
+    assert_eq!(allowed, 2 * 2980 + 1);
 }
 
 #[test]

@@ -7,7 +7,7 @@ use reference::shake::shake128;
 use reference::shape::Shape;
 use reference::Block;
 
-use crate::support::{allowed, covered, indices, noise, revealed};
+use crate::support::{allowed, covered, indices, leaves, noise, revealed};
 
 /// What commit writes.
 struct Signer {
@@ -29,7 +29,7 @@ struct Verifier {
 }
 
 fn sign(shape: Shape, row_bits: usize, root: &[u8], iv: &[u8]) -> Signer {
-    let (l, b) = (shape.tau << shape.k, row_bits / 8);
+    let (l, b) = (leaves(&shape), row_bits / 8);
     let mut signer = Signer {
         commitment: noise(1, 32),
         tree: noise(2, 16 * (2 * l - 1)),
@@ -68,7 +68,7 @@ fn verify(
     corrections: &[u8],
     opening: &[u8],
 ) -> Verifier {
-    let (l, b) = (shape.tau << shape.k, row_bits / 8);
+    let (l, b) = (leaves(&shape), row_bits / 8);
     let mut verifier = Verifier {
         answer: Answer::done(0),
         commitment: noise(11, 32),
@@ -175,6 +175,18 @@ fn small_shapes() {
     round_trip(13, 3, 89, 264, 8);
     round_trip(31, 1, 97, 16, 8);
     round_trip(32, 4, 0, 136, 8);
+}
+
+#[test]
+fn two_depths() {
+    round_trip(2, 1, 125, 128, 16);
+    round_trip(3, 1, 123, 72, 16);
+    round_trip(7, 2, 110, 136, 8);
+    round_trip(31, 2, 36, 16, 4);
+    round_trip(32, 3, 1, 264, 4);
+    round_trip(16, 7, 8, 1680, 3);
+    round_trip(2, 11, 105, 24, 3);
+    round_trip(10, 11, 9, 24, 1);
 }
 
 #[test]

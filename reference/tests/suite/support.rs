@@ -29,11 +29,40 @@ pub fn allowed(shape: &Shape, bytes: &[u8]) -> Vec<u8> {
     kept.to_le_bytes().to_vec()
 }
 
+/// Document 02, E2: r, the number of vectors of depth k + 1.
+fn deeper(shape: &Shape) -> usize {
+    128 - shape.w - shape.tau * shape.k
+}
+
+/// Document 02, E2: L.
+pub fn leaves(shape: &Shape) -> usize {
+    (shape.tau + deeper(shape)) << shape.k
+}
+
+/// Document 02, E2: entry j of vector i as a leaf, counted from 0.
+fn place(shape: &Shape, i: usize, j: usize) -> usize {
+    let near = 1 << shape.k;
+    if j < near {
+        shape.tau * j + i
+    } else {
+        shape.tau * near + deeper(shape) * (j - near) + i
+    }
+}
+
 /// The hidden indices, from the challenge as one number.
 pub fn indices(shape: &Shape, challenge: &[u8]) -> Vec<usize> {
-    let number = u128::from_le_bytes(challenge.try_into().unwrap());
-    let index = |i: usize| (number >> (i * shape.k)) as usize % (1 << shape.k);
-    (0..shape.tau).map(index).collect()
+    let mut number = u128::from_le_bytes(challenge.try_into().unwrap());
+    let mut indices = Vec::new();
+    for i in 0..shape.tau {
+        let depth = if i < deeper(shape) {
+            shape.k + 1
+        } else {
+            shape.k
+        };
+        indices.push(number as usize % (1 << depth));
+        number >>= depth;
+    }
+    indices
 }
 
 /// A node is covered if it is a hidden leaf or has a hidden leaf beneath it.
@@ -48,10 +77,10 @@ pub fn covered(shape: &Shape, challenge: &[u8]) -> Vec<bool> {
         };
         marks[node]
     }
-    let leaves = shape.tau << shape.k;
+    let leaves = leaves(shape);
     let entries = indices(shape, challenge).into_iter().enumerate();
     let hidden: Vec<usize> = entries
-        .map(|(i, j)| leaves - 1 + shape.tau * j + i)
+        .map(|(i, j)| leaves - 1 + place(shape, i, j))
         .collect();
     let mut marks = vec![false; 2 * leaves - 1];
     cover(0, leaves, &hidden, &mut marks);

@@ -1,8 +1,8 @@
--- A limit that is broken refutes the facts of a shape; with all kept the sum decides.
-use Prim.Native.Nat.{_*_, _≤_}
+-- A limit that is broken refutes the facts of a shape; with all kept the depth of the deeper vectors decides.
+use Prim.Native.Nat.{_+_, _-_, _*_, _≤_}
 use native.Mathlib.Omega.{arith}
 use native.Mathlib.Nat.{mul-le-mul}
-use Rattle.planning_laws.proofs.ShapeFacts.{shape-refused, shape-by-sum}
+use Rattle.planning_laws.proofs.ShapeFacts.{deeper-is, shape-refused, shape-by-depth}
 use Rattle.rules.proofs.is_shape.Statement.{statement}
 use Rattle.rules.proofs.is_shape.Tie as tie
 
@@ -25,19 +25,18 @@ returns-6 : tie.Need-returns-6
 returns-6 c = shape-refused (c .before .before .before .before .before .before .before .before .before .before .before .before .args .s) (λ f. omega arith)
 
 returns-7 : tie.Need-returns-7
-returns-7 c =
-    shape-refused (c .before .before .before .before .before .before .before .before .before .before .before .before .before .before .args .s) (λ f. omega arith)
+returns-7 c = shape-refused (c .before .before .before .before .before .before .before .before .before .before .before .before .before .before .args .s) (λ f. omega arith)
 
-mul-result : tie.Need-mul-result
-mul-result c =
+mul-used : tie.Need-mul-used
+mul-used c =
     let s = c .before .before .before .before .before .before .before .before .before .before .before .before .before .before .before .args .s in
     let h : s .tau ≤ 32 = omega arith in
     let k : s .k ≤ 12 = omega arith in
     let p : s .tau * s .k ≤ 32 * 12 = mul-le-mul h k in
     omega arith
 
-add-result : tie.Need-add-result
-add-result c =
+add-used : tie.Need-add-used
+add-used c =
     let s = c .before .before .before .before .before .before .before .before .before .before .before .before .before .before .before .before .args .s in
     let h : s .tau ≤ 32 = omega arith in
     let k : s .k ≤ 12 = omega arith in
@@ -45,10 +44,17 @@ add-result c =
     omega arith
 
 returns-8 : tie.Need-returns-8
-returns-8 c =
-    shape-by-sum (c .before .before .before .before .before .before .before .before .before .before .before .before .before .before .before .before .args .s)
-    (omega arith) (omega arith) (omega arith) (omega arith) (omega arith) (omega arith) (omega arith)
+returns-8 c = shape-refused (c .before .before .before .before .before .before .before .before .before .before .before .before .before .before .before .before .before .args .s) (λ f. omega (arith, f .total))
+
+returns-9 : tie.Need-returns-9
+returns-9 c = (let d = deeper-is (c .before .before .before .before .before .before .before .before .before .before .before .before .before .before .before .before .before .before .before .args .s) in shape-refused (c .before .before .before .before .before .before .before .before .before .before .before .before .before .before .before .before .before .before .before .args .s) (λ f. omega (arith, f .few)))
+
+returns-10 : tie.Need-returns-10
+returns-10 c =
+    let s = c .before .before .before .before .before .before .before .before .before .before .before .before .before .before .before .before .before .before .before .before .args .s in
+    let d = deeper-is s in
+    shape-by-depth s (128 - (s .tau * s .k + s .w)) (omega arith) (omega arith) (omega arith) (omega arith) (omega arith) (omega arith) (omega arith) (omega arith) (omega arith) (omega arith)
 
 pub is-shape-spec : {M : Type 1} → statement M
 is-shape-spec =
-    tie.close (tie.spec returns returns-2 returns-3 returns-4 returns-5 returns-6 returns-7 mul-result add-result returns-8)
+    tie.close (tie.spec returns returns-2 returns-3 returns-4 returns-5 returns-6 returns-7 mul-used add-used returns-8 returns-9 returns-10)

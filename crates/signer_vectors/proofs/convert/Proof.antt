@@ -6,7 +6,6 @@ use mathlib.Core.List.{List}
 use native.Mathlib.Omega.{arith}
 use lib.ListN.{length}
 use Rattle.spec.specs.Bytes.{number}
-use Rattle.spec.specs.Shapes.{depthOf, entriesOf}
 use Rattle.planning_laws.proofs.ShapeFacts.{shape-facts}
 use Rattle.field.specs.Field.{p384, Multiples}
 use Rattle.vector.proofs.HashKeys.{keys-length, key-of}
@@ -27,7 +26,6 @@ part-multiples-end : tie.Need-part-multiples-end
 part-multiples-end c = (let start = c .before .before .before .before .before .before .before in let l = keys-length (start .args .s) (start .args .iv) (start .args .keys .now) (start .pre .1 .0 .3) in omega arith)
 
 add-entries-requires : tie.Need-add-entries-requires
-unfolding depthOf entriesOf
 add-entries-requires c κs =
     let start = c .before .before .before .before .before .before .before .before .before .before .before .before .before .before .before .before .before in
     let g = start .args in
@@ -41,7 +39,6 @@ add-entries-requires c κs =
     )
 
 returns : tie.Need-returns
-unfolding depthOf entriesOf
 returns c =
     let start = c .before .before .before .before .before .before .before .before .before .before .before .before .before .before .before .before .before .before .before .before .before .before .before .before .before .before .before .before .before in
     let g = start .args in

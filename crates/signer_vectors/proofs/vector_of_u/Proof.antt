@@ -1,28 +1,41 @@
 -- u was cleared when the rows are added; the parts lent stand at the front of the buffers.
 use borrow.Author.Needs.{needs}
-use Prim.Native.Nat.{ℕ, _-_, _*_}
-use mathlib.Core.Path.{_≡_, ap, _∙_}
+use Prim.Native.Nat.{ℕ, _+_, _-_, _*_}
+use mathlib.Core.Path.{_≡_, sym, ap, _∙_}
+use native.Mathlib.Nat.{zero-add}
 use native.Mathlib.Omega.{arith}
 use lib.ListN.{length}
 use Rattle.spec.specs.Bytes.{zeros}
+use Rattle.spec.specs.Shapes.{depthOf, entriesOf}
 use Rattle.laws.proofs.Lists.{length-part}
+use Rattle.vector.proofs.Buffers.{lent, columns-fit}
 use Rattle.signer_vectors.proofs.Steps.{fronts}
 use Rattle.signer_vectors.proofs.vector_of_u.Statement.{statement}
 use Rattle.signer_vectors.proofs.vector_of_u.Tie as tie
+
+mul-c : tie.Need-mul-c
+mul-c c =
+    let start = c .before .before .before .before .before .before .before .before in
+    rw (c .depth-of .ensures .0) (columns-fit (start .args .s) (start .pre .1 .0 .0) (start .args .b) (start .args .i) (start .pre .1 .0 .2))
+
+v-end : tie.Need-part-convert-end-2
+v-end c = rw (c .before .before .before .before .before .before .depth-of .ensures .0) (c .before .before .before .before .before .before .before .before .before .before .before .before .before .before .pre .1 .1 .2)
 
 convert-requires : tie.Need-convert-requires
 convert-requires c κs =
     let start = c .before .before .before .before .before .before .before .before .before .before .before .before .before .before .before .before in
     let g = start .args in
     let n = c .before .before .before .before .before .before .before .before .before .entry-count in
-    let w = 48 * n .result in (
+    let d = c .before .before .before .before .before .before .before .before .depth-of in
+    let w : 48 * n .result ≡ 0 + 48 * entriesOf (g .s) (g .i) = ap (λ (x : ℕ). 48 * x) (n .ensures .0) ∙ sym (zero-add _) in
+    let k : g .b * d .result ≡ 0 + g .b * depthOf (g .s) (g .i) = ap (λ (x : ℕ). g .b * x) (d .ensures .0) ∙ sym (zero-add _) in (
       start .pre .0,
       (
         start .pre .1 .0,
         (
-          length-part (g .lcs .now) 0 (w - 0) (omega arith) ∙ (let z : w - 0 ≡ w = omega arith in z) ∙ ap (λ (x : ℕ). 48 * x) (n .ensures .0),
+          lent 0 (48 * n .result) (48 * entriesOf (g .s) (g .i)) (g .lcs .now) w (omega arith),
           search needs,
-          length-part (g .v .now) 0 (g .b * g .s .k - 0) (omega arith) ∙ (let z : g .b * g .s .k - 0 ≡ g .b * g .s .k = omega arith in z),
+          lent 0 (g .b * d .result) (g .b * depthOf (g .s) (g .i)) (g .v .now) k (v-end (c .before .before)),
           length-part (g .hashes .now) 0 (32 - 0) (omega arith),
         ),
       ),
@@ -42,14 +55,15 @@ vector-of-u-spec =
     (tie.spec
     (λ c κs. search needs)
     (λ c. search needs)
-    (λ c. search needs)
+    (λ c κs. search needs)
+    mul-c
     (λ c κs. search needs)
     (λ c. search needs)
     (λ c. search needs)
     (λ c. search needs)
     (λ c. search needs)
     (λ c. search needs)
-    (λ c. search needs)
+    v-end
     (λ c. search needs)
     (λ c. search needs)
     (λ c. search needs)

@@ -1,20 +1,20 @@
 -- Vector 0, the vectors after it, and zeros behind the last column: each buffer is then full.
-use Prim.Native.Nat.{ℕ, _+_, _-_, _*_, _^_, _≤_}
-use mathlib.Core.Path.{sym, ap, ap₂, _∙_}
+use Prim.Native.Nat.{ℕ, _-_, _*_}
+use mathlib.Core.Path.{_≡_, refl, sym, ap, ap₂, _∙_}
 use mathlib.Core.List.{List, _++_}
-use native.Mathlib.Nat.{mul-le-mul}
+use native.Mathlib.Nat.{le-refl}
 use native.Mathlib.Omega.{arith}
-use lib.ListN.{take}
+use lib.ListN.{length, take}
 use lib.Seq.{take-all}
 use Rattle.spec.specs.Bytes.{concat, zeros}
-use Rattle.spec.specs.Shapes.{level, depthOf, matrixBytes, correctionsBytes}
+use Rattle.spec.specs.Shapes.{depthOf, firstBit, firstEntry, correctionsBytes}
 use Rattle.spec.specs.Primitives.{faest}
 use Rattle.spec.specs.Leaves.{vectorCommitments, leafCommitments, vectorHash}
 use Rattle.spec.specs.Rows.{matrixOf}
 use Rattle.spec.specs.Signer.{signerLeafCommitment, signerColumn, corrections}
-use Rattle.laws.proofs.Concat.{mul-within}
 use Rattle.planning_laws.proofs.ShapeFacts.{shape-facts}
-use Rattle.signer_vectors.proofs.Steps.{u-of, up-start, leaf-room, column-room, columns-used, told, whole}
+use Rattle.vector.proofs.Buffers.{all-commitments, all-columns, commitments-next, columns-next, commitments-end, columns-end}
+use Rattle.signer_vectors.proofs.Steps.{u-of, up-start, told, whole}
 use Rattle.signer_vectors.proofs.write_vectors.Statement.{statement}
 use Rattle.signer_vectors.proofs.write_vectors.Tie as tie
 
@@ -25,80 +25,69 @@ vector-of-u-requires : tie.Need-vector-of-u-requires
 vector-of-u-requires c κs =
     let start = c .before .before .before .before .before .before .before .before .before .before .before .before in
     let g = start .args in
+    let s = g .s in
+    let ok = start .pre .1 .0 .0 in
     let p = start .pre .1 .1 in
-    let f = shape-facts (g .s) (start .pre .1 .0 .0) in
-    let l = leaf-room (g .s) (start .pre .1 .0 .0) in
-    let k = column-room (g .s) (start .pre .1 .0 .0) (g .b) in
-    let one = mul-within (48 * 2 ^ g .s .k) 0 (g .s .tau) (f .tau-pos) in
-    let two = mul-within (g .b * g .s .k) 0 (g .s .tau) (f .tau-pos) in
-    (start .pre .0, ((start .pre .1 .0 .0, omega arith, start .pre .1 .0 .1, start .pre .1 .0 .2, start .pre .1 .0 .3), (omega arith, p .1, omega arith, omega arith)))
+    let f = shape-facts s ok in
+    let l = commitments-end s ok 0 _ _ (f .tau-pos) refl (p .0) in
+    let k = columns-end s ok (g .b) 0 _ _ (f .tau-pos) refl (p .2) in
+    let ln = commitments-next s 0 in
+    let kn = columns-next s 0 (g .b) in
+    (start .pre .0, ((ok, omega arith, start .pre .1 .0 .1, start .pre .1 .0 .2, start .pre .1 .0 .3), (omega arith, p .1, omega arith, omega arith)))
 
 other-vectors-requires : tie.Need-other-vectors-requires
-unfolding correctionsBytes
 other-vectors-requires c κs =
     let start = c .before .before .before .before .before .before .before .before .before .before .before .before .before .before .before .before .before .before .before .before .before .before .before .before .before .before in
     let g = start .args in
     let p = start .pre .1 .1 in
     let first = c .before .before .before .before .before .before .before .before .before .before .before .before .before .vector-of-u in
-    let f = shape-facts (g .s) (start .pre .1 .0 .0) in
-    let l = leaf-room (g .s) (start .pre .1 .0 .0) in
-    let k = column-room (g .s) (start .pre .1 .0 .0) (g .b) in
-    let a = first .kept .1 .1 .1 .1 .1 .1 .1 .0 in
-    let v = first .kept .1 .1 .1 .1 .1 .1 .1 .1 .1 .0 in
-    let h = first .kept .1 .1 .1 .1 .1 .1 .1 .1 .1 .1 .0 in
-    (start .pre .0, ((start .pre .1 .0 .0, omega arith, start .pre .1 .0 .1, start .pre .1 .0 .2, start .pre .1 .0 .3, u-of (g .s) (g .b) (g .iv) (g .tree .now) _ _ _ _ (first .ensures)), (omega arith, omega arith, omega arith, omega arith)))
+    let f = shape-facts (g .s) (start .pre .1 .0 .0) in (
+      start .pre .0,
+      (
+        (start .pre .1 .0 .0, omega arith, start .pre .1 .0 .1, start .pre .1 .0 .2, start .pre .1 .0 .3, u-of (g .s) (g .b) (g .iv) (g .tree .now) _ _ _ _ (first .ensures)),
+        (first .kept .1 .1 .1 .1 .1 .1 .1 .0 ∙ p .0, p .3, first .kept .1 .1 .1 .1 .1 .1 .1 .1 .1 .0 ∙ p .2, first .kept .1 .1 .1 .1 .1 .1 .1 .1 .1 .1 .0 ∙ p .4),
+      ),
+    )
 
-sub-columns : tie.Need-sub-clear-from
-sub-columns c = (let start = c .before .before .before .before .before .before .before .before .before .before .before .before .before .before .before .before .before .before .before .before .before .before .before .before .before .before .before .before .before .before .before .before .before .before .before .before in let f = shape-facts (start .args .s) (start .pre .1 .0 .0) in omega arith)
-
-mul-columns : tie.Need-mul-clear-from
-mul-columns c =
-    let start = c .before .before .before .before .before .before .before .before .before .before .before .before .before .before .before .before .before .before .before .before .before .before .before .before .before .before .before .before .before .before .before .before .before .before .before .before in
-    let g = start .args in
-    let f = shape-facts (g .s) (start .pre .1 .0 .0) in
-    let h : 128 - g .s .w ≤ 128 = omega arith in
-    let m : g .b * (128 - g .s .w) ≤ 8192 * 128 = mul-le-mul (start .pre .1 .0 .1) h in
-    omega arith
+columns-from-requires : tie.Need-columns-from-requires
+columns-from-requires c κs = (let start = c .before .before .before .before .before .before .before .before .before .before .before .before .before .before .before .before .before .before .before .before .before .before .before .before .before .before .before .before .before .before .before .before .before .before .before in (start .pre .1 .0 .0, le-refl _, start .pre .1 .0 .1))
 
 clear-from-requires : tie.Need-clear-from-requires
-unfolding level matrixBytes
 clear-from-requires c κs =
-    let start = c .before .before .before .before .before .before .before .before .before .before .before .before .before .before .before .before .before .before .before .before .before .before .before .before .before .before .before .before .before .before .before .before .before .before .before .before in
-    let g = start .args in
-    let f = shape-facts (g .s) (start .pre .1 .0 .0) in
-    let k = column-room (g .s) (start .pre .1 .0 .0) (g .b) in
-    let used = columns-used (g .s) (start .pre .1 .0 .0) (g .b) in
-    let v = c .before .before .before .before .before .before .before .before .before .before .before .before .before .before .before .before .before .before .before .before .before .before .before .vector-of-u .kept .1 .1 .1 .1 .1 .1 .1 .1 .1 .0 in
-    let v2 = c .before .before .before .before .before .before .before .before .before .other-vectors .kept .1 .1 .1 .1 .1 .1 .1 .1 .1 .1 .0 in
-    let p = start .pre .1 .1 .2 in
+    let start = c .before .before .before .before .before .before .before .before .before .before .before .before .before .before .before .before .before .before .before .before .before .before .before .before .before .before .before .before .before .before .before .before .before .before .before .before .before in
+    let k = all-columns (start .args .s) (start .pre .1 .0 .0) (start .args .b) in
+    let used = c .before .columns-from .ensures in
+    let long = c .before .before .before .before .before .before .before .before .before .before .other-vectors .kept .1 .1 .1 .1 .1 .1 .1 .1 .1 .1 .0 ∙ c .before .before .before .before .before .before .before .before .before .before .before .before .before .before .before .before .before .before .before .before .before .before .before .before .vector-of-u .kept .1 .1 .1 .1 .1 .1 .1 .1 .1 .0 ∙ start .pre .1 .1 .2 in
     omega arith
 
 returns : tie.Need-returns
 unfolding correctionsBytes leafCommitments matrixOf corrections
 returns c =
-    let start = c .before .before .before .before .before .before .before .before .before .before .before .before .before .before .before .before .before .before .before .before .before .before .before .before .before .before .before .before .before .before .before .before .before .before .before .before .before .before .before in
+    let start = c .before .before .before .before .before .before .before .before .before .before .before .before .before .before .before .before .before .before .before .before .before .before .before .before .before .before .before .before .before .before .before .before .before .before .before .before .before .before .before .before in
     let g = start .args in
+    let s = g .s in
+    let ok = start .pre .1 .0 .0 in
     let p = start .pre .1 .1 in
-    let f = shape-facts (g .s) (start .pre .1 .0 .0) in
-    let l = leaf-room (g .s) (start .pre .1 .0 .0) in
-    let k = column-room (g .s) (start .pre .1 .0 .0) (g .b) in
-    let used = columns-used (g .s) (start .pre .1 .0 .0) (g .b) in
-    let first = c .before .before .before .before .before .before .before .before .before .before .before .before .before .before .before .before .before .before .before .before .before .before .before .before .before .before .vector-of-u in
-    let other = c .before .before .before .before .before .before .before .before .before .before .before .before .other-vectors in
-    let up = other .ensures (up-start (g .s) (g .b) (g .iv) (g .tree .now) _ _ _ (g .corrections .now) _ _ (first .ensures)) in
-    let columns : ℕ → List ℕ = λ i. concat (depthOf (g .s) i) (signerColumn faest (g .s) (g .b) (g .iv) (g .tree .now) i) in
+    let f = shape-facts s ok in
+    let first = c .before .before .before .before .before .before .before .before .before .before .before .before .before .before .before .before .before .before .before .before .before .before .before .before .before .before .before .vector-of-u in
+    let other = c .before .before .before .before .before .before .before .before .before .before .before .before .before .other-vectors in
+    let used = c .before .before .before .before .columns-from .ensures in
+    let up = other .ensures (up-start s (g .b) (g .iv) (g .tree .now) _ _ _ (g .corrections .now) _ _ (first .ensures)) in
+    let columns : ℕ → List ℕ = λ i. concat (depthOf s i) (signerColumn faest s (g .b) (g .iv) (g .tree .now) i) in
+    let v : List ℕ = other .last .1 .1 .1 .1 .1 .1 .1 .1 .1 .1 .0 in
     let long = other .kept .1 .1 .1 .1 .1 .1 .1 .1 .1 .1 .0 ∙ first .kept .1 .1 .1 .1 .1 .1 .1 .1 .1 .0 ∙ p .2 in
+    let rest : length v - c .before .before .before .before .columns-from .result ≡ g .b * s .w = (let k = all-columns s ok (g .b) in omega arith) in
     let sums = other .kept .1 .1 .1 .1 .1 .1 .1 .1 .1 .0 ∙ p .3 in
-    let lc = signerLeafCommitment faest (g .s) (g .iv) (g .tree .now) in (
-      whole (vectorCommitments (g .s) lc) (48 * 2 ^ g .s .k) (g .s .tau) _ (f .tau-pos) (other .kept .1 .1 .1 .1 .1 .1 .1 .1 .0 ∙ first .kept .1 .1 .1 .1 .1 .1 .1 .0 ∙ p .0 ∙ sym l) (up .leaves),
+    let lc = signerLeafCommitment faest s (g .iv) (g .tree .now) in (
+      whole (vectorCommitments s lc) (λ i. 48 * firstEntry s i) (s .tau) _ (f .tau-pos) (other .kept .1 .1 .1 .1 .1 .1 .1 .1 .0 ∙ first .kept .1 .1 .1 .1 .1 .1 .1 .0 ∙ p .0 ∙ sym (all-commitments s ok)) (up .leaves),
       (
-        u-of (g .s) (g .b) (g .iv) (g .tree .now) _ _ _ _ (first .ensures),
+        u-of s (g .b) (g .iv) (g .tree .now) _ _ _ _ (first .ensures),
         (
           c .before .before .clear-from .ensures
-              ∙ ap₂ (λ (x : List ℕ) (n : ℕ). x ++ zeros n) (ap (λ (n : ℕ). take n (other .last .1 .1 .1 .1 .1 .1 .1 .1 .1 .1 .0)) used ∙ told columns (g .b * g .s .k) (g .s .tau) _ (f .tau-pos) (up .columns)) (omega arith),
+              ∙ ap₂ (λ (x : List ℕ) (n : ℕ). x ++ zeros n) (ap (λ (n : ℕ). take n v) used ∙ told columns (λ i. g .b * firstBit s i) (s .tau) v (f .tau-pos) (up .columns)) rest,
           (
-            sym (take-all (g .b * (g .s .tau - 1)) _ (omega arith)) ∙ up .sums,
-            whole (vectorHash faest (g .s) lc) 32 (g .s .tau) _ (f .tau-pos) (other .kept .1 .1 .1 .1 .1 .1 .1 .1 .1 .1 .1 .0 ∙ first .kept .1 .1 .1 .1 .1 .1 .1 .1 .1 .1 .0 ∙ p .4) (up .digests),
+            sym (take-all (g .b * (s .tau - 1)) _ (omega arith)) ∙ up .sums,
+            whole (vectorHash faest s lc) (λ i. 32 * i) (s .tau) _ (f .tau-pos) (other .kept .1 .1 .1 .1 .1 .1 .1 .1 .1 .1 .1 .0 ∙ first .kept .1 .1 .1 .1 .1 .1 .1 .1 .1 .1 .0 ∙ p .4) (up .digests),
           ),
         ),
       ),
@@ -111,12 +100,11 @@ write-vectors-spec =
     less-one
     vector-of-u-requires
     other-vectors-requires
-    sub-columns
-    mul-columns
+    columns-from-requires
     clear-from-requires
-    (λ c. c .before .before .before .before .before .before .before .before .before .before .before .before .other-vectors .kept .1 .1 .1 .1 .1 .1 .1 .1 .0 ∙ c .before .before .before .before .before .before .before .before .before .before .before .before .before .before .before .before .before .before .before .before .before .before .before .before .before .before .vector-of-u .kept .1 .1 .1 .1 .1 .1 .1 .0)
-    (λ c. c .before .before .before .before .before .before .before .before .before .before .before .before .before .before .before .before .before .before .before .before .before .before .before .before .before .before .vector-of-u .kept .1 .1 .1 .1 .1 .1 .1 .1 .0)
-    (λ c. c .before .before .clear-from .kept .0 ∙ c .before .before .before .before .before .before .before .before .before .before .before .before .other-vectors .kept .1 .1 .1 .1 .1 .1 .1 .1 .1 .1 .0 ∙ c .before .before .before .before .before .before .before .before .before .before .before .before .before .before .before .before .before .before .before .before .before .before .before .before .before .before .vector-of-u .kept .1 .1 .1 .1 .1 .1 .1 .1 .1 .0)
-    (λ c. c .before .before .before .before .before .before .before .before .before .before .before .before .other-vectors .kept .1 .1 .1 .1 .1 .1 .1 .1 .1 .0)
-    (λ c. c .before .before .before .before .before .before .before .before .before .before .before .before .other-vectors .kept .1 .1 .1 .1 .1 .1 .1 .1 .1 .1 .1 .0 ∙ c .before .before .before .before .before .before .before .before .before .before .before .before .before .before .before .before .before .before .before .before .before .before .before .before .before .before .vector-of-u .kept .1 .1 .1 .1 .1 .1 .1 .1 .1 .1 .0)
+    (λ c. c .before .before .before .before .before .before .before .before .before .before .before .before .before .other-vectors .kept .1 .1 .1 .1 .1 .1 .1 .1 .0 ∙ c .before .before .before .before .before .before .before .before .before .before .before .before .before .before .before .before .before .before .before .before .before .before .before .before .before .before .before .vector-of-u .kept .1 .1 .1 .1 .1 .1 .1 .0)
+    (λ c. c .before .before .before .before .before .before .before .before .before .before .before .before .before .before .before .before .before .before .before .before .before .before .before .before .before .before .before .vector-of-u .kept .1 .1 .1 .1 .1 .1 .1 .1 .0)
+    (λ c. c .before .before .clear-from .kept .0 ∙ c .before .before .before .before .before .before .before .before .before .before .before .before .before .other-vectors .kept .1 .1 .1 .1 .1 .1 .1 .1 .1 .1 .0 ∙ c .before .before .before .before .before .before .before .before .before .before .before .before .before .before .before .before .before .before .before .before .before .before .before .before .before .before .before .vector-of-u .kept .1 .1 .1 .1 .1 .1 .1 .1 .1 .0)
+    (λ c. c .before .before .before .before .before .before .before .before .before .before .before .before .before .other-vectors .kept .1 .1 .1 .1 .1 .1 .1 .1 .1 .0)
+    (λ c. c .before .before .before .before .before .before .before .before .before .before .before .before .before .other-vectors .kept .1 .1 .1 .1 .1 .1 .1 .1 .1 .1 .1 .0 ∙ c .before .before .before .before .before .before .before .before .before .before .before .before .before .before .before .before .before .before .before .before .before .before .before .before .before .before .before .vector-of-u .kept .1 .1 .1 .1 .1 .1 .1 .1 .1 .1 .0)
     returns)

@@ -10,7 +10,7 @@ use lib.ListN.{length, take, drop}
 use lib.Seq.{take-all}
 use Rattle.spec.specs.declared.Shape.{Shape}
 use Rattle.spec.specs.Bytes.{bit, concat, xorBelow}
-use Rattle.spec.specs.Shapes.{level, nodeBytes, leafCommitmentBytes}
+use Rattle.spec.specs.Shapes.{level, nodeBytes, leafCommitmentBytes, depthOf}
 use Rattle.spec.specs.Primitives.{faest}
 use Rattle.spec.specs.Leaves.{leafKey, leafCommitment}
 use Rattle.spec.specs.Rows.{rowByte}
@@ -41,7 +41,7 @@ abbrev Inv-loop : tie.InvT-loop
 Inv-loop t m s i from n mask b iv tree commitments₀ totals total₀ cols₀ e₀ commitments total cols e =
     (e ≤ n) × (length commitments ≡ 48 * n) × (take (48 * e) commitments ≡ concat e (commitment s iv tree i from mask))
     × Added b totals (λ j p. xorBelow e (λ x. toTotal s iv tree i from mask x j p)) total₀ total
-    × Added b (s .k) (λ j p. xorBelow e (λ x. toColumn s iv tree i from mask x j p)) cols₀ cols
+    × Added b (depthOf s i) (λ j p. xorBelow e (λ x. toColumn s iv tree i from mask x j p)) cols₀ cols
 
 abbrev μ-loop : tie.MeasureT-loop
 μ-loop t m s i from n mask b iv tree commitments₀ totals total₀ cols₀ e₀ commitments total cols e = n - e
@@ -67,7 +67,7 @@ loop-holds c =
       start .pre .1 .1 .0 .0,
       refl,
       added-none (g .b) (g .totals) (g .total .now) (λ j p. 0) (λ j p hj hp. refl),
-      added-none (g .b) (g .s .k) (g .cols .now) (λ j p. 0) (λ j p hj hp. refl),
+      added-none (g .b) (depthOf (g .s) (g .i)) (g .cols .now) (λ j p. 0) (λ j p hj hp. refl),
     )
 
 add-entry-requires : tie.Need-add-entry-requires Inv-loop μ-loop
@@ -106,7 +106,7 @@ loop-again c =
       search needs,
       rw (next, made .0) (put-next f [] 48 (l .e) at (l .commitments) (take at (l .commitments) ++ (f (l .e) ++ rest)) rest (omega arith) long (l .inv .2) refl),
       added-more (g .b) (g .totals) (l .e) (toTotal (g .s) (g .iv) x (g .i) (g .from) (g .mask)) (g .total .now) (l .total) _ (l .inv .3) (made .1 .0),
-      added-more (g .b) (g .s .k) (l .e) (toColumn (g .s) (g .iv) x (g .i) (g .from) (g .mask)) (g .cols .now) (l .cols) _ (l .inv .4) (made .1 .1),
+      added-more (g .b) (depthOf (g .s) (g .i)) (l .e) (toColumn (g .s) (g .iv) x (g .i) (g .from) (g .mask)) (g .cols .now) (l .cols) _ (l .inv .4) (made .1 .1),
     )
 
 returns : tie.Need-returns Inv-loop μ-loop

@@ -6,14 +6,12 @@ use Prim.Native.Nat.{ℕ, _+_, _-_, _*_}
 use native.Mathlib.Nat.{mul-zero}
 use native.Mathlib.Omega.{arith}
 use lib.ListN.{take}
-use Rattle.spec.specs.Shapes.{depthOf, entriesOf}
 use Rattle.laws.proofs.Lists.{length-part}
 use Rattle.laws.proofs.Putting.{behind}
 use Rattle.verifier_vector.proofs.add_run.Statement.{statement}
 use Rattle.verifier_vector.proofs.add_run.Tie as tie
 
 add-entries-requires : tie.Need-add-entries-requires
-unfolding depthOf entriesOf
 add-entries-requires c κs =
     let start = c .before .before .before .before .before .before in
     let g = start .args in

@@ -2,10 +2,11 @@
 use borrow.Author.Needs.{needs}
 use mathlib.Core.Path.{_≡_, sym, ap, ap₂, _∙_}
 use mathlib.Core.List.{List, _++_}
-use Prim.Native.Nat.{ℕ, _+_, _-_, _*_, _^_}
+use Prim.Native.Nat.{ℕ, _+_, _-_, _*_}
 use native.Mathlib.Omega.{arith}
 use lib.ListN.{length, take, drop}
 use Rattle.spec.specs.Bytes.{part, concat}
+use Rattle.spec.specs.Shapes.{entriesOf}
 use Rattle.spec.specs.Primitives.{faest}
 use Rattle.spec.specs.Leaves.{leafKey, leafCommitment}
 use Rattle.laws.proofs.Concat.{part-whole}
@@ -32,7 +33,7 @@ add-run-requires-2 c κs =
     let n = c .before .before .before .before .before .before .before .before .before .before .before .before .before .entry-count .ensures in
     let one = c .before .before .before .before .before .before .before .before .before .before .add-run .kept in
     let two = c .before .before .before .before .copy-part .kept in
-    let long : length (c .before .before .before .before .copy-part .last .1 .1 .1 .0) ≡ 48 * 2 ^ start .args .s .k = two .1 .1 .1 .0 ∙ one .1 .1 .1 .1 .1 .1 .1 .1 .1 .1 .0 ∙ p .1 .1 .0 .1 in
+    let long : length (c .before .before .before .before .copy-part .last .1 .1 .1 .0) ≡ 48 * entriesOf (start .args .s) (start .args .i) = two .1 .1 .1 .0 ∙ one .1 .1 .1 .1 .1 .1 .1 .1 .1 .1 .0 ∙ p .1 .1 .0 .1 in
     (p .0, ((p .1 .0 .0, p .1 .0 .1, omega arith, p .1 .0 .3, p .1 .0 .4), ((long, one .1 .1 .1 .1 .1 .1 .1 .1 .1 .1 .1 .0 ∙ p .1 .1 .0 .2), p .1 .1 .1)))
 
 returns : tie.Need-returns
@@ -48,8 +49,8 @@ returns c =
     let n = c .before .before .before .before .before .before .before .before .before .before .before .before .before .before .before .before .before .before .entry-count in
     let count = n .ensures .0 in
     let r = n .result - d - 1 in
-    let same : r ≡ 2 ^ s .k - d - 1 = omega arith in
-    let all : d + (1 + r) ≡ 2 ^ s .k = omega arith in
+    let same : r ≡ entriesOf s (g .i) - d - 1 = omega arith in
+    let all : d + (1 + r) ≡ entriesOf s (g .i) = omega arith in
     let first = c .before .before .before .before .before .before .before .before .before .before .before .before .before .before .before .add-run .ensures in
     let second = c .before .before .before .before .add-run2 .ensures in
     let long : length l ≡ 48 * d + 48 + 48 * r = (let q = p .1 .1 .0 .1 in omega arith) in

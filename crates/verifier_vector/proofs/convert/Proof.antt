@@ -2,13 +2,13 @@
 use borrow.Author.Needs.{needs}
 use mathlib.Core.Path.{_≡_, sym, ap, ap₂, _∙_, subst}
 use mathlib.Core.List.{List, _++_}
-use Prim.Native.Nat.{ℕ, _+_, _-_, _*_, _^_}
+use Prim.Native.Nat.{ℕ, _+_, _-_, _*_}
 use native.Mathlib.Omega.{arith}
 use lib.Bits.{bitXor}
 use lib.ListN.{length, take, drop}
 use Rattle.spec.specs.Bytes.{part, tabulate, concat, number}
 use Rattle.spec.specs.Hashes.{hash1}
-use Rattle.spec.specs.Shapes.{level, nodeBytes, leafCommitmentBytes, hashBytes, rate, depthOf}
+use Rattle.spec.specs.Shapes.{level, nodeBytes, leafCommitmentBytes, hashBytes, rate, depthOf, entriesOf}
 use Rattle.spec.specs.Primitives.{faest}
 use Rattle.spec.specs.Leaves.{hashKey, leafKey, leafCommitment, vectorHash}
 use Rattle.spec.specs.Rows.{columnByte}
@@ -53,7 +53,7 @@ add-visible-requires c κs =
     )
 
 returns : tie.Need-returns
-unfolding level nodeBytes hashBytes rate depthOf faest vectorHash
+unfolding level nodeBytes hashBytes rate faest vectorHash
 returns c ch opening hd hh =
     let start = c .before .before .before .before .before .before .before .before .before .before .before .before .before .before .before .before .before .before .before .before .before .before .before .before .before in
     let g = start .args in
@@ -62,14 +62,14 @@ returns c ch opening hd hh =
     let x = g .tree .now in
     let d = g .d in
     let h = p .1 .0 .2 in
-    let r = 2 ^ s .k - d - 1 in
+    let r = entriesOf s (g .i) - d - 1 in
     let hidden = g .hidden .now in
     let made = c .before .before .before .before .before .before .before .before .before .add-visible .ensures in
     let y : List ℕ = concat d (λ e. leafCommitment faest s (g .iv) (g .i) (leafKey s x (g .i) e)) in
     let z : List ℕ = concat r (λ e. leafCommitment faest s (g .iv) (g .i) (leafKey s x (g .i) (d + 1 + e))) in
     let lcs : List ℕ = c .before .before .before .before .before .before .before .before .before .add-visible .last .1 .1 .1 .1 .1 .1 .1 .1 .1 .0 in
     let cols : List ℕ = c .before .before .before .before .before .before .before .before .before .add-visible .last .1 .1 .1 .1 .1 .1 .1 .1 .1 .1 .0 in
-    let all : d + (1 + r) ≡ 2 ^ s .k = omega arith in
+    let all : d + (1 + r) ≡ entriesOf s (g .i) = omega arith in
     let given = made .0 ∙ ap (λ (v : List ℕ). y ++ (v ++ z)) hh ∙ given-commitments s (g .iv) ch opening x (g .i) d hd r all in
     let long : length y ≡ 48 * d = sym (ap length (from-zero s (g .iv) x (g .i) d)) ∙ own-run s (g .iv) x (g .i) 0 d in
     let message : take (48 * d) lcs ++ (hidden ++ drop (48 * d + 48) lcs) ≡ lcs =
@@ -78,9 +78,9 @@ returns c ch opening hd hh =
     record {
       leaves = given;
       columns =
-          cleared-columns (g .b) (s .k) (length (g .cols .now) - 0) (columnByte faest s (g .iv) x (λ e. bitXor e d) (g .i)) (c .before .before .before .before .before .before .before .before .before .before .before .before .before .before .before .clear-from .last .0) cols
+          cleared-columns (g .b) (depthOf s (g .i)) (length (g .cols .now) - 0) (columnByte faest s (g .iv) x (λ e. bitXor e d) (g .i)) (c .before .before .before .before .before .before .before .before .before .before .before .before .before .before .before .clear-from .last .0) cols
           (c .before .before .before .before .before .before .before .before .before .before .before .before .before .before .before .clear-from .kept .0 ∙ p .1 .1 .2) (c .before .before .before .before .before .before .before .before .before .before .before .before .before .before .before .clear-from .ensures) (made .1)
-          ∙ ap (λ (n : ℕ). concat (s .k) (λ j. tabulate (g .b) (columnByte faest s (g .iv) x (λ e. bitXor e n) (g .i) j))) hd;
+          ∙ ap (λ (n : ℕ). concat (depthOf s (g .i)) (λ j. tabulate (g .b) (columnByte faest s (g .iv) x (λ e. bitXor e n) (g .i) j))) hd;
       digest = c .before .before .hash-vector .ensures ∙ ap₂ (λ (v : List ℕ) (n : ℕ). hash1 168 v n) (message ∙ given) (p .1 .1 .3);
     }
 

@@ -1,13 +1,11 @@
 -- What `convert` ensures, and the correction added to the columns.
 use borrow.Author.Needs.{needs}
 use mathlib.Core.Path.{_∙_}
-use Rattle.spec.specs.Shapes.{depthOf, entriesOf}
 use Rattle.verifier_vectors.proofs.Steps.{corrected-columns}
 use Rattle.verifier_vectors.proofs.corrected_vector.Statement.{statement}
 use Rattle.verifier_vectors.proofs.corrected_vector.Tie as tie
 
 convert-requires : tie.Need-convert-requires
-unfolding depthOf entriesOf
 convert-requires c κs =
     let p = c .before .before .before .before .before .before .before .before .before .before .before .before .pre in
     (p .0, ((p .1 .0 .0, p .1 .0 .1, c .before .before .before .hidden-index .ensures .1, p .1 .0 .2, p .1 .0 .3, p .1 .0 .5), p .1 .1))

@@ -25,7 +25,7 @@ next-vector-requires c κs =
       p .0,
       (
         (p .1 .0 .0, omega arith, p .1 .0 .1, p .1 .0 .2, p .1 .0 .3, p .1 .0 .4, p .1 .0 .5, p .1 .0 .6),
-        (omega (arith, p .1 .1 .0, l .1), omega (arith, p .1 .1 .1, l .2), omega (arith, p .1 .1 .2, l .3)),
+        (l .1 ∙ p .1 .1 .0, l .2 ∙ p .1 .1 .1, l .3 ∙ p .1 .1 .2),
       ),
     )
 

@@ -1,0 +1,133 @@
+/* Times commit, open and reconstruct beside portable C, at FAEST-128s and FAEST-128f with rows of 1,680 bits: the same work in turn, the least processor time of
+   many runs of each side, and whether the results agree. A call is longer than what the system gives a process at a time, hence the processor's time. */
+#include "portable.h"
+#include "portable_shape.h"
+#include <stdio.h>
+#include <string.h>
+#include <time.h>
+
+enum { BITS = 1680, ROW = BITS / 8, LEAVES = 22528, VECTORS = 16, ALLOWED = 110, RUNS = 25, SIDES = 2 };
+static const char *const side_names[SIDES] = {"C", "Rattle"};
+static const struct set {
+    const char *name;
+    size_t shape[4];
+} sets[] = {{"FAEST-128s", {11, 11, 7, 102}}, {"FAEST-128f", {16, 7, 8, 110}}};
+
+static uint8_t root[16], iv[16], challenge[16];
+/* what each side wrote last; room for the larger of the two sets */
+static struct {
+    uint8_t commitment[32], tree[32 * LEAVES - 16], leaf_commitments[48 * LEAVES], u[ROW], v[128 * ROW], corrections[(VECTORS - 1) * ROW];
+    uint8_t opening[48 * VECTORS + 16 * ALLOWED];
+    uint8_t again_commitment[32], again_tree[32 * LEAVES - 16], again_leaf_commitments[48 * LEAVES], q[128 * ROW];
+    size_t opened, reconstructed;
+} made[SIDES];
+
+static const size_t *shape;
+#define TREE (32 * leaf_count(shape) - 16)
+#define LEAF_COMMITMENTS (48 * leaf_count(shape))
+#define CORRECTIONS (ROW * (shape[0] - 1))
+#define OPENING (48 * shape[0] + 16 * shape[3])
+#define SHAPE shape[0], shape[1], shape[2], shape[3]
+
+static void commit(int side)
+{
+    if (side == 0)
+        c_commit(shape, ROW, root, iv, made[0].commitment, made[0].tree, made[0].leaf_commitments, made[0].u, made[0].v, made[0].corrections);
+    else
+        rattle_commit(SHAPE, BITS, root, 16, iv, 16, made[1].commitment, 32, made[1].tree, TREE, made[1].leaf_commitments, LEAF_COMMITMENTS, made[1].u, ROW,
+                      made[1].v, 128 * ROW, made[1].corrections, CORRECTIONS);
+}
+
+static void open(int side)
+{
+    if (side == 0)
+        made[0].opened = c_open(shape, challenge, made[0].tree, made[0].leaf_commitments, made[0].opening);
+    else
+        made[1].opened = rattle_open(SHAPE, challenge, 16, made[1].tree, TREE, made[1].leaf_commitments, LEAF_COMMITMENTS, made[1].opening, OPENING);
+}
+
+static void reconstruct(int side)
+{
+    if (side == 0)
+        made[0].reconstructed = c_reconstruct(shape, ROW, iv, challenge, made[0].corrections, made[0].opening, made[0].again_commitment, made[0].again_tree,
+                                              made[0].again_leaf_commitments, made[0].q);
+    else
+        made[1].reconstructed = rattle_reconstruct(SHAPE, BITS, iv, 16, challenge, 16, made[1].corrections, CORRECTIONS, made[1].opening, OPENING,
+                                                   made[1].again_commitment, 32, made[1].again_tree, TREE, made[1].again_leaf_commitments, LEAF_COMMITMENTS,
+                                                   made[1].q, 128 * ROW);
+}
+
+static const struct {
+    const char *name;
+    void (*work)(int side);
+    int times;
+} calls[] = {{"commit", commit, 1}, {"open", open, 20}, {"reconstruct", reconstruct, 1}};
+enum { CALLS = 3 };
+
+static double milliseconds(void (*work)(int), int side, int times)
+{
+    struct timespec from, to;
+    clock_gettime(CLOCK_PROCESS_CPUTIME_ID, &from);
+    for (int i = 0; i < times; i++)
+        work(side);
+    clock_gettime(CLOCK_PROCESS_CPUTIME_ID, &to);
+    return ((double)(to.tv_sec - from.tv_sec) * 1e3 + (double)(to.tv_nsec - from.tv_nsec) / 1e6) / times;
+}
+
+/* whether two sides' results differ, or the commitment that reconstruct wrote is another than commit's */
+static int differ(int a, int b)
+{
+#define OTHER(field, length) memcmp(made[a].field, made[b].field, length)
+    return OTHER(commitment, 32) || OTHER(tree, TREE) || OTHER(leaf_commitments, LEAF_COMMITMENTS) || OTHER(u, ROW) || OTHER(v, 128 * ROW)
+        || OTHER(corrections, CORRECTIONS) || OTHER(opening, OPENING) || OTHER(again_commitment, 32) || OTHER(again_tree, TREE)
+        || OTHER(again_leaf_commitments, LEAF_COMMITMENTS) || OTHER(q, 128 * ROW) || made[a].opened != made[b].opened
+        || made[a].reconstructed != made[b].reconstructed || memcmp(made[a].commitment, made[a].again_commitment, 32);
+}
+
+int main(void)
+{
+    int wrong = 0;
+    for (int i = 0; i < 16; i++) {
+        root[i] = (uint8_t)(37 * i + 1);
+        iv[i] = (uint8_t)(91 * i + 5);
+    }
+    for (size_t s = 0; s < sizeof sets / sizeof sets[0]; s++) {
+        double best[CALLS][SIDES];
+        uint32_t list[512];
+        shape = sets[s].shape;
+        /* the sides begin with other bytes */
+        for (int side = 0; side < SIDES; side++)
+            memset(&made[side], 0x55 + side, sizeof made[side]);
+        /* the first challenge of a list that is accepted */
+        for (unsigned n = 0, found = 0; !found; n++) {
+            for (unsigned i = 0; i < 16; i++)
+                challenge[i] = (uint8_t)((n * 1009 + i) * 7 + (n * 1009 + i) / 251);
+            challenge[15] &= (uint8_t)(0xff >> shape[2]);
+            const size_t count = c_plan(shape, challenge, list);
+            found = 0 < count && count <= shape[3];
+        }
+        for (int r = 0; r < RUNS; r++)
+            for (int c = 0; c < CALLS; c++)
+                for (int side = 0; side < SIDES; side++) {
+                    const double t = milliseconds(calls[c].work, side, calls[c].times);
+                    if (r == 0 || t < best[c][side])
+                        best[c][side] = t;
+                }
+        for (int c = 0; c < CALLS; c++) {
+            printf("%s %-12s", sets[s].name, calls[c].name);
+            for (int side = 0; side < SIDES; side++)
+                if (best[c][side] < 1)
+                    printf("  %s %6.2f us", side_names[side], best[c][side] * 1e3);
+                else
+                    printf("  %s %6.2f ms", side_names[side], best[c][side]);
+            for (int side = 0; side < SIDES - 1; side++)
+                printf("  ratio to %s %.2f", side_names[side], best[c][SIDES - 1] / best[c][side]);
+            printf("\n");
+        }
+        for (int side = 0; side < SIDES - 1; side++)
+            if (differ(SIDES - 1, side))
+                wrong = printf("RESULTS DIFFER from %s\n", side_names[side]);
+        printf("nodes opened: %zu\n", made[SIDES - 1].opened);
+    }
+    return wrong != 0;
+}
