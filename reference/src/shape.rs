@@ -17,7 +17,10 @@ pub struct Shape {
 }
 
 /// FAEST-128s of table 3.2.
-pub const DEFAULT: Shape = Shape::new(11, 11, 7, 102);
+pub const FAEST_128S: Shape = Shape::new(11, 11, 7, 102);
+
+/// The default, FAEST-128f of table 3.2 (document 02, E3).
+pub const DEFAULT: Shape = Shape::new(16, 7, 8, 110);
 
 impl Shape {
     pub const fn new(tau: usize, k: usize, w: usize, t: usize) -> Shape {

@@ -46,7 +46,7 @@ def times(a, b):
 class Shape:
     def __init__(self, tau, k, w, t):
         if (tau, k, w, t) == (0, 0, 0, 0):
-            tau, k, w, t = 11, 11, 7, 102
+            tau, k, w, t = 16, 7, 8, 110
         self.tau, self.k, self.w, self.t = tau, k, w, t
         self.r = 128 - w - tau * k
         self.depths = [k + 1 if i < self.r else k for i in range(tau)]
@@ -201,7 +201,7 @@ def challenge_for(shape, label):
 
 
 CASES = [
-    # (tau, k, w, T), row length in bits, IV (None: any)
+    # (tau, k, w, T), row length in bits, IV (None: any), label (where it is not the shape)
     ((1, 1, 127, 1), 8, None),
     ((1, 12, 116, 12), 136, None),
     ((2, 2, 124, 4), 128, "ff" * 16),
@@ -211,20 +211,21 @@ CASES = [
     ((9, 7, 65, 40), 264, None),
     ((32, 4, 0, 512), 1000, None),
     ((16, 8, 0, 120), 72, None),
-    ((0, 0, 0, 0), 1680, None),
+    ((11, 11, 7, 102), 1680, None, "0 0 0 0"),
     ((10, 12, 8, 110), 8, "ff" * 16),
     ((2, 1, 125, 4), 128, None),
     ((3, 1, 123, 6), 24, "ff" * 16),
     ((32, 3, 1, 512), 72, None),
     ((16, 7, 8, 110), 1680, None),
+    ((0, 0, 0, 0), 16, None, "default"),
 ]
 
 
 def main():
     print("# Derived by tests/derive.py with hashlib and the package cryptography.")
-    for numbers, row_bits, iv in CASES:
+    for numbers, row_bits, iv, *labels in CASES:
         shape = Shape(*numbers)
-        label = " ".join(map(str, numbers))
+        label = labels[0] if labels else " ".join(map(str, numbers))
         root = shake(f"root {label}".encode(), 16)
         iv = bytes.fromhex(iv) if iv else shake(f"iv {label}".encode(), 16)
         challenge = challenge_for(shape, f"challenge {label}")

@@ -15,7 +15,7 @@ pub fn answer(number: usize, count: usize) -> Answer
     Answer { number, count }
 }
 
-// Four zeros stand for the default, FAEST-128s.
+// Four zeros stand for the default, FAEST-128f.
 pub fn resolve(s: Shape) -> Shape
     ensures { λ r. ⌜ r ≡ resolved s ⌝ }
 {
@@ -32,10 +32,10 @@ pub fn resolve(s: Shape) -> Shape
         return s;
     }
     Shape {
-        tau: 11,
-        k: 11,
-        w: 7,
-        t: 102,
+        tau: 16,
+        k: 7,
+        w: 8,
+        t: 110,
     }
 }
 

@@ -1,4 +1,4 @@
--- Document 01's examples P1 to P10, and how far one index moved a count, as entries of one table about the definitions; behind it hidden indices and shapes of two depths. Each
+-- Document 01's examples P1 to P10, how far one index moved a count, and the default, as entries of one table about the definitions; behind it hidden indices and shapes of two depths. Each
 -- is computed.
 use Prim.Native.Nat.{ℕ}
 use mathlib.Core.Path.{_≡_, refl}
@@ -8,7 +8,7 @@ use Rattle.spec.specs.declared.Shape.{Shape}
 use Rattle.spec.specs.Bytes.{tabulate, zeros, allZero, number}
 use Rattle.spec.specs.Tree.{parent, isAncestorWithin, isAncestor, some, covered, siblingToReveal, revealedFrom, revealed, nodeCount}
 use Rattle.spec.specs.Challenge.{bitAt, bitsAt, indexAt, clearAt}
-use Rattle.spec.specs.Shapes.{faest128s, resolved, level, challengeBytes, deeper, depthOf, firstBit, firstEntry, leaves, leafOf, shapeOk, hiddenIndex, hiddenIndices, hiddenLeaf, hiddenLeaves, grindingOk, planned, plannedCount}
+use Rattle.spec.specs.Shapes.{faest128s, faest128f, resolved, level, challengeBytes, deeper, depthOf, firstBit, firstEntry, leaves, leafOf, shapeOk, hiddenIndex, hiddenIndices, hiddenLeaf, hiddenLeaves, grindingOk, planned, plannedCount}
 use Rattle.spec.specs.Calls.{written, countWith, nodesOk, planNumber}
 
 -- a call of plan with a challenge of one byte and fifteen zeros and a list of t zeros: its number, its count and the list after it
@@ -62,9 +62,11 @@ P8 = Planned (row 2 2 124 3 0x0c 5 4 (0 ∷ 0 ∷ 0 ∷ []))
 abbrev pub P9 : Type 0
 P9 = Planned (row 2 2 124 4 0x10 4 0 (0 ∷ 0 ∷ 0 ∷ 0 ∷ []))
 
--- the default: its L, and its last leaf, entry 2,047 of vector 10
+-- FAEST-128s: its L, and its last leaf, entry 2,047 of vector 10
 abbrev pub P10 : Type 0
-P10 = let s = resolved (record { tau = 0; k = 0; w = 0; t = 0 }) in (s ≡ faest128s) × (leaves s ≡ 22528) × (leafOf s 10 2047 ≡ 45054)
+P10 =
+    let s : Shape = record { tau = 11; k = 11; w = 7; t = 102 } in
+    (faest128s ≡ s) × (leaves s ≡ 22528) × (leafOf s 10 2047 ≡ 45054)
 
 -- P3 and P4 differ in the hidden index of vector 1 only: with L 8, the counts 2 and 4
 abbrev pub OneIndex : Type 0
@@ -76,8 +78,12 @@ OneIndex =
     × (plannedCount s (0x00 ∷ zeros 15) ≡ 2)
     × (plannedCount s (0x0c ∷ zeros 15) ≡ 4)
 
-pub table : P1 × P2 × P3 × P4 × P5 × P6 × P7 × P8 × P9 × P10 × OneIndex
-unfolding challengeOf Planned row tabulate zeros allZero number parent isAncestorWithin isAncestor some covered siblingToReveal revealedFrom revealed nodeCount bitAt bitsAt indexAt clearAt faest128s resolved level challengeBytes depthOf firstBit firstEntry leaves leafOf shapeOk hiddenIndex hiddenLeaf hiddenLeaves grindingOk planned plannedCount countWith nodesOk planNumber deeper
+-- what four zeros stand for
+abbrev pub Default : Type 0
+Default = resolved (record { tau = 0; k = 0; w = 0; t = 0 }) ≡ record { tau = 16; k = 7; w = 8; t = 110 }
+
+pub table : P1 × P2 × P3 × P4 × P5 × P6 × P7 × P8 × P9 × P10 × OneIndex × Default
+unfolding challengeOf Planned row tabulate zeros allZero number parent isAncestorWithin isAncestor some covered siblingToReveal revealedFrom revealed nodeCount bitAt bitsAt indexAt clearAt faest128s faest128f resolved level challengeBytes depthOf firstBit firstEntry leaves leafOf shapeOk hiddenIndex hiddenLeaf hiddenLeaves grindingOk planned plannedCount countWith nodesOk planNumber deeper
 table = (
   (refl, refl, refl),
   (refl, refl, refl),
@@ -90,18 +96,19 @@ table = (
   (refl, refl, refl),
   (refl, refl, refl),
   (refl, refl, refl, refl, refl, refl, refl),
+  refl,
 )
 
--- ---- the hidden indices of the default, most of which begin and end inside a byte; reference/tests derives them too
+-- ---- the hidden indices of FAEST-128s, most of which begin and end inside a byte; reference/tests derives them too
 
 abbrev pub varied : List ℕ
 varied = 8 ∷ 118 ∷ 246 ∷ 103 ∷ 12 ∷ 60 ∷ 245 ∷ 175 ∷ 148 ∷ 147 ∷ 233 ∷ 0 ∷ 222 ∷ 58 ∷ 213 ∷ 1 ∷ []
 
-pub default-indices :
+pub faest128s-indices :
     hiddenIndices faest128s varied
     ≡ 1544 ∷ 1742 ∷ 415 ∷ 1542 ∷ 1875 ∷ 351 ∷ 1253 ∷ 1868 ∷ 1536 ∷ 1883 ∷ 1876 ∷ []
 unfolding tabulate number bitAt bitsAt indexAt faest128s depthOf firstBit hiddenIndex hiddenIndices deeper level
-default-indices = refl
+faest128s-indices = refl
 
 -- ---- two depths: at 2, 1, 125, 4 vector 0 has depth 2 and vector 1 depth 1; the fast set's last leaf is the last entry of its last deeper vector
 
@@ -115,5 +122,5 @@ Uneven =
     × (let s : Shape = record { tau = 16; k = 7; w = 8; t = 110 } in (leaves s ≡ 3072) × (leafOf s 15 127 ≡ 5118) × (leafOf s 7 255 ≡ 6142))
 
 pub uneven : Uneven
-unfolding challengeOf Planned row tabulate zeros allZero number parent isAncestorWithin isAncestor some covered siblingToReveal revealedFrom revealed nodeCount bitAt bitsAt indexAt clearAt faest128s resolved level challengeBytes deeper depthOf firstBit leaves leafOf shapeOk hiddenIndex hiddenLeaf hiddenLeaves grindingOk planned plannedCount countWith nodesOk planNumber
+unfolding challengeOf Planned row tabulate zeros allZero number parent isAncestorWithin isAncestor some covered siblingToReveal revealedFrom revealed nodeCount bitAt bitsAt indexAt clearAt faest128s faest128f resolved level challengeBytes deeper depthOf firstBit leaves leafOf shapeOk hiddenIndex hiddenLeaf hiddenLeaves grindingOk planned plannedCount countWith nodesOk planNumber
 uneven = ((refl, refl, refl), (refl, refl, refl), (refl, refl, refl), (refl, refl, refl), (refl, refl, refl), (refl, refl, refl))

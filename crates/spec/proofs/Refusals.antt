@@ -10,7 +10,7 @@ use Rattle.spec.specs.declared.Shape.{Shape}
 use Rattle.spec.specs.Bytes.{tabulate, zeros, allZero, number}
 use Rattle.spec.specs.Tree.{parent, isAncestorWithin, isAncestor, some, covered, siblingToReveal, revealedFrom, revealed, nodeCount}
 use Rattle.spec.specs.Challenge.{bitAt, bitsAt, indexAt, clearAt}
-use Rattle.spec.specs.Shapes.{faest128s, resolved, level, nodeBytes, challengeBytes, leafCommitmentBytes, hashBytes, deeper, depthOf, firstBit, leaves, leafOf, shapeOk, hiddenIndex, hiddenLeaf, hiddenLeaves, grindingOk, planned, plannedCount, treeBytes, leafCommitmentsBytes, openingBytes, matrixBytes, correctionsBytes}
+use Rattle.spec.specs.Shapes.{faest128s, faest128f, resolved, level, nodeBytes, challengeBytes, leafCommitmentBytes, hashBytes, deeper, depthOf, firstBit, leaves, leafOf, shapeOk, hiddenIndex, hiddenLeaf, hiddenLeaves, grindingOk, planned, plannedCount, treeBytes, leafCommitmentsBytes, openingBytes, matrixBytes, correctionsBytes}
 use Rattle.spec.specs.Verifier.{slotsOk}
 use Rattle.spec.specs.Calls.{rowOk, nodesOk, countWith, decodeNumber, planNumber, commitNumber, openNumber, reconstructNumber}
 
@@ -46,7 +46,7 @@ limits = (refl, refl, refl, refl, refl, refl, refl, refl, refl, refl, refl, refl
 -- four zeros are the default; three are not, wherever the fourth number stands
 abbrev pub Defaults : Type 0
 Defaults =
-    (resolved (shape 0 0 0 0) ≡ shape 11 11 7 102)
+    (resolved (shape 0 0 0 0) ≡ shape 16 7 8 110)
     × (resolved (shape 11 0 0 0) ≡ shape 11 0 0 0)
     × (resolved (shape 0 11 0 0) ≡ shape 0 11 0 0)
     × (resolved (shape 0 0 7 0) ≡ shape 0 0 7 0)
@@ -54,7 +54,7 @@ Defaults =
     × (shapeOk (shape 0 0 0 102) ≡ false)
 
 pub defaults : Defaults
-unfolding allZero faest128s resolved shapeOk deeper level depthOf
+unfolding allZero faest128f resolved shapeOk deeper level depthOf
 defaults = (refl, refl, refl, refl, refl, refl)
 
 -- ---- grinding bits
@@ -63,7 +63,7 @@ defaults = (refl, refl, refl, refl, refl, refl)
 abbrev pub only : ℕ → ℕ → List ℕ
 only i x = set (zeros 16) i x
 
--- with w 127 each bit from bit 1 on is one, seen here by the least and the greatest bit of each byte; with the default the upper seven of byte 15 are
+-- with w 127 each bit from bit 1 on is one, seen here by the least and the greatest bit of each byte; with FAEST-128s the upper seven of byte 15 are
 abbrev pub Grinding : Type 0
 Grinding =
     (tabulate 16 (λ i. grindingOk (shape 1 1 127 1) (only i 1)) ≡ true ∷ replicate 15 false)

@@ -9,13 +9,16 @@ use Rattle.spec.specs.Bytes.{tabulate, allZero}
 use Rattle.spec.specs.Challenge.{indexAt, clearAt}
 use Rattle.spec.specs.Tree.{revealed, nodeCount}
 
--- the default: FAEST-128s (document 000, tables 3.2 and 5.1, whose k - 1 is the common depth here called k)
+-- FAEST-128s and FAEST-128f (document 000, tables 3.2 and 5.1, whose k is k + 1 here)
 unfoldable pub faest128s : Shape
 faest128s = record { tau = 11; k = 11; w = 7; t = 102 }
 
--- four zeros stand for the default
+unfoldable pub faest128f : Shape
+faest128f = record { tau = 16; k = 7; w = 8; t = 110 }
+
+-- four zeros stand for the default, FAEST-128f (document 02, E3)
 unfoldable pub resolved : Shape → Shape
-resolved s = cond (allZero (s .tau ∷ s .k ∷ s .w ∷ s .t ∷ [])) faest128s s
+resolved s = cond (allZero (s .tau ∷ s .k ∷ s .w ∷ s .t ∷ [])) faest128f s
 
 -- ---- widths
 

@@ -35,12 +35,12 @@ fn worked_examples() {
     case(2, 2, 4, 16, 13, 0x10, 0);
 }
 
-// The default, by four zeros and written out; the first opening has all 102 nodes.
-fn default_shape() {
-    case(0, 0, 0, 1680, 13, 0x74bf589bc79e23da, 0x1405f609b751151);
+// FAEST-128s; the first opening has all 102 nodes.
+fn faest_128s() {
+    case(11, 11, 102, 1680, 13, 0x74bf589bc79e23da, 0x1405f609b751151);
     case(11, 11, 102, 1680, 24, 0x71d02f517b67cfa6, 0x10df3f41ebf3deb);
-    case(0, 0, 0, 136, 95, 0, 0x100000000000000);
-    case(0, 0, 0, 8, 0, 0, 0);
+    case(11, 11, 102, 136, 95, 0, 0x100000000000000);
+    case(11, 11, 102, 8, 0, 0, 0);
 }
 
 // The smallest and the largest numbers of vectors, depths and leaves, and the most nodes.
@@ -148,6 +148,14 @@ fn uneven_depths() {
     );
 }
 
+// The default, FAEST-128f, by four zeros: also where the first grinding bit is set.
+fn default_shape() {
+    case(0, 0, 0, 1680, 13, 0x512bd1311072231, 0x8ca59966ceab36);
+    case(0, 0, 0, 8, 95, 0, 0);
+    case(0, 0, 0, 16, 23, 0, 0x100000000000000);
+    flipped(0, 0, 0, 16, 2527);
+}
+
 // Refusal 5 where the allowance is one less than the node count, refusal 4 at the first and at the last grinding bit, and 4 before 5.
 fn refused_challenges() {
     case(32, 4, 127, 16, 24, 0x2459e7a10bf638dc, 0x10293db768cfe45a);
@@ -156,8 +164,8 @@ fn refused_challenges() {
     case(21, 6, 113, 120, 19, 0xc4506aeb6540e9c8, 0x3be7a8d6c8b63db9);
     case(4, 3, 9, 136, 23, 0x8d9, 0);
     case(32, 1, 31, 8, 95, 0x55555555, 0);
-    case(0, 0, 0, 8, 13, 0, 0x8000000000000000);
-    case(0, 0, 0, 16, 23, 0, 0x200000000000000);
+    case(11, 11, 102, 8, 13, 0, 0x8000000000000000);
+    case(11, 11, 102, 16, 23, 0, 0x200000000000000);
     case(1, 1, 1, 8, 0, 2, 0);
     case(32, 1, 1, 128, 10, 0x100000000, 0);
     case(2, 2, 1, 128, 15, 0x1c, 0);
@@ -204,9 +212,9 @@ fn flipped_openings() {
     flipped(2, 2, 4, 128, 127);
     flipped(2, 2, 4, 128, 128);
     flipped(2, 2, 4, 128, 159);
-    flipped(0, 0, 0, 16, 719);
-    flipped(0, 0, 0, 16, 720);
-    flipped(0, 0, 0, 16, 2159);
+    flipped(11, 11, 102, 16, 719);
+    flipped(11, 11, 102, 16, 720);
+    flipped(11, 11, 102, 16, 2159);
 }
 
 // Each buffer of commit one byte too short and one too long; then the refusals in their order, each with all that come after it.
@@ -278,7 +286,7 @@ fn probes_of_reconstruct() {
     probe_reconstruct(2, 2, 124, 4, 16, 0, 8, 0, 160);
 }
 
-// Hidden indices: one vector and many, depths 1 to 12, all bits clear, set and mixed, the default by four zeros and written out; refusals 1 and 4, the first and the last
+// Hidden indices: one vector and many, depths 1 to 12, all bits clear, set and mixed, FAEST-128s, two depths, the default; refusals 1 and 4, the first and the last
 // grinding bit, and a challenge that decode takes though its nodes exceed T.
 fn decoded_challenges() {
     decode(1, 1, 127, 1, 1, 0);
@@ -289,30 +297,33 @@ fn decoded_challenges() {
     decode(32, 4, 0, 512, 0x2459e7a10bf638dc, 0x10293db768cfe45a);
     decode(32, 4, 0, 4, 0xffffffffffffffff, 0xffffffffffffffff);
     decode(16, 8, 0, 128, 0x7cd4491cf2580d3d, 0x2e669ab985abebc6);
-    decode(0, 0, 0, 0, 0x74bf589bc79e23da, 0x1405f609b751151);
+    decode(11, 11, 7, 102, 0x74bf589bc79e23da, 0x1405f609b751151);
     decode(11, 11, 7, 102, 0x71d02f517b67cfa6, 0x10df3f41ebf3deb);
     decode(10, 12, 8, 112, 0xfc377c61075dce9e, 0x5190fe277a4c28);
     decode(25, 5, 3, 106, 0xeb09034685249596, 0x1ae4e7455b2495d1);
     decode(5, 3, 113, 1, 0, 0);
     decode(33, 3, 29, 4, 0, 0);
     decode(2, 2, 122, 4, 0x10, 0);
-    decode(0, 0, 0, 0, 0, 0x200000000000000);
-    decode(0, 0, 0, 0, 0, 0x8000000000000000);
+    decode(11, 11, 7, 102, 0, 0x200000000000000);
+    decode(11, 11, 7, 102, 0, 0x8000000000000000);
     decode(1, 1, 127, 1, 2, 0);
     decode(16, 7, 8, 110, 0xae66267594c9c950, 0xffed92288bc781);
     decode(2, 1, 125, 4, 7, 0);
     decode(2, 1, 125, 4, 8, 0);
+    decode(0, 0, 0, 0, 0xae66267594c9c950, 0xffed92288bc781);
+    decode(0, 0, 0, 0, 0, 0x100000000000000);
 }
 
-// Revealed nodes: P4, P8 and P9 of document 01, the most nodes, the default with all 102 of its nodes, and a refused shape.
+// Revealed nodes: P4, P8 and P9 of document 01, the most nodes, FAEST-128s with all 102 of its nodes, and a refused shape.
 fn planned_challenges() {
     plan(2, 2, 124, 4, 0xc, 0);
     plan(2, 2, 124, 3, 0xc, 0);
     plan(2, 2, 124, 4, 0x10, 0);
     plan(1, 12, 116, 12, 0xab0, 0);
     plan(32, 4, 0, 512, 0x2459e7a10bf638dc, 0x10293db768cfe45a);
-    plan(0, 0, 0, 0, 0x74bf589bc79e23da, 0x1405f609b751151);
+    plan(11, 11, 7, 102, 0x74bf589bc79e23da, 0x1405f609b751151);
     plan(33, 3, 29, 4, 0, 0);
+    plan(0, 0, 0, 0, 0xae66267594c9c950, 0xffed92288bc781);
 }
 
 // A wrong length of the challenge and of the list; then each refusal of decode before those after it; last a list that is written.
@@ -321,7 +332,7 @@ fn probes_of_decode() {
     probe_decode(2, 2, 124, 4, 0x0c, 0, 1);
     probe_decode(2, 2, 124, 4, 0x0c, 1, 0);
     probe_decode(2, 2, 124, 4, 0x0c, 1, 1);
-    probe_decode(0, 0, 0, 0, 0x0c, 1, 0);
+    probe_decode(11, 11, 7, 102, 0x0c, 1, 0);
     probe_decode(2, 2, 122, 4, 0x1c, 1, 0);
     probe_decode(2, 2, 124, 4, 0x1c, 1, 0);
     probe_decode(2, 2, 124, 4, 0x1c, 1, 1);
@@ -344,12 +355,13 @@ fn probes_of_plan() {
 
 fn main() {
     worked_examples();
-    default_shape();
+    faest_128s();
     extreme_shapes();
     shallow_vectors();
     deep_vectors();
     row_lengths();
     uneven_depths();
+    default_shape();
     refused_challenges();
     refused_shapes();
     refused_rows();

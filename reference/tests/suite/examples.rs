@@ -2,7 +2,7 @@
 
 use reference::bavc::{node_count, pos_in_tree};
 use reference::calls::{decode, plan, Answer};
-use reference::shape::{Shape, DEFAULT};
+use reference::shape::{Shape, DEFAULT, FAEST_128S};
 
 use crate::support::{allowed, first_byte, indices, noise, revealed};
 
@@ -45,12 +45,20 @@ fn p1_to_p9() {
 
 #[test]
 fn p10() {
+    assert_eq!(FAEST_128S, Shape::new(11, 11, 7, 102));
+    assert_eq!(FAEST_128S.leaves(), 22_528);
+    assert_eq!(pos_in_tree(&FAEST_128S, 10, 2_047), 45_054);
+    assert_eq!(FAEST_128S.tree_bytes(), 16 * 45_055);
+    assert_eq!(FAEST_128S.opening_bytes(), 2_160);
+}
+
+#[test]
+fn the_default() {
     assert_eq!(Shape::new(0, 0, 0, 0).resolve(), Some(DEFAULT));
-    assert_eq!(DEFAULT, Shape::new(11, 11, 7, 102));
-    assert_eq!(DEFAULT.leaves(), 22_528);
-    assert_eq!(pos_in_tree(&DEFAULT, 10, 2_047), 45_054);
-    assert_eq!(DEFAULT.tree_bytes(), 16 * 45_055);
-    assert_eq!(DEFAULT.opening_bytes(), 2_160);
+    assert_eq!(DEFAULT, Shape::new(16, 7, 8, 110));
+    assert_eq!(DEFAULT.leaves(), 3_072);
+    assert_eq!(pos_in_tree(&DEFAULT, 7, 255), 6_142);
+    assert_eq!(DEFAULT.opening_bytes(), 2_528);
 }
 
 #[test]

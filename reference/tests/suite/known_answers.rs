@@ -17,5 +17,5 @@ fn every_known_answer() {
         compared += 1;
     }
     // Eleven shapes with decode, plan, commit, open and reconstruct each.
-    assert_eq!(compared, 75);
+    assert_eq!(compared, 80);
 }

@@ -50,7 +50,7 @@ fn four_zeros_are_the_default() {
     nodes
         .iter()
         .for_each(|node| expected += &format!("{node}\n"));
-    for numbers in ["0 0 0 0", "0 00 000 00000", "11 11 7 102"] {
+    for numbers in ["0 0 0 0", "0 00 000 00000", "16 7 8 110"] {
         assert_eq!(listed(&format!("{numbers} {ZEROS}\n")), expected);
     }
 }

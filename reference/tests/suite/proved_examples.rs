@@ -78,11 +78,11 @@ fn leaf_hash() {
 }
 
 #[test]
-fn hidden_indices_of_the_default() {
+fn hidden_indices_of_faest_128s() {
     let file = "spec/proofs/Examples.antt";
     let challenge = array(bytes(file, "\nvaried ="));
     assert_eq!(
-        shape::decode_all_chall(&shape::DEFAULT, &challenge),
+        shape::decode_all_chall(&shape::FAEST_128S, &challenge),
         numbers(file, "hiddenIndices faest128s varied\n    ≡ ")
     );
 }

@@ -287,19 +287,20 @@ fn one_vector_has_no_corrections() {
 #[test]
 fn four_zeros_take_the_lengths_of_the_default() {
     let zeros = Shape::new(0, 0, 0, 0);
-    let mut list = [0xabcd; 102];
+    let mut list = [0xabcd; 110];
     assert_eq!(plan(zeros, &[0; 16], &mut list).number, 0);
     assert_eq!(plan(zeros, &[0; 16], &mut []).number, 3);
-    assert_eq!(decode(zeros, &[0; 16], &mut list[..11]).number, 0);
-    assert_eq!(decode(zeros, &[0; 16], &mut list[..10]).number, 3);
+    assert_eq!(decode(zeros, &[0; 16], &mut list[..16]).number, 0);
+    assert_eq!(decode(zeros, &[0; 16], &mut list[..15]).number, 3);
     assert_eq!(decode(zeros, &[0; 16], &mut []).number, 3);
-    // Bit 121 is the first of the seven grinding bits, bit 120 is not one.
+    // Bit 120 is the first of the eight grinding bits, bit 119 is not one.
     let mut challenge = [0; 16];
-    challenge[15] = 0x02;
-    assert_eq!(decode(zeros, &challenge, &mut list[..11]).number, 4);
     challenge[15] = 0x01;
-    assert_eq!(decode(zeros, &challenge, &mut list[..11]).number, 0);
-    assert_eq!(list[10], 1 << 10);
+    assert_eq!(decode(zeros, &challenge, &mut list[..16]).number, 4);
+    challenge[15] = 0;
+    challenge[14] = 0x80;
+    assert_eq!(decode(zeros, &challenge, &mut list[..16]).number, 0);
+    assert_eq!(list[15], 1 << 6);
 }
 
 #[test]

@@ -1,7 +1,7 @@
 -- Each return goes by the tests that led to it; the definition tests the same four numbers.
 use borrow.Author.Tests.{eq-eqb, ne-eqb}
 use Rattle.spec.specs.Bytes.{allZero}
-use Rattle.spec.specs.Shapes.{faest128s, resolved}
+use Rattle.spec.specs.Shapes.{faest128f, resolved}
 use Rattle.rules.proofs.resolve.Statement.{statement}
 use Rattle.rules.proofs.resolve.Tie as tie
 
@@ -28,7 +28,7 @@ returns-4 c =
     )
 
 returns-5 : tie.Need-returns-5
-unfolding resolved allZero faest128s
+unfolding resolved allZero faest128f
 returns-5 c =
     simp (
       eq-eqb _ 0 (c .before .before .before .before .before .before .if1 .left),
