@@ -1,8 +1,8 @@
-/* AES-128 by bytes in portable C: a byte S-box, xtime on bytes, a loop over the rounds; and the generator over it. */
+/* AES-128 by bytes in portable C: a byte S-box, xtime on bytes, a loop over the rounds. */
 #include "portable.h"
 #include <string.h>
 
-static const uint8_t sbox[256] = {
+const uint8_t c_sbox[256] = {
     99, 124, 119, 123, 242, 107, 111, 197, 48, 1, 103, 43, 254, 215, 171, 118,
     202, 130, 201, 125, 250, 89, 71, 240, 173, 212, 162, 175, 156, 164, 114, 192,
     183, 253, 147, 38, 54, 63, 247, 204, 52, 165, 229, 241, 113, 216, 49, 21,
@@ -26,8 +26,9 @@ static uint8_t xtime(uint8_t b)
     return (uint8_t)((b << 1) ^ ((b >> 7) * 27));
 }
 
-void c_key_schedule(const uint8_t key[16], uint8_t w[176])
+void c_key_schedule(const uint8_t key[16], uint32_t words[44])
 {
+    uint8_t *w = (uint8_t *)words;
     uint8_t rcon = 1;
     for (int i = 0; i < 16; i++)
         w[i] = key[i];
@@ -35,10 +36,10 @@ void c_key_schedule(const uint8_t key[16], uint8_t w[176])
         uint8_t t[4] = {w[i - 4], w[i - 3], w[i - 2], w[i - 1]};
         if (i % 16 == 0) {
             uint8_t first = t[0];
-            t[0] = (uint8_t)(sbox[t[1]] ^ rcon);
-            t[1] = sbox[t[2]];
-            t[2] = sbox[t[3]];
-            t[3] = sbox[first];
+            t[0] = (uint8_t)(c_sbox[t[1]] ^ rcon);
+            t[1] = c_sbox[t[2]];
+            t[2] = c_sbox[t[3]];
+            t[3] = c_sbox[first];
             rcon = xtime(rcon);
         }
         for (int r = 0; r < 4; r++)
@@ -57,7 +58,7 @@ static void sub_shift(const uint8_t s[16], uint8_t to[16])
 {
     for (int c = 0; c < 4; c++)
         for (int r = 0; r < 4; r++)
-            to[4 * c + r] = sbox[s[4 * ((c + r) % 4) + r]];
+            to[4 * c + r] = c_sbox[s[4 * ((c + r) % 4) + r]];
 }
 
 static void mix_columns(uint8_t s[16])
@@ -73,8 +74,9 @@ static void mix_columns(uint8_t s[16])
     }
 }
 
-void c_encrypt(const uint8_t w[176], const uint8_t block[16], uint8_t out[16])
+void c_encrypt(const uint32_t words[44], const uint8_t block[16], uint8_t out[16])
 {
+    const uint8_t *w = (const uint8_t *)words;
     uint8_t s[16], t[16];
     for (int i = 0; i < 16; i++)
         s[i] = block[i];
@@ -88,39 +90,4 @@ void c_encrypt(const uint8_t w[176], const uint8_t block[16], uint8_t out[16])
     }
     sub_shift(s, out);
     add_round_key(out, w + 160);
-}
-
-void c_schedule_and_block(const uint8_t key[16], uint8_t out[16])
-{
-    uint8_t w[176];
-    c_key_schedule(key, w);
-    c_encrypt(w, key, out);
-}
-
-static void add_to_word(uint8_t a[4], uint32_t v)
-{
-    uint32_t x = (uint32_t)a[0] | (uint32_t)a[1] << 8 | (uint32_t)a[2] << 16 | (uint32_t)a[3] << 24;
-    x += v;
-    for (int i = 0; i < 4; i++)
-        a[i] = (uint8_t)(x >> (8 * i));
-}
-
-/* block n of the generator */
-void c_block(const uint8_t w[176], const uint8_t iv[16], uint32_t tweak, uint32_t n, uint8_t out[16])
-{
-    uint8_t s[16];
-    memcpy(s, iv, 16);
-    add_to_word(s + 12, tweak);
-    add_to_word(s, n);
-    c_encrypt(w, s, out);
-}
-
-void c_fill(const uint8_t key[16], const uint8_t iv[16], uint32_t tweak, uint8_t *out, size_t length)
-{
-    uint8_t w[176], b[16];
-    c_key_schedule(key, w);
-    for (size_t p = 0; p < length; p += 16) {
-        c_block(w, iv, tweak, (uint32_t)(p / 16), b);
-        memcpy(out + p, b, length - p < 16 ? length - p : 16);
-    }
 }

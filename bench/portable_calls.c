@@ -1,54 +1,49 @@
-/* commit, open and reconstruct in portable C, by the methods of the proved crates. The shape is good, and every buffer has its length. */
+/* The generator, a row, and commit, open and reconstruct in portable C, by the methods of the proved crates. The shape is good, and every buffer has its length.
+   Compiled twice: SIDE(name) is c_name over AES by bytes and t_name over AES by tables. */
 #include "portable.h"
 #include "portable_shape.h"
 #include <string.h>
 
-/* ---- the leaf hash: six limbs of 64 bits, windows of 4 bits */
+#ifndef SIDE
+#define SIDE(name) c_##name
+#endif
 
-static uint64_t load(const uint8_t *p)
+void SIDE(schedule_and_block)(const uint8_t key[16], uint8_t out[16])
 {
-    uint64_t x = 0;
-    for (int i = 0; i < 8; i++)
-        x |= (uint64_t)p[i] << (8 * i);
-    return x;
+    uint32_t w[44];
+    SIDE(key_schedule)(key, w);
+    SIDE(encrypt)(w, key, out);
 }
 
-static void store(uint8_t *p, uint64_t x)
+/* ---- the generator */
+
+static void add_to_word(uint8_t a[4], uint32_t v)
 {
-    for (int i = 0; i < 8; i++)
-        p[i] = (uint8_t)(x >> (8 * i));
+    uint32_t x = (uint32_t)a[0] | (uint32_t)a[1] << 8 | (uint32_t)a[2] << 16 | (uint32_t)a[3] << 24;
+    x += v;
+    for (int i = 0; i < 4; i++)
+        a[i] = (uint8_t)(x >> (8 * i));
 }
 
-/* alpha^n times r, plus x */
-static void shift_and_add(uint64_t r[6], int n, const uint64_t x[6])
+/* block n of the generator */
+void SIDE(block)(const uint32_t w[44], const uint8_t iv[16], uint32_t tweak, uint32_t n, uint8_t out[16])
 {
-    uint64_t c = r[5] >> (64 - n);
-    for (int i = 5; i > 0; i--)
-        r[i] = (r[i] << n | r[i - 1] >> (64 - n)) ^ x[i];
-    r[0] = r[0] << n ^ x[0] ^ c ^ c << 2 ^ c << 3 ^ c << 12;
+    uint8_t s[16];
+    memcpy(s, iv, 16);
+    add_to_word(s + 12, tweak);
+    add_to_word(s, n);
+    SIDE(encrypt)(w, s, out);
 }
 
-void c_multiples(const uint8_t key[48], uint64_t m[16][6])
+void SIDE(fill)(const uint8_t key[16], const uint8_t iv[16], uint32_t tweak, uint8_t *out, size_t length)
 {
-    for (int i = 0; i < 6; i++) {
-        m[0][i] = 0;
-        m[1][i] = load(key + 8 * i);
+    uint32_t w[44];
+    uint8_t b[16];
+    SIDE(key_schedule)(key, w);
+    for (size_t p = 0; p < length; p += 16) {
+        SIDE(block)(w, iv, tweak, (uint32_t)(p / 16), b);
+        memcpy(out + p, b, length - p < 16 ? length - p : 16);
     }
-    for (int d = 2; d < 16; d++) {
-        memcpy(m[d], m[d / 2], sizeof m[d]);
-        shift_and_add(m[d], 1, m[d % 2]);
-    }
-}
-
-void c_leaf_hash(const uint64_t m[16][6], const uint8_t stretched[64], uint8_t out[48])
-{
-    uint64_t r[6] = {0};
-    for (int j = 15; j >= 0; j--) {
-        shift_and_add(r, 4, m[stretched[j] >> 4]);
-        shift_and_add(r, 4, m[stretched[j] & 15]);
-    }
-    for (int i = 0; i < 6; i++)
-        store(out + 8 * i, r[i] ^ load(stretched + 16 + 8 * i));
 }
 
 /* ---- one vector */
@@ -71,23 +66,24 @@ static void xor_block(uint8_t *d, const uint8_t s[16])
 }
 
 /* adds the row of a seed to `total`, if there is one, and to the columns whose bit the number has set; no other column is touched */
-void c_add_row(const uint8_t seed[16], const uint8_t iv[16], uint32_t tweak, size_t b, size_t k, size_t number, uint8_t *total, uint8_t *cols)
+void SIDE(add_row)(const uint8_t seed[16], const uint8_t iv[16], uint32_t tweak, size_t b, size_t k, size_t number, uint8_t *total, uint8_t *cols)
 {
-    uint8_t w[176], block[16], *touched[13];
+    uint32_t w[44];
+    uint8_t block[16], *touched[13];
     size_t count = 0, at = 0;
     if (total)
         touched[count++] = total;
     for (size_t j = 0; j < k; j++)
         if (number >> j & 1)
             touched[count++] = cols + b * j;
-    c_key_schedule(seed, w);
+    SIDE(key_schedule)(seed, w);
     for (; at + 16 <= b; at += 16) {
-        c_block(w, iv, tweak, (uint32_t)(at / 16), block);
+        SIDE(block)(w, iv, tweak, (uint32_t)(at / 16), block);
         for (size_t j = 0; j < count; j++)
             xor_block(touched[j] + at, block);
     }
     if (at < b) {
-        c_block(w, iv, tweak, (uint32_t)(at / 16), block);
+        SIDE(block)(w, iv, tweak, (uint32_t)(at / 16), block);
         for (size_t j = 0; j < count; j++)
             xor_bytes(touched[j] + at, block, b - at);
     }
@@ -104,29 +100,29 @@ static void add_entries(const size_t shape[4], size_t i, size_t hidden, size_t m
         uint8_t stretched[64];
         if (e == hidden)
             continue;
-        c_fill(tree + 16 * leaf_of(shape, i, e), iv, (uint32_t)(i + leaves - 1), stretched, 64);
+        SIDE(fill)(tree + 16 * leaf_of(shape, i, e), iv, (uint32_t)(i + leaves - 1), stretched, 64);
         c_leaf_hash(m, stretched, lcs + 48 * e);
-        c_add_row(stretched, iv, (uint32_t)i + 0x80000000u, b, depth, e ^ mask, total, cols);
+        SIDE(add_row)(stretched, iv, (uint32_t)i + 0x80000000u, b, depth, e ^ mask, total, cols);
     }
 }
 
 /* ---- the calls */
 
-void c_grow(const size_t shape[4], const uint8_t root[16], const uint8_t iv[16], uint8_t *tree)
+void SIDE(grow)(const size_t shape[4], const uint8_t root[16], const uint8_t iv[16], uint8_t *tree)
 {
     const size_t leaves = leaf_count(shape);
     memcpy(tree, root, 16);
     for (size_t a = 0; a < leaves - 1; a++)
-        c_fill(tree + 16 * a, iv, (uint32_t)a, tree + 32 * a + 16, 32);
+        SIDE(fill)(tree + 16 * a, iv, (uint32_t)a, tree + 32 * a + 16, 32);
 }
 
-void c_commit(const size_t shape[4], size_t b, const uint8_t root[16], const uint8_t iv[16], uint8_t commitment[32], uint8_t *tree, uint8_t *lcs,
+void SIDE(commit)(const size_t shape[4], size_t b, const uint8_t root[16], const uint8_t iv[16], uint8_t commitment[32], uint8_t *tree, uint8_t *lcs,
               uint8_t *u, uint8_t *v, uint8_t *corrections)
 {
     const size_t tau = shape[0];
     uint8_t keys[32 * 48], hashes[32 * 32];
     c_shake(iv, 16, 0, keys, 48 * tau);
-    c_grow(shape, root, iv, tree);
+    SIDE(grow)(shape, root, iv, tree);
     memset(u, 0, b);
     memset(v, 0, 128 * b);
     for (size_t i = 0; i < tau; i++) {
@@ -142,7 +138,7 @@ void c_commit(const size_t shape[4], size_t b, const uint8_t root[16], const uin
 }
 
 /* the node count, or 0 where a grinding bit is set; with 0, or more than the shape allows, nothing is written */
-size_t c_open(const size_t shape[4], const uint8_t ch[16], const uint8_t *tree, const uint8_t *lcs, uint8_t *opening)
+size_t SIDE(open)(const size_t shape[4], const uint8_t ch[16], const uint8_t *tree, const uint8_t *lcs, uint8_t *opening)
 {
     const size_t tau = shape[0];
     uint32_t nodes[512];
@@ -159,7 +155,7 @@ size_t c_open(const size_t shape[4], const uint8_t ch[16], const uint8_t *tree, 
 }
 
 /* the same count; 0 also where an unused slot holds a byte other than 0 */
-size_t c_reconstruct(const size_t shape[4], size_t b, const uint8_t iv[16], const uint8_t ch[16], const uint8_t *corrections, const uint8_t *opening,
+size_t SIDE(reconstruct)(const size_t shape[4], size_t b, const uint8_t iv[16], const uint8_t ch[16], const uint8_t *corrections, const uint8_t *opening,
                      uint8_t commitment[32], uint8_t *tree, uint8_t *lcs, uint8_t *q)
 {
     const size_t tau = shape[0], leaves = leaf_count(shape);
@@ -181,7 +177,7 @@ size_t c_reconstruct(const size_t shape[4], size_t b, const uint8_t iv[16], cons
     for (size_t a = 0, m = n; a < leaves - 1; a++) {
         uint8_t *children = tree + 32 * a + 16;
         if (!covered[a]) {
-            c_fill(tree + 16 * a, iv, (uint32_t)a, children, 32);
+            SIDE(fill)(tree + 16 * a, iv, (uint32_t)a, children, 32);
             continue;
         }
         memset(children, 0, 32);

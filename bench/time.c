@@ -20,7 +20,7 @@ static struct {
     uint8_t stretched[64], commitment[48];
 } leaf[2];
 static struct {
-    uint8_t total[ROW], columns[DEPTH * ROW];
+    uint8_t sum[ROW];
 } added[2];
 
 static void block_c(void) { uint8_t k[16]; memcpy(k, block[0], 16); c_schedule_and_block(k, block[0]); }
@@ -55,11 +55,11 @@ static const uint8_t *next_seed(int side)
     number[side] = (number[side] + 1) % 2048;
     return message + 16 * number[side];
 }
-static void add_c(void) { const uint8_t *seed = next_seed(0); c_add_row(seed, iv, 5, ROW, DEPTH, number[0], added[0].total, added[0].columns); }
+static void add_c(void) { const uint8_t *seed = next_seed(0); c_add_row(seed, iv, 5, ROW, 0, 0, added[0].sum, 0); }
 static void add_rattle(void)
 {
     const uint8_t *seed = next_seed(1);
-    rattle_add_row(table, seed, 16, iv, 5, ROW, DEPTH, number[1], added[1].total, ROW, added[1].columns, DEPTH * ROW);
+    rattle_add_row(table, seed, 16, iv, 5, added[1].sum, ROW);
 }
 
 static void tree_c(void) { c_grow(shape, key, iv, only_tree[0]); }
@@ -76,7 +76,7 @@ static const struct work {
     {"AES key schedule and one block", block_c, block_rattle, 100, {block[0], block[1]}, 16, "0.6"},
     {"one key, 32 bytes (a node)", node_c, node_rattle, 100, {node[0], node[1]}, 32, "0.6"},
     {"one key, 224 bytes", row_c, row_rattle, 20, {row[0], row[1]}, 224, "0.6"},
-    {"a row into u and 11 columns", add_c, add_rattle, 20, {&added[0], &added[1]}, sizeof added[0], ""},
+    {"a row into a sum", add_c, add_rattle, 20, {&added[0], &added[1]}, sizeof added[0], ""},
     {"leaf hash, multiples lent", leaf_c, leaf_rattle, 100, {&leaf[0], &leaf[1]}, sizeof leaf[0], "150 ns"},
     {"Keccak-f[1600]", keccak_c, keccak_rattle, 100, {state[0], state[1]}, 200, "1.05"},
     {"H0, 16 to 528 bytes", h0_c, h0_rattle, 20, {keys[0], keys[1]}, 528, ""},

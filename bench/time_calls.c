@@ -1,4 +1,4 @@
-/* Times commit, open and reconstruct beside portable C, at FAEST-128s and FAEST-128f with rows of 1,680 bits: the same work in turn, the least processor time of
+/* Times commit, open and reconstruct, in archives that have these calls alone, beside portable C with AES by bytes and by tables, at FAEST-128s and FAEST-128f with rows of 1,680 bits: the same work in turn, the least processor time of
    many runs of each side, and whether the results agree. A call is longer than what the system gives a process at a time, hence the processor's time. */
 #include "portable.h"
 #include "portable_shape.h"
@@ -6,8 +6,8 @@
 #include <string.h>
 #include <time.h>
 
-enum { BITS = 1680, ROW = BITS / 8, LEAVES = 22528, VECTORS = 16, ALLOWED = 110, RUNS = 25, SIDES = 2 };
-static const char *const side_names[SIDES] = {"C", "Rattle"};
+enum { BITS = 1680, ROW = BITS / 8, LEAVES = 22528, VECTORS = 16, ALLOWED = 110, RUNS = 25, SIDES = 3 };
+static const char *const side_names[SIDES] = {"bytes", "tables", "Rattle"};
 static const struct set {
     const char *name;
     size_t shape[4];
@@ -29,32 +29,39 @@ static const size_t *shape;
 #define OPENING (48 * shape[0] + 16 * shape[3])
 #define SHAPE shape[0], shape[1], shape[2], shape[3]
 
+static void (*const c_commits[])(const size_t *, size_t, const uint8_t *, const uint8_t *, uint8_t *, uint8_t *, uint8_t *, uint8_t *, uint8_t *, uint8_t *) = {c_commit, t_commit};
+static size_t (*const c_opens[])(const size_t *, const uint8_t *, const uint8_t *, const uint8_t *, uint8_t *) = {c_open, t_open};
+static size_t (*const c_reconstructs[])(const size_t *, size_t, const uint8_t *, const uint8_t *, const uint8_t *, const uint8_t *, uint8_t *, uint8_t *, uint8_t *, uint8_t *) = {
+    c_reconstruct, t_reconstruct};
+enum { RATTLE = SIDES - 1 };
+
 static void commit(int side)
 {
-    if (side == 0)
-        c_commit(shape, ROW, root, iv, made[0].commitment, made[0].tree, made[0].leaf_commitments, made[0].u, made[0].v, made[0].corrections);
+    if (side < RATTLE)
+        c_commits[side](shape, ROW, root, iv, made[side].commitment, made[side].tree, made[side].leaf_commitments, made[side].u, made[side].v,
+                        made[side].corrections);
     else
-        rattle_commit(SHAPE, BITS, root, 16, iv, 16, made[1].commitment, 32, made[1].tree, TREE, made[1].leaf_commitments, LEAF_COMMITMENTS, made[1].u, ROW,
-                      made[1].v, 128 * ROW, made[1].corrections, CORRECTIONS);
+        rattle_commit(SHAPE, BITS, root, 16, iv, 16, made[side].commitment, 32, made[side].tree, TREE, made[side].leaf_commitments, LEAF_COMMITMENTS,
+                      made[side].u, ROW, made[side].v, 128 * ROW, made[side].corrections, CORRECTIONS);
 }
 
 static void open(int side)
 {
-    if (side == 0)
-        made[0].opened = c_open(shape, challenge, made[0].tree, made[0].leaf_commitments, made[0].opening);
+    if (side < RATTLE)
+        made[side].opened = c_opens[side](shape, challenge, made[side].tree, made[side].leaf_commitments, made[side].opening);
     else
-        made[1].opened = rattle_open(SHAPE, challenge, 16, made[1].tree, TREE, made[1].leaf_commitments, LEAF_COMMITMENTS, made[1].opening, OPENING);
+        made[side].opened = rattle_open(SHAPE, challenge, 16, made[side].tree, TREE, made[side].leaf_commitments, LEAF_COMMITMENTS, made[side].opening, OPENING);
 }
 
 static void reconstruct(int side)
 {
-    if (side == 0)
-        made[0].reconstructed = c_reconstruct(shape, ROW, iv, challenge, made[0].corrections, made[0].opening, made[0].again_commitment, made[0].again_tree,
-                                              made[0].again_leaf_commitments, made[0].q);
+    if (side < RATTLE)
+        made[side].reconstructed = c_reconstructs[side](shape, ROW, iv, challenge, made[side].corrections, made[side].opening, made[side].again_commitment,
+                                                        made[side].again_tree, made[side].again_leaf_commitments, made[side].q);
     else
-        made[1].reconstructed = rattle_reconstruct(SHAPE, BITS, iv, 16, challenge, 16, made[1].corrections, CORRECTIONS, made[1].opening, OPENING,
-                                                   made[1].again_commitment, 32, made[1].again_tree, TREE, made[1].again_leaf_commitments, LEAF_COMMITMENTS,
-                                                   made[1].q, 128 * ROW);
+        made[side].reconstructed = rattle_reconstruct(SHAPE, BITS, iv, 16, challenge, 16, made[side].corrections, CORRECTIONS, made[side].opening, OPENING,
+                                                      made[side].again_commitment, 32, made[side].again_tree, TREE, made[side].again_leaf_commitments,
+                                                      LEAF_COMMITMENTS, made[side].q, 128 * ROW);
 }
 
 static const struct {
@@ -87,6 +94,7 @@ static int differ(int a, int b)
 int main(void)
 {
     int wrong = 0;
+    t_make_tables();
     for (int i = 0; i < 16; i++) {
         root[i] = (uint8_t)(37 * i + 1);
         iv[i] = (uint8_t)(91 * i + 5);

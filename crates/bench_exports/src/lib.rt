@@ -1,4 +1,4 @@
-// The primitives, plan, commit, open and reconstruct as C calls them, for bench/ alone, each with the promise of what it calls. The host lends the table that
+// The primitives, the tree and plan as C calls them, for bench/ alone, each with the promise of what it calls. The host lends the table that
 // `rattle_table` wrote.
 ghost use mathlib.Core.Path.{_≡_};
 ghost use mathlib.Core.List.{List};
@@ -6,7 +6,7 @@ ghost use Prim.Native.Nat.{ℕ, _+_, _*_, _^_, _≤_, _<_};
 ghost use lib.ListN.{length, take, drop};
 ghost use Rattle.spec.specs.declared.Shape.{Shape};
 ghost use Rattle.spec.specs.declared.Answer.{Answer};
-ghost use Rattle.spec.specs.Bytes.{bit, tabulate, number};
+ghost use Rattle.spec.specs.Bytes.{tabulate, number};
 ghost use Rattle.spec.specs.Gf256.{SboxTable};
 ghost use Rattle.spec.specs.Aes.{encrypt};
 ghost use Rattle.spec.specs.Keccak.{keccakF};
@@ -16,9 +16,9 @@ ghost use Rattle.spec.specs.LeafHash.{leafHashByte};
 ghost use Rattle.spec.specs.Shapes.{leaves};
 ghost use Rattle.spec.specs.Primitives.{faest};
 ghost use Rattle.spec.specs.Signer.{signerTree};
-ghost use Rattle.spec.specs.Calls.{Plan, Commit, Open, Reconstruct};
+ghost use Rattle.spec.specs.Calls.{Plan};
 ghost use Rattle.field.specs.Field.{Multiples, p384};
-ghost use Rattle.columns.specs.Columns.{Added};
+ghost use Rattle.columns.specs.Columns.{Xored};
 use spec::Answer;
 use spec::Shape;
 
@@ -107,31 +107,20 @@ pub extern "C" fn rattle_grow(t: &[u8; 256], root: &[u8], iv: &[u8; 16], l: usiz
     signer_tree::grow(t, root, *iv, l, tree);
 }
 
-// A row of b bytes, added to the sum of the rows and to the columns.
+// A row, added to a sum of rows.
 #[no_mangle]
 pub extern "C" fn rattle_add_row(
     t: &[u8; 256],
     seed: &[u8],
     iv: &[u8; 16],
     tweak: u32,
-    b: usize,
-    k: usize,
-    number: usize,
-    total: &mut [u8],
-    cols: &mut [u8],
+    sum: &mut [u8],
 )
     requires { ⌜ SboxTable (now t) ⌝ }
-    requires { ⌜ (length (now seed) ≡ 16) × (b ≤ 8192) × (k ≤ 12) × (length (now total) ≡ b * 1) × (length (now cols) ≡ b * k) ⌝ }
-    ensures { λ _. ⌜ Added b 1 (λ j p. generatorByte 4 (now (seed .entry)) (now (iv .entry)) tweak p) (now (total .entry)) (now (total .exit)) ⌝ }
-    ensures { λ _. ⌜ Added b k (λ j p. bit j number * generatorByte 4 (now (seed .entry)) (now (iv .entry)) tweak p) (now (cols .entry)) (now (cols .exit)) ⌝ }
+    requires { ⌜ (length (now seed) ≡ 16) × (length (now sum) ≤ 8192) ⌝ }
+    ensures { λ _. ⌜ Xored 0 (length (now (sum .entry))) (generatorByte 4 (now (seed .entry)) (now (iv .entry)) tweak) (now (sum .entry)) (now (sum .exit)) ⌝ }
 {
-    rows::add_row(t, seed, *iv, tweak, b, k, number, 1, total, cols);
-}
-
-fn number_of(r: Answer) -> usize
-    ensures { λ n. ⌜ n ≡ r .number ⌝ }
-{
-    r.number
+    rows::add_row(t, seed, *iv, tweak, sum);
 }
 
 fn count_of(r: Answer) -> usize
@@ -140,8 +129,7 @@ fn count_of(r: Answer) -> usize
     r.count
 }
 
-// The four public calls, each with the number or the count of its answer.
-
+// The public call plan; the answer's count.
 #[no_mangle]
 pub extern "C" fn rattle_plan(
     tau: usize,
@@ -154,96 +142,4 @@ pub extern "C" fn rattle_plan(
     ensures { λ r. ⌜ ((a : Answer) × Plan (record { tau = tau; k = k; w = w; t = t }) (now (challenge .entry)) (now (nodes .entry)) (now (nodes .exit)) a × (r ≡ a .count)) ⌝ }
 {
     count_of(shape::plan(Shape { tau, k, w, t }, challenge, nodes))
-}
-
-#[no_mangle]
-pub extern "C" fn rattle_commit(
-    tau: usize,
-    k: usize,
-    w: usize,
-    t: usize,
-    row_bits: usize,
-    root: &[u8],
-    iv: &[u8],
-    commitment: &mut [u8],
-    tree: &mut [u8],
-    leaf_commitments: &mut [u8],
-    u: &mut [u8],
-    v: &mut [u8],
-    corrections: &mut [u8],
-) -> usize
-    ensures { λ r. ⌜ ((a : Answer) × Commit faest (record { tau = tau; k = k; w = w; t = t }) «row_bits» (now (root .entry)) (now (iv .entry))
-        (record { commitment = now (commitment .entry); tree = now (tree .entry); leafCommitments = now («leaf_commitments» .entry); u = now (u .entry); v = now (v .entry); corrections = now (corrections .entry) })
-        (record { commitment = now (commitment .exit); tree = now (tree .exit); leafCommitments = now («leaf_commitments» .exit); u = now (u .exit); v = now (v .exit); corrections = now (corrections .exit) })
-        a × (r ≡ a .number)) ⌝ }
-{
-    number_of(signer::commit(
-        Shape { tau, k, w, t },
-        row_bits,
-        root,
-        iv,
-        commitment,
-        tree,
-        leaf_commitments,
-        u,
-        v,
-        corrections,
-    ))
-}
-
-#[no_mangle]
-pub extern "C" fn rattle_open(
-    tau: usize,
-    k: usize,
-    w: usize,
-    t: usize,
-    challenge: &[u8],
-    tree: &[u8],
-    leaf_commitments: &[u8],
-    opening: &mut [u8],
-) -> usize
-    ensures { λ r. ⌜ ((a : Answer) × Open (record { tau = tau; k = k; w = w; t = t }) (now (challenge .entry)) (now (tree .entry)) (now («leaf_commitments» .entry)) (now (opening .entry)) (now (opening .exit)) a × (r ≡ a .count)) ⌝ }
-{
-    count_of(signer::open(
-        Shape { tau, k, w, t },
-        challenge,
-        tree,
-        leaf_commitments,
-        opening,
-    ))
-}
-
-#[no_mangle]
-pub extern "C" fn rattle_reconstruct(
-    tau: usize,
-    k: usize,
-    w: usize,
-    t: usize,
-    row_bits: usize,
-    iv: &[u8],
-    challenge: &[u8],
-    corrections: &[u8],
-    opening: &[u8],
-    commitment: &mut [u8],
-    tree: &mut [u8],
-    leaf_commitments: &mut [u8],
-    q: &mut [u8],
-) -> usize
-    ensures { λ r. ⌜ ((a : Answer) × Reconstruct faest (record { tau = tau; k = k; w = w; t = t }) «row_bits» (now (iv .entry)) (now (challenge .entry)) (now (corrections .entry)) (now (opening .entry))
-        (record { commitment = now (commitment .entry); tree = now (tree .entry); leafCommitments = now («leaf_commitments» .entry); q = now (q .entry) })
-        (record { commitment = now (commitment .exit); tree = now (tree .exit); leafCommitments = now («leaf_commitments» .exit); q = now (q .exit) })
-        a × (r ≡ a .count)) ⌝ }
-{
-    count_of(verifier::reconstruct(
-        Shape { tau, k, w, t },
-        row_bits,
-        iv,
-        challenge,
-        corrections,
-        opening,
-        commitment,
-        tree,
-        leaf_commitments,
-        q,
-    ))
 }

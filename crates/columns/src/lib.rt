@@ -1,63 +1,14 @@
 // Blocks of a row, and whole strings, xored straight into the columns of a vector that is lent. No row is ever held.
 ghost use mathlib.Core.Path.{_≡_};
-ghost use Prim.Native.Nat.{_+_, _*_, _≤_, _<_};
-ghost use lib.ListN.{length, getD, take};
-ghost use Rattle.spec.specs.Bytes.{bit};
-ghost use Rattle.columns.specs.Columns.{placed, Xored, Added};
+ghost use Prim.Native.Nat.{_+_, _-_, _*_, _≤_, _<_};
+ghost use lib.ListN.{length, getD};
+ghost use Rattle.spec.specs.Bytes.{bit, tabulate};
+ghost use Rattle.columns.specs.Columns.{Xored, Added, Done};
 
-// Xors the digit's multiple of the first n bytes of a block into d from byte `at` on. The digit is 0 or 1: it selects without a branch.
-fn xor_few(d: &mut [u8], at: usize, n: usize, digit: u8, block: [u8; 16])
-    requires { ⌜ (n ≤ 16) × (at + n ≤ length (now d)) × (digit < 2) ⌝ }
-    ensures { λ _. ⌜ Xored (λ p. digit * placed at (take n block) p) (now (d .entry)) (now (d .exit)) ⌝ }
-{
-    for i in 0..n {
-        d[at + i] = d[at + i] ^ (digit * block[i]);
-    }
-}
-
-// The same for a whole block, so that the compiler knows the count.
-fn xor_16(d: &mut [u8], at: usize, digit: u8, block: [u8; 16])
-    requires { ⌜ (at + 16 ≤ length (now d)) × (digit < 2) ⌝ }
-    ensures { λ _. ⌜ Xored (λ p. digit * placed at (take 16 block) p) (now (d .entry)) (now (d .exit)) ⌝ }
-{
-    for i in 0..16 {
-        d[at + i] = d[at + i] ^ (digit * block[i]);
-    }
-}
-
-fn xor_block(d: &mut [u8], at: usize, n: usize, digit: u8, block: [u8; 16])
-    requires { ⌜ (n ≤ 16) × (at + n ≤ length (now d)) × (digit < 2) ⌝ }
-    ensures { λ _. ⌜ Xored (λ p. digit * placed at (take n block) p) (now (d .entry)) (now (d .exit)) ⌝ }
-{
-    if n == 16 {
-        xor_16(d, at, digit, block);
-    } else {
-        xor_few(d, at, n, digit, block);
-    }
-}
-
-// Xors the first n bytes of a block, those from byte `at` of a row on, into each of k columns of b bytes whose bit the number has set.
-pub fn add_block(
-    cols: &mut [u8],
-    b: usize,
-    k: usize,
-    number: usize,
-    at: usize,
-    n: usize,
-    block: [u8; 16],
-)
-    requires { ⌜ (n ≤ 16) × (at + n ≤ b) × (k ≤ 12) × (length (now cols) ≡ b * k) ⌝ }
-    ensures { λ _. ⌜ Added b k (λ j p. bit j number * placed at (take n block) p) (now (cols .entry)) (now (cols .exit)) ⌝ }
-{
-    for j in 0..k {
-        xor_block(cols, b * j + at, n, ((number >> j) % 2) as u8, block);
-    }
-}
-
-// Xors the digit's multiple of a string into d from byte `at` on.
+// Xors the digit's multiple of a string into d from byte `at` on. The digit is 0 or 1: it selects without a branch.
 fn xor_bytes(d: &mut [u8], at: usize, digit: u8, bytes: &[u8])
     requires { ⌜ (at + length (now bytes) ≤ length (now d)) × (digit < 2) ⌝ }
-    ensures { λ _. ⌜ Xored (λ p. digit * placed at (now (bytes .entry)) p) (now (d .entry)) (now (d .exit)) ⌝ }
+    ensures { λ _. ⌜ Xored at (at + length (now (bytes .entry))) (λ p. digit * getD (now (bytes .entry)) (p - at) 0) (now (d .entry)) (now (d .exit)) ⌝ }
 {
     let n = bytes.len();
     for i in 0..n {
@@ -72,5 +23,73 @@ pub fn add_bytes(cols: &mut [u8], b: usize, k: usize, number: usize, bytes: &[u8
 {
     for j in 0..k {
         xor_bytes(cols, b * j, ((number >> j) % 2) as u8, bytes);
+    }
+}
+
+// Xors a block into d from byte `at` on.
+fn xor_16(d: &mut [u8], at: usize, block: [u8; 16])
+    requires { ⌜ at + 16 ≤ length (now d) ⌝ }
+    ensures { λ _. ⌜ Xored at (at + 16) (λ p. getD block (p - at) 0) (now (d .entry)) (now (d .exit)) ⌝ }
+{
+    for i in 0..16 {
+        d[at + i] = d[at + i] ^ block[i];
+    }
+}
+
+// The same for its first n bytes. A whole block has a function of its own, so that the compiler knows the count.
+pub fn xor_block(d: &mut [u8], at: usize, n: usize, block: [u8; 16])
+    requires { ⌜ (n ≤ 16) × (at + n ≤ length (now d)) ⌝ }
+    ensures { λ _. ⌜ Xored at (at + n) (λ p. getD block (p - at) 0) (now (d .entry)) (now (d .exit)) ⌝ }
+{
+    if n == 16 {
+        xor_16(d, at, block);
+    } else {
+        xor_bytes(d, at, 1, &block[0..n]);
+    }
+}
+
+// The 16 bytes of d from byte `at` on.
+fn block_at(d: &[u8], at: usize) -> [u8; 16]
+    requires { ⌜ at + 16 ≤ length (now d) ⌝ }
+    ensures { λ r. ⌜ r ≡ tabulate 16 (λ i. getD (now (d .entry)) (at + i) 0) ⌝ }
+{
+    let mut block = [0u8; 16];
+    for i in 0..16 {
+        block[i] = d[at + i];
+    }
+    block
+}
+
+// Xors n bytes of d from byte `from` on into those from byte `to` on, which stand before them. By blocks, for which the compiler sees that they do not overlap.
+fn xor_within(d: &mut [u8], from: usize, to: usize, n: usize)
+    requires { ⌜ (to + n ≤ from) × (from + n ≤ length (now d)) ⌝ }
+    ensures { λ _. ⌜ Xored to (to + n) (λ p. getD (now (d .entry)) (from + (p - to)) 0) (now (d .entry)) (now (d .exit)) ⌝ }
+{
+    let mut at = 0;
+    while at < n {
+        if 16 <= n - at {
+            let block = block_at(d, from + at);
+            xor_16(d, to + at, block);
+            at += 16;
+        } else {
+            d[to + at] = d[to + at] ^ d[from + at];
+            at += 1;
+        }
+    }
+}
+
+// Xors the last of h + 1 columns of b bytes into each of the others whose bit the number has set.
+pub fn add_last(cols: &mut [u8], b: usize, h: usize, number: usize)
+    requires { ⌜ (h ≤ 11) × (length (now cols) ≡ b * (h + 1)) ⌝ }
+    ensures { λ _. ⌜ Done b h (λ j p. bit j number * getD (now (cols .entry)) (b * h + p) 0) (now (cols .entry)) (now (cols .exit)) ⌝ }
+{
+    let mut j = 0;
+    while j < h {
+        if (number >> j) % 2 == 1 {
+            xor_within(cols, b * h, b * j, b);
+            j += 1;
+        } else {
+            j += 1;
+        }
     }
 }

@@ -7,7 +7,7 @@ use native.Mathlib.Nat.{add-zero, add-suc, zero-mul, mul-suc, mul-zero, mul-le-m
 use native.Mathlib.Numerals.{add-one}
 use native.Mathlib.Decide.{decLt}
 use lib.ListN.{length, getD, take, drop, length-append, length-drop}
-use lib.Seq.{take-append-le, drop-append-le, drop-append-add, take-all, ext-getD}
+use lib.Seq.{take-append-le, drop-append-le, drop-append-add, take-add, take-all, ext-getD}
 use Rattle.spec.specs.Bytes.{part, tabulate, concat}
 use Rattle.laws.proofs.Stretches.{stretch-before}
 use Rattle.laws.proofs.Lists.{length-tabulate, getD-tabulate, getD-part}
@@ -112,6 +112,15 @@ is-concat b k f l e h = ext-getD 0 l (concat k (λ j. tabulate b (f j))) (e ∙ 
         ∙ h (q / b) (q % b) high low
         ∙ sym (concat-byte b k f (q / b) (q % b) high low)
         ∙ ap (λ (x : ℕ). getD (concat k (λ j. tabulate b (f j))) x 0) whole
+
+-- a list of w * n bytes is n strings where each part is
+pub parts-concat : (f : ℕ → List ℕ) (w n : ℕ) (l : List ℕ) → length l ≡ w * n → ((i : ℕ) → i < n → part l (w * i) w ≡ f i) → l ≡ concat n f
+unfolding concat
+parts-concat f w n l e h = sym (take-all (w * n) l (omega arith)) ∙ front n (omega arith)
+  where
+    front : (m : ℕ) → m ≤ n → take (w * m) l ≡ concat m f
+    front zero k = ap (λ (x : ℕ). take x l) (mul-zero w)
+    front (suc m) k = ap (λ (x : ℕ). take x l) (mul-suc w m) ∙ take-add (w * m) w l ∙ ap₂ _++_ (front m (omega arith)) (h m (omega arith))
 
 -- ---- products of a width and a number of blocks
 

@@ -18,5 +18,6 @@ pub mod Division
 pub mod Putting
 pub mod Lengths
 pub mod Digits
+pub mod Running
 pub mod Parts
 pub mod Conjunctions

@@ -1,15 +1,16 @@
--- One vector's bytes, from what was added to cleared columns and to a total; the buffers of the first vectors with one vector more; and the whole buffers.
+-- One vector's bytes, from what its entries gave; the buffers of the first vectors with one vector more; and the whole buffers.
 -- By the laws of strings put one behind another.
-use Prim.Native.Nat.{ℕ, _+_, _-_, _*_, _≤_}
+use Prim.Native.Nat.{ℕ, _+_, _-_, _*_, _^_, _≤_}
 use mathlib.Core.Path.{_≡_, refl, sym, ap, ap₂, _∙_, subst}
 use mathlib.Core.List.{List, _++_, append-nil}
 use native.Mathlib.Omega.{arith}
-use native.Mathlib.Nat.{zero-add, mul-zero}
+use native.Mathlib.Nat.{mul-zero}
 use lib.Bits.{bitXor, xor-zero-l, xor-zero-r}
+use lib.Pow.{pow-pos}
 use lib.ListN.{length, getD, take, drop, drop-of-length-le}
 use lib.Seq.{take-length, take-at}
 use Rattle.spec.specs.declared.Shape.{Shape}
-use Rattle.spec.specs.Bytes.{bit, tabulate, concat, zeros, xorBelow}
+use Rattle.spec.specs.Bytes.{bit, tabulate, concat, zeros}
 use Rattle.spec.specs.Sponge.{sponge, shake}
 use Rattle.spec.specs.Hashes.{hash1}
 use Rattle.spec.specs.Shapes.{level, nodeBytes, leafCommitmentBytes, hashBytes, rate, depthOf, entriesOf, firstBit, firstEntry}
@@ -17,47 +18,41 @@ use Rattle.spec.specs.Primitives.{faest}
 use Rattle.spec.specs.Leaves.{leafKey, leafCommitment, vectorCommitments, vectorHash}
 use Rattle.spec.specs.Rows.{rowByte, uByte, columnByte}
 use Rattle.spec.specs.Signer.{signerLeafCommitment, signerU, signerColumn, correction}
-use Rattle.laws.proofs.Lists.{length-tabulate, getD-tabulate, tabulate-same, is-tabulate, length-zeros}
+use Rattle.laws.proofs.Lists.{length-tabulate, getD-tabulate, tabulate-same, is-tabulate}
 use Rattle.laws.proofs.Sums.{xor-same}
 use Rattle.laws.proofs.Concat.{concat-same, even-length}
 use Rattle.laws.proofs.Strings.{getD-zeros}
 use Rattle.planning_laws.proofs.Depths.{bit-none, entry-none}
 use Rattle.columns.specs.Columns.{Added}
-use Rattle.vector.proofs.Buffers.{put-behind, put-block, put-all, commitments-next, columns-next, cleared-columns}
+use Rattle.vector.proofs.Buffers.{put-behind, put-block, put-all, commitments-next, columns-next}
+use Rattle.vector.specs.Entries.{Written}
+use Rattle.vector.proofs.Entries.{written-all}
 use Rattle.signer_vectors.specs.Vectors.{Converted, UpTo}
 
 -- the one column of a total
-sum-of : (b : ℕ) (f g : ℕ → ℕ) (old new : List ℕ) → length old ≡ b → Added b 1 (λ j p. f p) old new → ((p : ℕ) → f p ≡ g p) → new ≡ tabulate b (λ p. bitXor (getD old p 0) (g p))
-sum-of b f g old new e r h =
-    is-tabulate b (λ p. bitXor (getD old p 0) (g p)) 0 new (r .size ∙ e)
+sum-of : (b : ℕ) (f : ℕ → ℕ) (old new : List ℕ) → length old ≡ b → Added b 1 (λ j p. f p) old new → new ≡ tabulate b (λ p. bitXor (getD old p 0) (f p))
+sum-of b f old new e r =
+    is-tabulate b (λ p. bitXor (getD old p 0) (f p)) 0 new (r .size ∙ e)
     (λ p l. let z : b * 0 + p ≡ p = (let m = mul-zero b in omega arith) in
-    ap (λ (q : ℕ). getD new q 0) (sym z) ∙ r .known 0 p (omega arith) l ∙ ap₂ (λ (q x : ℕ). bitXor (getD old q 0) x) z (h p))
+    ap (λ (q : ℕ). getD new q 0) (sym z) ∙ r .known 0 p (omega arith) l ∙ ap (λ (q : ℕ). bitXor (getD old q 0) (f p)) z)
 
 module _ (s : Shape) (b : ℕ) (iv tree : List ℕ) where
-  pub converted : (i n m : ℕ) (total total′ lcs cols before hash : List ℕ) → n ≡ entriesOf s i → m ≡ b * depthOf s i → length total ≡ b → length before ≡ 32
-      → lcs ≡ concat n (λ e. leafCommitment faest s iv i (leafKey s tree i (0 + e)))
-      → Added b 1 (λ j p. xorBelow n (λ e. rowByte faest s iv tree i (0 + e) p)) total total′
-      → Added b (depthOf s i) (λ j p. xorBelow n (λ e. bit j (bitXor (0 + e) 0) * rowByte faest s iv tree i (0 + e) p)) (zeros m) cols
-      → hash ≡ hash1 168 lcs (length before) → Converted s b iv tree i total total′ lcs cols hash
-  unfolding level nodeBytes hashBytes rate faest vectorCommitments vectorHash uByte columnByte signerLeafCommitment signerColumn
-  converted i n m total total′ lcs cols before hash en em et eh l t c h =
-      let own : (e : ℕ) → 0 + e ≡ e = zero-add in
-      let leaves =
-      l ∙ concat-same (λ e. leafCommitment faest s iv i (leafKey s tree i (0 + e))) (λ e. leafCommitment faest s iv i (leafKey s tree i e)) n (λ e k. ap (λ (x : ℕ). leafCommitment faest s iv i (leafKey s tree i x)) (own e))
-      ∙ ap (λ (x : ℕ). concat x (λ e. leafCommitment faest s iv i (leafKey s tree i e))) en
-      in
+  pub converted : (i : ℕ) (total total′ old lcs cols before hash : List ℕ) → length total ≡ b → length old ≡ 48 * entriesOf s i → length before ≡ 32
+      → Written (λ e. leafCommitment faest s iv i (leafKey s tree i e)) 0 0 (entriesOf s i) old lcs → Added b 1 (λ j p. uByte faest s iv tree i p) total total′
+      → cols ≡ concat (depthOf s i) (λ j. tabulate b (columnByte faest s iv tree (λ e. bitXor e 0) i j)) → hash ≡ hash1 168 lcs (length before)
+      → Converted s b iv tree i total total′ lcs cols hash
+  unfolding level nodeBytes hashBytes rate faest entriesOf vectorCommitments vectorHash columnByte signerLeafCommitment signerColumn
+  converted i total total′ old lcs cols before hash et el eh l t c h =
+      let own : ℕ → List ℕ = λ e. leafCommitment faest s iv i (leafKey s tree i e) in
+      let leaves = written-all own 0 (depthOf s i) 0 own old lcs (pow-pos (depthOf s i)) el (λ x k. refl) (λ x k. absurd (omega arith)) l in
       record {
         leaves = leaves;
-        sum = sum-of b (λ p. xorBelow n (λ e. rowByte faest s iv tree i (0 + e) p)) (uByte faest s iv tree i) total total′ et t
-            (λ p. xor-same n (λ e. rowByte faest s iv tree i (0 + e) p) (λ e. rowByte faest s iv tree i e p) (λ e k. ap (λ (x : ℕ). rowByte faest s iv tree i x p) (own e))
-            ∙ ap (λ (x : ℕ). xorBelow x (λ e. rowByte faest s iv tree i e p)) en);
+        sum = sum-of b (uByte faest s iv tree i) total total′ et t;
         columns =
-            cleared-columns b (depthOf s i) m (λ j p. xorBelow n (λ e. bit j (bitXor (0 + e) 0) * rowByte faest s iv tree i (0 + e) p)) (zeros m) cols (length-zeros m ∙ em) refl c
-            ∙ concat-same (λ j. tabulate b (λ p. xorBelow n (λ e. bit j (bitXor (0 + e) 0) * rowByte faest s iv tree i (0 + e) p))) (λ j. tabulate b (columnByte faest s iv tree (λ e. e) i j)) (depthOf s i)
-            (λ j hj. tabulate-same b (λ p. xorBelow n (λ e. bit j (bitXor (0 + e) 0) * rowByte faest s iv tree i (0 + e) p)) (columnByte faest s iv tree (λ e. e) i j)
-            (λ p hp. xor-same n (λ e. bit j (bitXor (0 + e) 0) * rowByte faest s iv tree i (0 + e) p) (λ e. bit j e * rowByte faest s iv tree i e p)
-            (λ e k. ap₂ (λ (x y : ℕ). bit j x * rowByte faest s iv tree i y p) (xor-zero-r (0 + e) ∙ own e) (own e))
-            ∙ ap (λ (x : ℕ). xorBelow x (λ e. bit j e * rowByte faest s iv tree i e p)) en));
+            c ∙ concat-same (λ j. tabulate b (columnByte faest s iv tree (λ e. bitXor e 0) i j)) (λ j. tabulate b (columnByte faest s iv tree (λ e. e) i j)) (depthOf s i)
+            (λ j hj. tabulate-same b (columnByte faest s iv tree (λ e. bitXor e 0) i j) (columnByte faest s iv tree (λ e. e) i j)
+            (λ p hp. xor-same (2 ^ depthOf s i) (λ e. bit j (bitXor e 0) * rowByte faest s iv tree i e p) (λ e. bit j e * rowByte faest s iv tree i e p)
+            (λ e k. ap (λ (x : ℕ). bit j x * rowByte faest s iv tree i e p) (xor-zero-r e))));
         digest = h ∙ ap₂ (λ (x : List ℕ) (y : ℕ). hash1 168 x y) leaves eh;
       }
 

@@ -33,10 +33,8 @@ fn convert(
     requires { ⌜ (length (now lcs) ≡ 48 * entriesOf s i) × (length (now total) ≡ b) × (length (now cols) ≡ b * depthOf s i) × (length (now hash) ≡ 32) ⌝ }
     ensures { λ _. ⌜ Converted s b iv (now (tree .entry)) i (now (total .entry)) (now (total .exit)) (now (lcs .exit)) (now (cols .exit)) (now (hash .exit)) ⌝ }
 {
-    let n = rules::entry_count(s, i);
     let m = field::multiples(&keys[48 * i..48 * i + 48]);
-    buffers::clear_from(cols, 0);
-    vector::add_entries(t, &m, s, i, 0, n, 0, b, iv, tree, lcs, 1, total, cols);
+    vector::add_entries(t, &m, s, i, 0, 0, b, iv, tree, lcs, total, cols);
     shake::h1(lcs, hash);
 }
 

@@ -1,20 +1,15 @@
 -- The column rule at one byte: `row e` is that byte of the row of entry e, n the number of entries. A column numbered by e xor the hidden index differs from
 -- one numbered by e by the hidden index's bit times the sum of all rows. By the laws of xor.
 use mathlib.Core.Path.{_≡_, refl, sym, ap, ap₂, _∙_}
-use Prim.Native.Nat.{ℕ, zero, suc, _*_, _/_, _%_, _^_, _<_}
-use native.Mathlib.Nat.{zero-mul, mul-zero, zero-div}
+use Prim.Native.Nat.{ℕ, zero, suc, _*_, _<_}
+use native.Mathlib.Nat.{zero-mul, mul-zero}
 use native.Mathlib.Decide.{ℕ-discrete}
-use lib.Bits.{bitXor, differ, xor-self, xor-shr, xor-comm}
+use lib.Bits.{bitXor, xor-self, xor-comm}
 use Rattle.spec.specs.Bytes.{bit, xorBelow}
 use Rattle.laws.proofs.Digits.{bit-lt}
-use Rattle.laws.proofs.Xor.{xor-assoc, xor-swap, xor-odd, xor-cancel-r, digit-xor, differ-mul}
+use Rattle.laws.proofs.Xor.{xor-assoc, xor-swap, xor-cancel-r, digit-xor, differ-mul}
 use Rattle.laws.proofs.Sums.{xor-same}
-
-bit-zero : (j : ℕ) → bit j 0 ≡ 0
-bit-zero j = ap (λ (n : ℕ). n % 2) (zero-div (2 ^ j))
-
-bit-xor : (j m n : ℕ) → bit j (bitXor m n) ≡ differ (bit j m) (bit j n)
-bit-xor j m n = ap (λ (x : ℕ). x % 2) (xor-shr m n j) ∙ xor-odd (m / 2 ^ j) (n / 2 ^ j)
+use Rattle.laws.proofs.Running.{bit-zero, bit-xor}
 
 -- ---- the xor of a run
 

@@ -1,5 +1,5 @@
--- The parts of the buffers that a vector is lent: where each ends, its length, and strings put one behind another in this way; the columns of a vector that
--- were cleared first. By the laws of strings laid one after another.
+-- The parts of the buffers that a vector is lent: where each ends, its length, and strings put one behind another in this way; a buffer that was cleared
+-- from a place on. By the laws of strings laid one after another.
 use Prim.Native.Nat.{ℕ, _+_, _-_, _*_, _^_, _≤_, _<_}
 use mathlib.Core.Path.{_≡_, refl, sym, ap, ap₂, _∙_}
 use mathlib.Core.Bool.{true}
@@ -7,23 +7,21 @@ use mathlib.Core.List.{List, [], _++_}
 use native.Mathlib.Nat.{mul-add, mul-le-mul, le-refl}
 use native.Mathlib.Numerals.{add-one}
 use native.Mathlib.Omega.{arith}
-use lib.Bits.{bitXor, xor-zero-l}
-use lib.ListN.{length, getD, take}
-use lib.Seq.{take-all}
+use lib.ListN.{length, getD, take, List·getD-eq-default}
+use lib.Seq.{take-all, length-take-le, getD-take}
 use mir.Syntax.{w64}
 use mir.Val.{Fits}
 use Rattle.spec.specs.declared.Shape.{Shape}
-use Rattle.spec.specs.Bytes.{part, tabulate, concat, zeros}
+use Rattle.spec.specs.Bytes.{part, concat, zeros}
 use Rattle.spec.specs.Shapes.{level, nodeBytes, leafCommitmentBytes, depthOf, entriesOf, firstBit, firstEntry, shapeOk, leafCommitmentsBytes, matrixBytes}
 use Rattle.laws.proofs.Lists.{length-part}
 use Rattle.laws.proofs.Putting.{put-next}
-use Rattle.laws.proofs.Strings.{getD-zeros}
-use Rattle.laws.proofs.Concat.{is-concat, mul-next, mul-within}
+use Rattle.laws.proofs.Strings.{getD-append-zeros}
+use Rattle.laws.proofs.Concat.{mul-next, mul-within}
 use Rattle.laws.proofs.Stretches.{stretch-before}
 use Rattle.planning_laws.proofs.Depths.{bit-next, entry-next}
 use Rattle.planning_laws.proofs.ShapeFacts.{shape-facts, bit-all, depth-small}
 use Rattle.planning_laws.proofs.ShapeLaws.{shape-laws}
-use Rattle.columns.specs.Columns.{Added}
 
 -- ---- string i, of w bytes, put behind the i before it, which end at p, in a part lent from v on; it ends at q
 
@@ -112,9 +110,11 @@ module _ (s : Shape) (ok : shapeOk s ≡ true) where
   pub columns-fit : (b i : ℕ) → b ≤ 8192 → Fits w64 (b * depthOf s i)
   columns-fit b i h = (let m : b * depthOf s i ≤ 8192 * 12 = mul-le-mul h (depth-small s i (shape-facts s ok)) in record { fits = omega arith })
 
--- ---- columns that were cleared
+-- ---- a buffer that was cleared from a place on
 
-pub cleared-columns : (b k n : ℕ) (f : ℕ → ℕ → ℕ) (old new : List ℕ) → length old ≡ b * k → old ≡ zeros n → Added b k f old new → new ≡ concat k (λ j. tabulate b (f j))
-cleared-columns b k n f old new l z a =
-    is-concat b k f new (a .size ∙ l)
-    (λ j p hj hp. a .known j p hj hp ∙ ap (λ (x : ℕ). bitXor x (f j p)) (ap (λ (x : List ℕ). getD x (b * j + p) 0) z ∙ getD-zeros n (b * j + p)) ∙ xor-zero-l (f j p))
+module _ (at n : ℕ) (old new : List ℕ) (h : at ≤ length old) (e : new ≡ take at old ++ zeros n) where
+  pub cleared-before : (q : ℕ) → q < at → getD new q 0 ≡ getD old q 0
+  cleared-before q l = ap (λ (x : List ℕ). getD x q 0) e ∙ getD-append-zeros (take at old) n q ∙ getD-take at old q 0 l
+
+  pub cleared-behind : (q : ℕ) → at ≤ q → getD new q 0 ≡ 0
+  cleared-behind q l = ap (λ (x : List ℕ). getD x q 0) e ∙ getD-append-zeros (take at old) n q ∙ List·getD-eq-default (take at old) 0 (omega (arith, length-take-le at old h))

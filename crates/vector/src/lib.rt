@@ -1,18 +1,20 @@
 // One vector: the leaf commitments of its entries, the xor of their rows, and its columns, from the bytes of a tree; and its parts of the buffers of all
-// vectors.
+// vectors. The rows are added in the order of their numbers to one sum, which stands in the place of the last column, and from there to another column only
+// where its bit of the number changes.
 ghost use mathlib.Core.Path.{_≡_};
 ghost use mathlib.Core.Bool.{true};
-ghost use Prim.Native.Nat.{_+_, _*_, _≤_, _<_};
+ghost use Prim.Native.Nat.{_+_, _-_, _*_, _≤_, _<_};
 ghost use lib.Bits.{bitXor};
 ghost use lib.ListN.{length};
-ghost use Rattle.spec.specs.Bytes.{bit, number, concat, xorBelow};
+ghost use Rattle.spec.specs.Bytes.{number, tabulate, concat};
 ghost use Rattle.spec.specs.Gf256.{SboxTable};
 ghost use Rattle.spec.specs.Shapes.{shapeOk, depthOf, entriesOf, firstBit, firstEntry, treeBytes};
 ghost use Rattle.spec.specs.Primitives.{faest};
 ghost use Rattle.spec.specs.Leaves.{hashKey, leafKey, leafCommitment};
-ghost use Rattle.spec.specs.Rows.{rowByte};
+ghost use Rattle.spec.specs.Rows.{rowByte, uByte, columnByte};
 ghost use Rattle.field.specs.Field.{p384, Multiples};
-ghost use Rattle.columns.specs.Columns.{Added};
+ghost use Rattle.columns.specs.Columns.{Xored, Added, Running};
+ghost use Rattle.vector.specs.Entries.{Written};
 use spec::Shape;
 
 // Where the leaf commitments of vector i begin, and those before it end.
@@ -31,88 +33,119 @@ pub fn columns_from(s: Shape, i: usize, b: usize) -> usize
     b * rules::first_bit(s, i)
 }
 
-// Entry e of vector i: writes its leaf commitment, and adds its row to `total`, which has one column or none, and under the number x to the columns.
-pub fn add_entry(
+// Entry e of vector i: writes its leaf commitment, and adds its row to the sum.
+fn add_entry(
     t: &[u8; 256],
     m: &[[u64; 6]; 16],
     s: Shape,
     i: usize,
     e: usize,
-    x: usize,
-    b: usize,
     iv: [u8; 16],
     tree: &[u8],
     commitment: &mut [u8],
-    totals: usize,
-    total: &mut [u8],
-    cols: &mut [u8],
+    sum: &mut [u8],
 )
     requires { ⌜ SboxTable (now t) ⌝ }
-    requires { ⌜ (shapeOk s ≡ true) × (i < s .tau) × (e < entriesOf s i) × (b ≤ 8192) × (length (now tree) ≡ treeBytes s) ⌝ }
-    requires { ⌜ (length (now commitment) ≡ 48) × (totals ≤ 1) × (length (now total) ≡ b * totals) × (length (now cols) ≡ b * depthOf s i) ⌝ }
+    requires { ⌜ (shapeOk s ≡ true) × (i < s .tau) × (e < entriesOf s i) × (length (now tree) ≡ treeBytes s) ⌝ }
+    requires { ⌜ (length (now commitment) ≡ 48) × (length (now sum) ≤ 8192) ⌝ }
     requires { ⌜ Multiples 384 p384 (number 8 (hashKey faest s iv i)) (now m) ⌝ }
     ensures { λ _. ⌜ now (commitment .exit) ≡ leafCommitment faest s iv i (leafKey s (now (tree .entry)) i e) ⌝ }
-    ensures { λ _. ⌜ Added b totals (λ j p. rowByte faest s iv (now (tree .entry)) i e p) (now (total .entry)) (now (total .exit)) ⌝ }
-    ensures { λ _. ⌜ Added b (depthOf s i) (λ j p. bit j x * rowByte faest s iv (now (tree .entry)) i e p) (now (cols .entry)) (now (cols .exit)) ⌝ }
+    ensures { λ _. ⌜ Xored 0 (length (now (sum .entry))) (rowByte faest s iv (now (tree .entry)) i e) (now (sum .entry)) (now (sum .exit)) ⌝ }
 {
-    let d = rules::depth_of(s, i);
     let a = 16 * rules::leaf_of(s, i, e);
     let tweak = leaf::leaf_tweak(i, rules::leaf_count(s));
     let seed = leaf::commit_leaf(t, m, &tree[a..a + 16], iv, tweak, commitment);
-    rows::add_row(
-        t,
-        &seed,
-        iv,
-        (i as u32) + 2147483648,
-        b,
-        d,
-        x,
-        totals,
-        total,
-        cols,
-    );
+    rows::add_row(t, &seed, iv, (i as u32) + 2147483648, sum);
 }
 
-// The n entries of vector i from entry `from` on, each under its own number xored with the mask.
-pub fn add_entries(
+// The entries of vector i whose numbers are from `from` on and below `to`, in the order of their numbers: number x is that of entry x xor the mask. There are
+// h + 1 columns.
+fn add_run(
     t: &[u8; 256],
     m: &[[u64; 6]; 16],
     s: Shape,
     i: usize,
     from: usize,
-    n: usize,
+    to: usize,
     mask: usize,
     b: usize,
+    h: usize,
     iv: [u8; 16],
     tree: &[u8],
     commitments: &mut [u8],
-    totals: usize,
-    total: &mut [u8],
     cols: &mut [u8],
 )
     requires { ⌜ SboxTable (now t) ⌝ }
-    requires { ⌜ (shapeOk s ≡ true) × (i < s .tau) × (from + n ≤ entriesOf s i) × (b ≤ 8192) × (length (now tree) ≡ treeBytes s) ⌝ }
-    requires { ⌜ (length (now commitments) ≡ 48 * n) × (totals ≤ 1) × (length (now total) ≡ b * totals) × (length (now cols) ≡ b * depthOf s i) ⌝ }
+    requires { ⌜ (shapeOk s ≡ true) × (i < s .tau) × (from ≤ to) × (to ≤ entriesOf s i) × (mask < entriesOf s i) × (b ≤ 8192) × (h ≤ 11) × (length (now tree) ≡ treeBytes s) ⌝ }
+    requires { ⌜ (length (now commitments) ≡ 48 * entriesOf s i) × Running b h from from (λ x. rowByte faest s iv (now tree) i (bitXor x mask)) (now cols) ⌝ }
     requires { ⌜ Multiples 384 p384 (number 8 (hashKey faest s iv i)) (now m) ⌝ }
-    ensures { λ _. ⌜ now (commitments .exit) ≡ concat n (λ e. leafCommitment faest s iv i (leafKey s (now (tree .entry)) i (from + e))) ⌝ }
-    ensures { λ _. ⌜ Added b totals (λ j p. xorBelow n (λ e. rowByte faest s iv (now (tree .entry)) i (from + e) p)) (now (total .entry)) (now (total .exit)) ⌝ }
-    ensures { λ _. ⌜ Added b (depthOf s i) (λ j p. xorBelow n (λ e. bit j (bitXor (from + e) mask) * rowByte faest s iv (now (tree .entry)) i (from + e) p)) (now (cols .entry)) (now (cols .exit)) ⌝ }
+    ensures { λ _. ⌜ Written (λ e. leafCommitment faest s iv i (leafKey s (now (tree .entry)) i e)) mask from to (now (commitments .entry)) (now (commitments .exit)) ⌝ }
+    ensures { λ _. ⌜ Running b h from to (λ x. rowByte faest s iv (now (tree .entry)) i (bitXor x mask)) (now (cols .exit)) ⌝ }
 {
-    for e in 0..n {
+    let last = b * h;
+    for x in from..to {
+        let e = x ^ mask;
         add_entry(
             t,
             m,
             s,
             i,
-            from + e,
-            (from + e) ^ mask,
-            b,
+            e,
             iv,
             tree,
             &mut commitments[48 * e..48 * e + 48],
-            totals,
-            total,
-            cols,
+            &mut cols[last..last + b],
         );
+        columns::add_last(cols, b, h, x ^ (x + 1));
     }
+}
+
+// All entries of vector i, but where `first` is 1 for that of number 0: writes their leaf commitments and the columns, and adds the xor of their rows to
+// `total`, which has one column, or where `first` is 1 none.
+pub fn add_entries(
+    t: &[u8; 256],
+    m: &[[u64; 6]; 16],
+    s: Shape,
+    i: usize,
+    first: usize,
+    mask: usize,
+    b: usize,
+    iv: [u8; 16],
+    tree: &[u8],
+    commitments: &mut [u8],
+    total: &mut [u8],
+    cols: &mut [u8],
+)
+    requires { ⌜ SboxTable (now t) ⌝ }
+    requires { ⌜ (shapeOk s ≡ true) × (i < s .tau) × (first ≤ 1) × (mask < entriesOf s i) × (b ≤ 8192) × (length (now tree) ≡ treeBytes s) ⌝ }
+    requires { ⌜ (length (now commitments) ≡ 48 * entriesOf s i) × (length (now total) ≡ b * (1 - first)) × (length (now cols) ≡ b * depthOf s i) ⌝ }
+    requires { ⌜ Multiples 384 p384 (number 8 (hashKey faest s iv i)) (now m) ⌝ }
+    ensures { λ _. ⌜ Written (λ e. leafCommitment faest s iv i (leafKey s (now (tree .entry)) i e)) mask first (entriesOf s i) (now (commitments .entry)) (now (commitments .exit)) ⌝ }
+    ensures { λ _. ⌜ Added b (1 - first) (λ j p. uByte faest s iv (now (tree .entry)) i p) (now (total .entry)) (now (total .exit)) ⌝ }
+    ensures { λ _. ⌜ now (cols .exit) ≡ concat (depthOf s i) (λ j. tabulate b (columnByte faest s iv (now (tree .entry)) (λ e. bitXor e mask) i j)) ⌝ }
+{
+    let h = rules::depth_of(s, i) - 1;
+    let n = rules::entry_count(s, i);
+    let half = n / 2;
+    let last = b * h;
+    buffers::clear_from(cols, 0);
+    add_run(
+        t,
+        m,
+        s,
+        i,
+        first,
+        half,
+        mask,
+        b,
+        h,
+        iv,
+        tree,
+        commitments,
+        cols,
+    );
+    columns::add_bytes(total, b, 1 - first, 1, &cols[last..last + b]);
+    buffers::clear_from(cols, last);
+    add_run(t, m, s, i, half, n, mask, b, h, iv, tree, commitments, cols);
+    columns::add_bytes(total, b, 1 - first, 1, &cols[last..last + b]);
 }

@@ -3,20 +3,19 @@
 ghost use mathlib.Core.Path.{_≡_};
 ghost use mathlib.Core.Bool.{true};
 ghost use mathlib.Core.List.{List, _++_};
-ghost use Prim.Native.Nat.{ℕ, _+_, _-_, _*_, _≤_, _<_};
+ghost use Prim.Native.Nat.{ℕ, _+_, _*_, _≤_, _<_};
 ghost use lib.Bits.{bitXor};
 ghost use lib.ListN.{length, take, drop};
-ghost use Rattle.spec.specs.Bytes.{bit, number, concat, xorBelow};
+ghost use Rattle.spec.specs.Bytes.{number, tabulate, concat};
 ghost use Rattle.spec.specs.Gf256.{SboxTable};
 ghost use Rattle.spec.specs.Hashes.{hash1};
 ghost use Rattle.spec.specs.Shapes.{shapeOk, depthOf, entriesOf, hiddenIndex, treeBytes};
 ghost use Rattle.spec.specs.Primitives.{faest};
 ghost use Rattle.spec.specs.Leaves.{hashKey, leafKey, leafCommitment};
-ghost use Rattle.spec.specs.Rows.{rowByte, columnByte};
+ghost use Rattle.spec.specs.Rows.{columnByte};
 ghost use Rattle.spec.specs.Verifier.{hiddenLeafCommitment};
 ghost use Rattle.field.specs.Field.{p384, Multiples};
-ghost use Rattle.columns.specs.Columns.{Added};
-ghost use Rattle.verifier_vector.specs.Vector.{Converted};
+ghost use Rattle.verifier_vector.specs.Vector.{given, Converted};
 use spec::Shape;
 
 // H1 of the leaf commitments of a vector whose entry d is hidden.
@@ -31,51 +30,8 @@ fn hash_vector(lcs: &[u8], d: usize, hidden: &[u8], hash: &mut [u8])
     shake::h1_finish(v, hash);
 }
 
-// The n entries of vector i from entry `from` on, each under its own number xored with the mask. Their leaf commitments go to their places in `lcs`.
-fn add_run(
-    t: &[u8; 256],
-    m: &[[u64; 6]; 16],
-    s: Shape,
-    i: usize,
-    from: usize,
-    n: usize,
-    mask: usize,
-    b: usize,
-    iv: [u8; 16],
-    tree: &[u8],
-    lcs: &mut [u8],
-    cols: &mut [u8],
-)
-    requires { ⌜ SboxTable (now t) ⌝ }
-    requires { ⌜ (shapeOk s ≡ true) × (i < s .tau) × (from + n ≤ entriesOf s i) × (b ≤ 8192) × (length (now tree) ≡ treeBytes s) ⌝ }
-    requires { ⌜ (length (now lcs) ≡ 48 * entriesOf s i) × (length (now cols) ≡ b * depthOf s i) ⌝ }
-    requires { ⌜ Multiples 384 p384 (number 8 (hashKey faest s iv i)) (now m) ⌝ }
-    ensures { λ _. ⌜ now (lcs .exit) ≡ take (48 * from) (now (lcs .entry)) ++ (concat n (λ e. leafCommitment faest s iv i (leafKey s (now (tree .entry)) i (from + e))) ++ drop (48 * from + 48 * n) (now (lcs .entry))) ⌝ }
-    ensures { λ _. ⌜ Added b (depthOf s i) (λ j p. xorBelow n (λ e. bit j (bitXor (from + e) mask) * rowByte faest s iv (now (tree .entry)) i (from + e) p)) (now (cols .entry)) (now (cols .exit)) ⌝ }
-{
-    // the checking half has no total
-    let mut none = [0u8; 1];
-    let at = 48 * from;
-    vector::add_entries(
-        t,
-        m,
-        s,
-        i,
-        from,
-        n,
-        mask,
-        b,
-        iv,
-        tree,
-        &mut lcs[at..at + 48 * n],
-        0,
-        &mut none[0..0],
-        cols,
-    );
-}
-
-// The entries of vector i: writes their leaf commitments, that of entry d as lent, and adds the rows of the others to the columns, each under its own number
-// xored with d.
+// The entries of vector i: writes their leaf commitments, that of entry d as lent, and the columns of the rows of the others, each under its own number xored
+// with d.
 fn add_visible(
     t: &[u8; 256],
     m: &[[u64; 6]; 16],
@@ -93,14 +49,13 @@ fn add_visible(
     requires { ⌜ (shapeOk s ≡ true) × (i < s .tau) × (d < entriesOf s i) × (b ≤ 8192) × (length (now tree) ≡ treeBytes s) ⌝ }
     requires { ⌜ (length (now hidden) ≡ 48) × (length (now lcs) ≡ 48 * entriesOf s i) × (length (now cols) ≡ b * depthOf s i) ⌝ }
     requires { ⌜ Multiples 384 p384 (number 8 (hashKey faest s iv i)) (now m) ⌝ }
-    ensures { λ _. ⌜ now (lcs .exit) ≡ concat d (λ e. leafCommitment faest s iv i (leafKey s (now (tree .entry)) i e))
-        ++ (now (hidden .entry) ++ concat (entriesOf s i - d - 1) (λ e. leafCommitment faest s iv i (leafKey s (now (tree .entry)) i (d + 1 + e)))) ⌝ }
-    ensures { λ _. ⌜ Added b (depthOf s i) (columnByte faest s iv (now (tree .entry)) (λ e. bitXor e d) i) (now (cols .entry)) (now (cols .exit)) ⌝ }
+    ensures { λ _. ⌜ now (lcs .exit) ≡ concat (entriesOf s i) (given (now (hidden .entry)) (λ e. leafCommitment faest s iv i (leafKey s (now (tree .entry)) i e)) d) ⌝ }
+    ensures { λ _. ⌜ now (cols .exit) ≡ concat (depthOf s i) (λ j. tabulate b (columnByte faest s iv (now (tree .entry)) (λ e. bitXor e d) i j)) ⌝ }
 {
-    let rest = rules::entry_count(s, i) - d - 1;
-    add_run(t, m, s, i, 0, d, d, b, iv, tree, lcs, cols);
+    // the checking half has no total
+    let mut none = [0u8; 1];
     buffers::copy_part(hidden, 0, 48, lcs, 48 * d);
-    add_run(t, m, s, i, d + 1, rest, d, b, iv, tree, lcs, cols);
+    vector::add_entries(t, m, s, i, 1, d, b, iv, tree, lcs, &mut none[0..0], cols);
 }
 
 // Vector i, whose entry d is hidden.
@@ -125,7 +80,6 @@ pub fn convert(
         → Converted s b iv ch opening (now (tree .entry)) i (now (lcs .exit)) (now (cols .exit)) (now (hash .exit))) ⌝ }
 {
     let m = field::multiples(&keys[48 * i..48 * i + 48]);
-    buffers::clear_from(cols, 0);
     add_visible(t, &m, s, i, d, b, iv, tree, hidden, lcs, cols);
     hash_vector(lcs, d, hidden, hash);
 }

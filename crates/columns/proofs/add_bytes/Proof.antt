@@ -1,23 +1,18 @@
 -- The first j columns have the string added, the others are as they were.
-use mathlib.Core.Path.{_≡_, sym, ap, _∙_, subst}
+use mathlib.Core.Path.{_≡_, ap, subst}
 use mathlib.Core.List.{List}
-use Prim.Native.Nat.{ℕ, _*_, _-_, _≤_}
-use native.Mathlib.Nat.{add-zero}
+use Prim.Native.Nat.{ℕ, _+_, _*_, _-_, _≤_}
 use native.Mathlib.Omega.{arith}
 use lib.ListN.{getD}
 use Rattle.spec.specs.Bytes.{bit}
 use Rattle.laws.proofs.Concat.{mul-within}
-use Rattle.columns.specs.Columns.{placed, Xored, Added}
-use Rattle.columns.proofs.Adding.{Done, placed-in, done-none, done-more}
+use Rattle.columns.specs.Columns.{Xored, Added, Done}
+use Rattle.columns.proofs.Adding.{behind-start, done-none, done-more}
 use Rattle.columns.proofs.add_bytes.Statement.{statement}
 use Rattle.columns.proofs.add_bytes.Tie as tie
 
 abbrev added : ℕ → List ℕ → ℕ → ℕ → ℕ
 added number bytes j p = bit j number * getD bytes p 0
-
--- a string from byte 0 on
-from-start : (bytes : List ℕ) (p : ℕ) → getD bytes p 0 ≡ placed 0 bytes p
-from-start bytes p = sym (placed-in 0 bytes p (omega arith) ∙ ap (λ (n : ℕ). getD bytes n 0) (let z : p - 0 ≡ p = omega arith in z))
 
 abbrev Inv-loop : tie.InvT-loop
 Inv-loop cols₀ b k number bytes j₀ cols j = (j ≤ k) × Done b j (added number bytes) cols₀ cols
@@ -38,15 +33,18 @@ xor-bytes-requires c κs =
 
 loop-again : tie.Need-loop-again Inv-loop μ-loop
 loop-again c =
-    let g = c .before .before .before .before .before .before .before .before .args in
+    let start = c .before .before .before .before .before .before .before .before in
+    let g = start .args in
     let l = c .before .before .before .before .before .loop in
     let d = bit (l .j) (g .number) in
     let bytes = g .bytes .now in
+    let at = g .b * l .j in
+    let f : ℕ → ℕ = λ p. d * getD bytes (p - at) 0 in
     let new = c .before .before .xor-bytes .last .0 in (
       omega arith,
-      done-more (g .b) (l .j) 0 bytes (added (g .number) bytes) d (g .cols .now) (l .cols) new
-          (omega arith) (λ p hp. ap (λ (x : ℕ). d * x) (from-start bytes p)) (l .inv .1)
-          (subst (λ (n : ℕ). Xored (λ p. d * placed n bytes p) (l .cols) new) (sym (add-zero (g .b * l .j))) (c .before .before .xor-bytes .ensures)),
+      done-more (g .b) (l .j) (added (g .number) bytes) f (g .cols .now) (l .cols) new
+          (λ p hp. ap (λ (n : ℕ). d * getD bytes n 0) (behind-start at p)) (l .inv .1)
+          (subst (λ (n : ℕ). Xored at (at + n) f (l .cols) new) (start .pre .1) (c .before .before .xor-bytes .ensures)),
     )
 
 returns : tie.Need-returns Inv-loop μ-loop

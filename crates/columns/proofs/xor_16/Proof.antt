@@ -1,44 +1,32 @@
 -- The first i bytes of the block are xored in.
-use mathlib.Core.Path.{_≡_, subst}
-use Prim.Native.Nat.{ℕ, _*_, _-_, _≤_}
+use mathlib.Core.Path.{_≡_, ap, subst}
+use Prim.Native.Nat.{ℕ, _+_, _-_, _≤_}
 use native.Mathlib.Omega.{arith}
-use borrow.Author.Needs.{needs}
-use lib.ListN.{length, getD, take}
-use mir.Syntax.{w8}
-use mir.Val.{Fits}
-use Rattle.laws.proofs.Xor.{digit-mul-lt}
-use Rattle.columns.specs.Columns.{placed, Xored}
-use Rattle.columns.proofs.Adding.{xored-none, xored-more}
+use lib.ListN.{getD}
+use Rattle.columns.specs.Columns.{Xored}
+use Rattle.columns.proofs.Adding.{xored-none, xored-more, behind-start}
 use Rattle.columns.proofs.xor_16.Statement.{statement}
 use Rattle.columns.proofs.xor_16.Tie as tie
 
 abbrev Inv-loop : tie.InvT-loop
-Inv-loop d₀ at digit block i₀ d i = (i ≤ 16) × Xored (λ p. digit * placed at (take i block) p) d₀ d
+Inv-loop d₀ at block i₀ d i = (i ≤ 16) × Xored at (at + i) (λ p. getD block (p - at) 0) d₀ d
 
 abbrev μ-loop : tie.MeasureT-loop
-μ-loop d₀ at digit block i₀ d i = 16 - i
-
-mul-d : tie.Need-mul-d Inv-loop μ-loop
-mul-d c =
-    let st = c .before .before .before in
-    let fit : Fits w8 (getD (st .args .t4) (c .before .before .loop .i) 0) = search needs in
-    record { fits = digit-mul-lt 8 (st .args .digit) (getD (st .args .t4) (c .before .before .loop .i) 0) (omega arith) (fit .fits) }
+μ-loop d₀ at block i₀ d i = 16 - i
 
 loop-again : tie.Need-loop-again Inv-loop μ-loop
 loop-again c =
     let g = c .before .before .before .args in
     let l = c .before .before .loop in
-    let long : length (g .t4) ≡ 16 = search needs in (
-      omega arith,
-      xored-more (g .digit) (g .at) (g .t4) (g .d .now) (l .i) (l .d) (omega arith) (omega (arith, l .inv .1 .size)) (l .inv .1),
-    )
+    let f : ℕ → ℕ = λ p. getD (g .t3) (p - g .at) 0 in
+    (omega arith, xored-more (g .at) (l .i) _ f (g .d .now) (l .d) (omega (arith, l .inv .1 .size)) (ap (λ (n : ℕ). getD (g .t3) n 0) (behind-start (g .at) (l .i))) (l .inv .1))
 
 returns : tie.Need-returns Inv-loop μ-loop
 returns c =
     let g = c .before .before .args in
     let l = c .before .loop in
     let e : l .i ≡ 16 = omega arith in
-    subst (λ (i : ℕ). Xored (λ p. g .digit * placed (g .at) (take i (g .t4)) p) (g .d .now) (l .d)) e (l .inv .1)
+    subst (λ (i : ℕ). Xored (g .at) (g .at + i) (λ p. getD (g .t3) (p - g .at) 0) (g .d .now) (l .d)) e (l .inv .1)
 
 pub xor-16-spec : {M : Type 1} → statement M
 xor-16-spec =
@@ -46,15 +34,14 @@ xor-16-spec =
     (tie.spec
     Inv-loop
     μ-loop
-    (λ c. (omega arith, xored-none (c .args .digit) (c .args .at) (c .args .t4) (c .args .d .now)))
+    (λ c. (omega arith, xored-none _ _ _))
     (λ c. omega arith)
     (λ c. omega arith)
     (λ c. omega arith)
-    mul-d
     (λ c. omega arith)
     (λ c. omega arith)
     (λ c. omega arith)
     (λ c. omega arith)
     loop-again
-    (λ c. omega arith)
+    (λ c. c .before .loop .inv .1 .size)
     returns)

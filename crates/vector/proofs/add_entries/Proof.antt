@@ -1,145 +1,213 @@
--- `vector::add_entries` meets its contract. The loop's invariant: the first e commitments stand at the front, and the first e rows have been added.
--- The measure is the number of entries left.
+-- The last column is cleared at the start and between the halves, so that it has the sum of the rows of a half at the end of each.
 use borrow.Author.Needs.{needs}
 use mathlib.Core.Path.{_≡_, refl, sym, ap, _∙_}
-use mathlib.Core.List.{List, [], _++_}
-use Prim.Native.Nat.{ℕ, _+_, _-_, _*_, _≤_}
+use mathlib.Core.List.{List}
+use Prim.Native.Nat.{ℕ, _+_, _-_, _*_, _/_, _≤_}
+use native.Mathlib.Nat.{mul-le-mul}
 use native.Mathlib.Omega.{arith}
 use lib.Bits.{bitXor}
-use lib.ListN.{length, take, drop}
-use lib.Seq.{take-all}
-use Rattle.spec.specs.declared.Shape.{Shape}
-use Rattle.spec.specs.Bytes.{bit, concat, xorBelow}
-use Rattle.spec.specs.Shapes.{level, nodeBytes, leafCommitmentBytes, depthOf}
+use lib.ListN.{length, getD}
+use Rattle.spec.specs.Bytes.{part, bit}
 use Rattle.spec.specs.Primitives.{faest}
 use Rattle.spec.specs.Leaves.{leafKey, leafCommitment}
-use Rattle.spec.specs.Rows.{rowByte}
-use Rattle.laws.proofs.Lists.{length-part, length-tabulate}
-use Rattle.laws.proofs.Putting.{put-next}
-use Rattle.planning_laws.proofs.ShapeFacts.{shape-facts, entries-small}
-use Rattle.columns.specs.Columns.{Added}
-use Rattle.columns.proofs.Adding.{added-none, added-more}
+use Rattle.spec.specs.Rows.{rowByte, uByte}
+use Rattle.laws.proofs.Concat.{mul-within}
+use Rattle.columns.proofs.Adding.{added-then, added-same}
+use Rattle.columns.proofs.Running.{running-start, running-half, running-end, running-total}
+use Rattle.vector.proofs.Buffers.{lent, cleared-before, cleared-behind}
+use Rattle.vector.proofs.Numbers.{deep, height, height-small, whole-is, half-is, u-by-number, columns-by-number}
+use Rattle.vector.proofs.Entries.{written-then}
 use Rattle.vector.proofs.add_entries.Statement.{statement}
 use Rattle.vector.proofs.add_entries.Tie as tie
 
-module _ (s : Shape) (iv tree : List ℕ) (i from mask : ℕ) where
-  abbrev commitment : ℕ → List ℕ
-  commitment e = leafCommitment faest s iv i (leafKey s tree i (from + e))
+-- the end of the last column
+last-end : (b h n : ℕ) → n ≡ b * (h + 1) → b * h + b ≤ n
+last-end b h n e = omega (arith, mul-within b h (h + 1) (omega arith))
 
-  -- what entry e from `from` on adds to byte p of the xor of all rows, and of column j
-  abbrev toTotal : ℕ → ℕ → ℕ → ℕ
-  toTotal e j p = rowByte faest s iv tree i (from + e) p
+sub-h : tie.Need-sub-h
+sub-h c =
+    let start = c .before .before .before .before .before in
+    let g = start .args in
+    let p = start .pre .1 .0 in
+    let d = c .depth-of in
+    (let z = deep (g .s) (g .i) (d .result) (p .0) (d .ensures .0) in omega arith)
 
-  abbrev toColumn : ℕ → ℕ → ℕ → ℕ
-  toColumn e j p = bit j (bitXor (from + e) mask) * rowByte faest s iv tree i (from + e) p
-
-  length-commitment : (e : ℕ) → length (commitment e) ≡ 48
-  unfolding level nodeBytes leafCommitmentBytes leafCommitment
-  length-commitment e = rw length-tabulate
-
-abbrev Inv-loop : tie.InvT-loop
-Inv-loop t m s i from n mask b iv tree commitments₀ totals total₀ cols₀ e₀ commitments total cols e =
-    (e ≤ n) × (length commitments ≡ 48 * n) × (take (48 * e) commitments ≡ concat e (commitment s iv tree i from mask))
-    × Added b totals (λ j p. xorBelow e (λ x. toTotal s iv tree i from mask x j p)) total₀ total
-    × Added b (depthOf s i) (λ j p. xorBelow e (λ x. toColumn s iv tree i from mask x j p)) cols₀ cols
-
-abbrev μ-loop : tie.MeasureT-loop
-μ-loop t m s i from n mask b iv tree commitments₀ totals total₀ cols₀ e₀ commitments total cols e = n - e
-
-add-entry-of : tie.Need-add-add-entry Inv-loop μ-loop
-add-entry-of c =
+mul-last : tie.Need-mul-last
+mul-last c =
     let start = c .before .before .before .before .before .before in
-    let few = entries-small (start .args .s) (start .args .i) (shape-facts (start .args .s) (start .pre .1 .0 .0)) in
+    let g = start .args in
+    let p = start .pre .1 .0 in
+    let d = c .before .depth-of in
+    let m : g .b * (d .result - 1) ≤ 8192 * 11 = mul-le-mul (p .4) (height-small (g .s) (g .i) (d .result) (p .0) (d .ensures .0)) in
     omega arith
 
-add-entry-of-2 : tie.Need-add-add-entry-2 Inv-loop μ-loop
-add-entry-of-2 c =
-    let start = c .before .before .before .before .before .before in
-    let few = entries-small (start .args .s) (start .args .i) (shape-facts (start .args .s) (start .pre .1 .0 .0)) in
-    omega arith
-
-loop-holds : tie.Need-loop-holds Inv-loop μ-loop
-unfolding concat xorBelow
-loop-holds c =
-    let start = c .before .before .before .before in
-    let g = start .args in (
-      omega arith,
-      start .pre .1 .1 .0 .0,
-      refl,
-      added-none (g .b) (g .totals) (g .total .now) (λ j p. 0) (λ j p hj hp. refl),
-      added-none (g .b) (depthOf (g .s) (g .i)) (g .cols .now) (λ j p. 0) (λ j p hj hp. refl),
-    )
-
-add-entry-requires : tie.Need-add-entry-requires Inv-loop μ-loop
-add-entry-requires c κs =
-    let start = c .before .before .before .before .before .before .before .before .before in
-    let l = c .before .before .before .before .loop in
-    let one : 48 * l .e + 48 - 48 * l .e ≡ 48 = omega arith in (
+add-run-requires : tie.Need-add-run-requires
+add-run-requires c κs =
+    let start = c .before .before .before .before .before .before .before .before .before .before .before .before in
+    let g = start .args in
+    let p = start .pre .1 .0 in
+    let d = c .before .before .before .before .before .before .before .depth-of in
+    let n = c .before .before .before .before .before .before .entry-count in
+    let half = half-is (g .s) (g .i) (d .result) (p .0) (d .ensures .0) (n .result) (n .ensures .0) in
+    let h = d .result - 1 in
+    let high = height (g .s) (g .i) (d .result) (p .0) (d .ensures .0) in
+    let row : ℕ → ℕ → ℕ = λ x. rowByte faest (g .s) (g .iv) (g .tree .now) (g .i) (bitXor x (g .mask)) in
+    let q = start .pre .1 .1 .0 in
+    let new = c .before .before .before .before .clear-from .last .0 in
+    let size = c .before .before .before .before .clear-from .kept .0 ∙ q .2 ∙ ap (λ (m : ℕ). g .b * m) (sym high) in
+    let zero = cleared-behind 0 _ (g .cols .now) new (omega arith) (c .before .before .before .before .clear-from .ensures) in (
       start .pre .0,
       (
-        (start .pre .1 .0 .0, start .pre .1 .0 .1, omega arith, start .pre .1 .0 .3, start .pre .1 .0 .4),
-        (
-          (
-            length-part (l .commitments) (48 * l .e) (48 * l .e + 48 - 48 * l .e) (omega arith) ∙ one,
-            start .pre .1 .1 .0 .1,
-            l .inv .3 .size ∙ start .pre .1 .1 .0 .2,
-            l .inv .4 .size ∙ start .pre .1 .1 .0 .3,
-          ),
-          start .pre .1 .1 .1,
-        ),
+        (p .0, p .1, (let f = p .2 in let a = half .1 in omega arith), (let a = half .2 in let e = n .ensures .0 in omega arith), p .3, p .4, height-small (g .s) (g .i) (d .result) (p .0) (d .ensures .0), p .5),
+        ((q .0, running-start (g .b) h row (g .first) new (p .2) size (λ i. zero i (omega arith))), start .pre .1 .1 .1),
       ),
     )
 
-loop-again : tie.Need-loop-again Inv-loop μ-loop
-loop-again c =
-    let start = c .before .before .before .before .before .before .before .before .before .before .before .before .before .before .before .before in
-    let l = c .before .before .before .before .before .before .before .before .before .before .before .loop in
-    let made = c .before .before .before .before .before .before .add-entry .ensures in
+sub-add-bytes : tie.Need-sub-add-bytes
+sub-add-bytes c =
+    (let f = c .before .before .before .before .before .before .before .before .before .before .before .before .before .before .before .before .before .before .pre .1 .0 .2 in omega arith)
+
+add-add-bytes : tie.Need-add-add-bytes
+add-add-bytes c =
+    let start = c .before .before .before .before .before .before .before .before .before .before .before .before .before .before .before .before .before .before in
     let g = start .args in
-    let x = g .tree .now in
-    let at = 48 * l .e in
-    let next : 48 * (l .e + 1) ≡ at + 48 = omega arith in
-    let rest = drop (at + 48 - at) (drop at (l .commitments)) in
-    let f = commitment (g .s) (g .iv) x (g .i) (g .from) (g .mask) in
-    let long = length-commitment (g .s) (g .iv) x (g .i) (g .from) (g .mask) (l .e) in (
-      omega arith,
-      search needs,
-      rw (next, made .0) (put-next f [] 48 (l .e) at (l .commitments) (take at (l .commitments) ++ (f (l .e) ++ rest)) rest (omega arith) long (l .inv .2) refl),
-      added-more (g .b) (g .totals) (l .e) (toTotal (g .s) (g .iv) x (g .i) (g .from) (g .mask)) (g .total .now) (l .total) _ (l .inv .3) (made .1 .0),
-      added-more (g .b) (depthOf (g .s) (g .i)) (l .e) (toColumn (g .s) (g .iv) x (g .i) (g .from) (g .mask)) (g .cols .now) (l .cols) _ (l .inv .4) (made .1 .1),
+    let p = start .pre .1 .0 in
+    let d = c .before .before .before .before .before .before .before .before .before .before .before .before .before .depth-of in
+    let m : g .b * (d .result - 1) ≤ 8192 * 11 = mul-le-mul (p .4) (height-small (g .s) (g .i) (d .result) (p .0) (d .ensures .0)) in
+    (let b = p .4 in omega arith)
+
+part-add-bytes-end : tie.Need-part-add-bytes-end
+part-add-bytes-end c =
+    last-end (c .before .before .before .before .before .before .before .before .before .before .before .before .before .before .before .before .before .before .before .args .b) (c .before .before .before .before .before .before .before .before .before .before .before .before .before .before .depth-of .result - 1) (length (c .before .before .before .before .before .before .add-run .last .1 .1 .1 .1 .1 .1 .1 .1 .1 .1 .1 .1 .0)) (c .before .before .before .before .before .before .add-run .ensures .1 .size)
+
+add-bytes-requires : tie.Need-add-bytes-requires
+add-bytes-requires c κs =
+    let start = c .before .before .before .before .before .before .before .before .before .before .before .before .before .before .before .before .before .before .before .before in
+    let b = start .args .b in
+    let at = b * (c .before .before .before .before .before .before .before .before .before .before .before .before .before .before .before .depth-of .result - 1) in
+    (omega arith, lent at (at + b) b (c .before .before .before .before .before .before .before .add-run .last .1 .1 .1 .1 .1 .1 .1 .1 .1 .1 .1 .1 .0) refl (part-add-bytes-end (c .before)), start .pre .1 .1 .0 .1)
+
+clear-from-requires-2 : tie.Need-clear-from-requires-2
+clear-from-requires-2 c κs =
+    (let e = part-add-bytes-end (c .before .before .before .before .before) in omega arith)
+
+add-run-requires-2 : tie.Need-add-run-requires-2
+add-run-requires-2 c κs =
+    let start = c .before .before .before .before .before .before .before .before .before .before .before .before .before .before .before .before .before .before .before .before .before .before .before .before .before .before .before .before .before in
+    let g = start .args in
+    let p = start .pre .1 .0 in
+    let d = c .before .before .before .before .before .before .before .before .before .before .before .before .before .before .before .before .before .before .before .before .before .before .before .before .depth-of in
+    let n = c .before .before .before .before .before .before .before .before .before .before .before .before .before .before .before .before .before .before .before .before .before .before .before .entry-count in
+    let half = half-is (g .s) (g .i) (d .result) (p .0) (d .ensures .0) (n .result) (n .ensures .0) in
+    let h = d .result - 1 in
+    let high = height (g .s) (g .i) (d .result) (p .0) (d .ensures .0) in
+    let row : ℕ → ℕ → ℕ = λ x. rowByte faest (g .s) (g .iv) (g .tree .now) (g .i) (bitXor x (g .mask)) in
+    let first = c .before .before .before .before .before .before .before .before .before .before .before .before .before .before .before .before .add-run in
+    let old = first .last .1 .1 .1 .1 .1 .1 .1 .1 .1 .1 .1 .1 .0 in
+    let clear = c .before .before .before .before .clear-from2 in
+    let new = clear .last .0 in
+    let at : g .b * h ≤ length old = (let e = part-add-bytes-end (c .before .before .before .before .before .before .before .before .before .before) in omega arith) in
+    let cut = cleared-before (g .b * h) _ old new at (clear .ensures) in
+    let zero = cleared-behind (g .b * h) _ old new at (clear .ensures) in (
+      start .pre .0,
+      (
+        (p .0, p .1, half .2, (let e = n .ensures .0 in omega arith), p .3, p .4, height-small (g .s) (g .i) (d .result) (p .0) (d .ensures .0), p .5),
+        ((first .ensures .0 .size ∙ start .pre .1 .1 .0 .0, running-half (g .b) h row (g .first) (n .result / 2) old new (half .0) (first .ensures .1) (clear .kept .0) cut zero), start .pre .1 .1 .1),
+      ),
     )
 
-returns : tie.Need-returns Inv-loop μ-loop
-returns c =
-    let start = c .before .before .before .before .before .before in
-    let l = c .before .loop in
+sub-add-bytes-3 : tie.Need-sub-add-bytes-3
+sub-add-bytes-3 c =
+    (let f = c .before .before .before .before .before .before .before .before .before .before .before .before .before .before .before .before .before .before .before .before .before .before .before .before .before .before .before .before .before .before .before .before .before .before .before .pre .1 .0 .2 in omega arith)
+
+add-add-bytes-2 : tie.Need-add-add-bytes-2
+add-add-bytes-2 c =
+    let start = c .before .before .before .before .before .before .before .before .before .before .before .before .before .before .before .before .before .before .before .before .before .before .before .before .before .before .before .before .before .before .before .before .before .before .before in
     let g = start .args in
-    let x = g .tree .now in
-    let all : l .e ≡ g .n = omega arith in (
-      sym (take-all (48 * l .e) (l .commitments) (omega arith)) ∙ l .inv .2 ∙ ap (λ (n : ℕ). concat n (commitment (g .s) (g .iv) x (g .i) (g .from) (g .mask))) all,
-      (rw all at (l .inv .3), rw all at (l .inv .4)),
+    let p = start .pre .1 .0 in
+    let d = c .before .before .before .before .before .before .before .before .before .before .before .before .before .before .before .before .before .before .before .before .before .before .before .before .before .before .before .before .before .before .depth-of in
+    let m : g .b * (d .result - 1) ≤ 8192 * 11 = mul-le-mul (p .4) (height-small (g .s) (g .i) (d .result) (p .0) (d .ensures .0)) in
+    (let b = p .4 in omega arith)
+
+part-add-bytes-end-2 : tie.Need-part-add-bytes-end-2
+part-add-bytes-end-2 c =
+    last-end (c .before .before .before .before .before .before .before .before .before .before .before .before .before .before .before .before .before .before .before .before .before .before .before .before .before .before .before .before .before .before .before .before .before .before .before .before .args .b) (c .before .before .before .before .before .before .before .before .before .before .before .before .before .before .before .before .before .before .before .before .before .before .before .before .before .before .before .before .before .before .before .depth-of .result - 1) (length (c .before .before .before .before .before .before .add-run2 .last .1 .1 .1 .1 .1 .1 .1 .1 .1 .1 .1 .1 .0)) (c .before .before .before .before .before .before .add-run2 .ensures .1 .size)
+
+add-bytes-requires-2 : tie.Need-add-bytes-requires-2
+add-bytes-requires-2 c κs =
+    let start = c .before .before .before .before .before .before .before .before .before .before .before .before .before .before .before .before .before .before .before .before .before .before .before .before .before .before .before .before .before .before .before .before .before .before .before .before .before in
+    let b = start .args .b in
+    let at = b * (c .before .before .before .before .before .before .before .before .before .before .before .before .before .before .before .before .before .before .before .before .before .before .before .before .before .before .before .before .before .before .before .before .depth-of .result - 1) in
+    (omega arith, lent at (at + b) b (c .before .before .before .before .before .before .before .add-run2 .last .1 .1 .1 .1 .1 .1 .1 .1 .1 .1 .1 .1 .0) refl (part-add-bytes-end-2 (c .before)), c .before .before .before .before .before .before .before .before .before .before .before .before .before .before .before .before .add-bytes .ensures .size ∙ start .pre .1 .1 .0 .1)
+
+same-length : tie.Need-same-length
+same-length c =
+    c .before .before .before .before .before .before .before .before .before .before .add-run2 .ensures .0 .size ∙ c .before .before .before .before .before .before .before .before .before .before .before .before .before .before .before .before .before .before .before .before .before .before .before .before .before .before .before .add-run .ensures .0 .size
+
+same-length-2 : tie.Need-same-length-2
+same-length-2 c =
+    c .before .before .add-bytes2 .ensures .size ∙ c .before .before .before .before .before .before .before .before .before .before .before .before .before .before .before .before .before .before .before .add-bytes .ensures .size
+
+same-length-3 : tie.Need-same-length-3
+same-length-3 c =
+    c .before .before .before .before .before .before .before .before .before .before .add-run2 .kept .1 .1 .1 .1 .1 .1 .1 .1 .1 .1 .1 .1 .0 ∙ c .before .before .before .before .before .before .before .before .before .before .before .before .before .before .before .clear-from2 .kept .0 ∙ c .before .before .before .before .before .before .before .before .before .before .before .before .before .before .before .before .before .before .before .before .before .before .before .before .before .before .before .add-run .kept .1 .1 .1 .1 .1 .1 .1 .1 .1 .1 .1 .1 .0 ∙ c .before .before .before .before .before .before .before .before .before .before .before .before .before .before .before .before .before .before .before .before .before .before .before .before .before .before .before .before .before .before .before .before .clear-from .kept .0
+
+returns : tie.Need-returns
+returns c =
+    let start = c .before .before .before .before .before .before .before .before .before .before .before .before .before .before .before .before .before .before .before .before .before .before .before .before .before .before .before .before .before .before .before .before .before .before .before .before .before .before .before .before in
+    let g = start .args in
+    let p = start .pre .1 .0 in
+    let d = c .before .before .before .before .before .before .before .before .before .before .before .before .before .before .before .before .before .before .before .before .before .before .before .before .before .before .before .before .before .before .before .before .before .before .before .depth-of in
+    let n = c .before .before .before .before .before .before .before .before .before .before .before .before .before .before .before .before .before .before .before .before .before .before .before .before .before .before .before .before .before .before .before .before .before .before .entry-count in
+    let half = half-is (g .s) (g .i) (d .result) (p .0) (d .ensures .0) (n .result) (n .ensures .0) in
+    let h = d .result - 1 in
+    let high = height (g .s) (g .i) (d .result) (p .0) (d .ensures .0) in
+    let row : ℕ → ℕ → ℕ = λ x. rowByte faest (g .s) (g .iv) (g .tree .now) (g .i) (bitXor x (g .mask)) in
+    let one = c .before .before .before .before .before .before .before .before .before .before .before .before .before .before .before .before .before .before .before .before .before .before .before .before .before .before .before .add-run in
+    let two = c .before .before .before .before .before .before .before .before .before .before .add-run2 in
+    let x = one .last .1 .1 .1 .1 .1 .1 .1 .1 .1 .1 .1 .1 .0 in
+    let y = two .last .1 .1 .1 .1 .1 .1 .1 .1 .1 .1 .1 .1 .0 in
+    let at = g .b * h in
+    let f : ℕ → ℕ → ℕ = λ j p. bit j 1 * getD (part x at (at + g .b - at)) p 0 in
+    let f′ : ℕ → ℕ → ℕ = λ j p. bit j 1 * getD (part y at (at + g .b - at)) p 0 in
+    let own : ℕ → List ℕ = λ e. leafCommitment faest (g .s) (g .iv) (g .i) (leafKey (g .s) (g .tree .now) (g .i) e) in (
+      rw (n .ensures .0) at (written-then own (g .mask) (g .first) (n .result / 2) (n .result) (g .commitments .now) _ _ (let a = half .1 in let b = p .2 in omega arith) (one .ensures .0) (two .ensures .0)),
+      (
+        added-same (g .b) (1 - g .first) (λ j p. bitXor (f j p) (f′ j p)) (λ j p. uByte faest (g .s) (g .iv) (g .tree .now) (g .i) p) (g .total .now) _
+            (λ j q hj hq.
+            running-total (g .b) h row (g .first) (n .result / 2) (n .result) j q x y hj hq (one .ensures .1) (two .ensures .1)
+            ∙ u-by-number (g .s) (g .iv) (g .tree .now) (g .i) (g .mask) (p .3) (n .result) q (n .ensures .0))
+            (added-then (g .b) (1 - g .first) f f′ (g .total .now) _ _ (c .before .before .before .before .before .before .before .before .before .before .before .before .before .before .before .before .before .before .before .add-bytes .ensures) (c .before .before .add-bytes2 .ensures)),
+        running-end (g .b) h row (n .result / 2) (n .result) y (half .0) (whole-is (g .s) (g .i) (d .result) (p .0) (d .ensures .0) (n .result) (n .ensures .0)) (two .ensures .1)
+            ∙ columns-by-number (g .s) (g .iv) (g .tree .now) (g .i) (g .mask) (p .3) (g .b) (h + 1) (n .result) high (n .ensures .0),
+      ),
     )
 
 pub add-entries-spec : {M : Type 1} → statement M
 add-entries-spec =
     tie.close
     (tie.spec
-    Inv-loop
-    μ-loop
-    loop-holds
-    add-entry-of
-    add-entry-of-2
+    (λ c κs. search needs)
+    sub-h
+    (λ c κs. search needs)
+    mul-last
+    (λ c κs. search needs)
+    add-run-requires
+    sub-add-bytes
+    add-add-bytes
     (λ c. search needs)
     (λ c. search needs)
+    part-add-bytes-end
+    add-bytes-requires
+    clear-from-requires-2
+    add-run-requires-2
+    sub-add-bytes-3
+    add-add-bytes-2
     (λ c. search needs)
     (λ c. search needs)
-    (λ c. search needs)
-    (λ c. search needs)
-    add-entry-requires
-    (λ c. search needs)
-    (λ c. search needs)
-    loop-again
-    (λ c. search needs)
-    (λ c. c .before .loop .inv .3 .size)
-    (λ c. c .before .loop .inv .4 .size)
+    part-add-bytes-end-2
+    add-bytes-requires-2
+    same-length
+    same-length-2
+    same-length-3
     returns)

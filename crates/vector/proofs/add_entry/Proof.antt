@@ -1,6 +1,6 @@
 -- What `commit_leaf` and `add_row` ensure, of the leaf that `leaf_of` finds.
 use borrow.Author.Needs.{needs}
-use mathlib.Core.Path.{_≡_, sym, ap, ap₂, _∙_}
+use mathlib.Core.Path.{_≡_, ap, ap₂, _∙_}
 use Prim.Native.Nat.{ℕ, _+_, _-_, _*_}
 use native.Mathlib.Omega.{arith}
 use Rattle.spec.specs.Bytes.{part}
@@ -14,7 +14,7 @@ use Rattle.vector.proofs.add_entry.Tie as tie
 
 leaf-tweak-requires : tie.Need-leaf-tweak-requires
 leaf-tweak-requires c κs =
-    let start = c .before .before .before .before .before .before .before in
+    let start = c .before .before .before .before .before in
     let f = shape-facts (start .args .s) (start .pre .1 .0 .0) in
     (omega arith, omega arith)
 
@@ -24,43 +24,31 @@ part-commit-leaf-end c = omega arith
 
 add-add-row : tie.Need-add-add-row
 add-add-row c =
-    let start = c .before .before .before .before .before .before .before .before .before .before .before .before .before .before in
+    let start = c .before .before .before .before .before .before .before .before .before .before .before .before in
     let f = shape-facts (start .args .s) (start .pre .1 .0 .0) in
     omega arith
-
-add-row-requires : tie.Need-add-row-requires
-add-row-requires c κs =
-    let start = c .before .before .before .before .before .before .before .before .before .before .before .before .before .before .before .before in
-    let f = shape-facts (start .args .s) (start .pre .1 .0 .0) in
-    let d = c .before .before .before .before .before .before .before .before .before .before .before .depth-of .ensures in
-    (start .pre .0, (search needs, omega arith, d .1, start .pre .1 .1 .0 .1, start .pre .1 .1 .0 .2, start .pre .1 .1 .0 .3 ∙ ap (λ (n : ℕ). start .args .b * n) (sym (d .0))))
 
 returns : tie.Need-returns
 unfolding level nodeBytes keyWords faest nodeAt leafKey rowByte
 returns c =
-    let start = c .before .before .before .before .before .before .before .before .before .before .before .before .before .before .before .before .before .before .before .before .before in
+    let start = c .before .before .before .before .before .before .before .before .before .before .before .before .before .before .before .before in
     let g = start .args in
     let x = g .tree .now in
-    let leaf = c .before .before .before .before .before .before .before .before .before .before .before .before .before .before .before .leaf-of in
-    let count = c .before .before .before .before .before .before .before .before .before .before .before .before .before .before .leaf-count .ensures .0 in
-    let tweak = c .before .before .before .before .before .before .before .before .before .before .before .before .before .leaf-tweak .ensures in
-    let committed = c .before .before .before .before .before .before .before .before .before .before .commit-leaf .ensures in
+    let leaf = c .before .before .before .before .before .before .before .before .before .before .before .before .leaf-of in
+    let count = c .before .before .before .before .before .before .before .before .before .before .before .leaf-count .ensures .0 in
+    let tweak = c .before .before .before .before .before .before .before .before .before .before .leaf-tweak .ensures in
+    let committed = c .before .before .before .before .before .before .before .commit-leaf .ensures in
     let made = committed (g .s) (g .i) (tweak ∙ ap (λ (n : ℕ). g .i + n - 1) count) (start .pre .1 .1 .1) in
     let a = 16 * leaf .result in
     let one : a + 16 - a ≡ 16 = omega arith in
     let key = ap₂ (λ (n m : ℕ). part x (16 * n) m) (leaf .ensures .0) one in
     let seed = made .0 ∙ ap (leafSeed faest (g .s) (g .iv) (g .i)) key in
-    let deep = c .before .before .before .before .before .before .before .before .before .before .before .before .before .before .before .before .depth-of .ensures .0 in
-    let row = c .before .before .before .before .add-row in (
-      made .1 ∙ ap (leafCommitment faest (g .s) (g .iv) (g .i)) key,
-      (rw seed at (row .ensures .0), rw (seed, deep) at (row .ensures .1)),
-    )
+    (made .1 ∙ ap (leafCommitment faest (g .s) (g .iv) (g .i)) key, rw seed at (c .before .before .add-row .ensures))
 
 pub add-entry-spec : {M : Type 1} → statement M
 add-entry-spec =
     tie.close
     (tie.spec
-    (λ c κs. search needs)
     (λ c κs. search needs)
     (λ c. search needs)
     (λ c κs. search needs)
@@ -73,8 +61,7 @@ add-entry-spec =
     (λ c. search needs)
     (λ c. search needs)
     add-add-row
-    add-row-requires
-    (λ c. search needs)
+    (λ c κs. search needs)
     (λ c. search needs)
     (λ c. search needs)
     returns)

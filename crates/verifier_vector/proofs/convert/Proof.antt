@@ -1,22 +1,25 @@
 -- The promises of its parts, with the hidden commitment of the opening in its place.
 use borrow.Author.Needs.{needs}
-use mathlib.Core.Path.{_≡_, sym, ap, ap₂, _∙_, subst}
-use mathlib.Core.List.{List, _++_}
+use mathlib.Core.Path.{_≡_, ap, ap₂, _∙_, subst}
+use mathlib.Core.List.{List}
 use Prim.Native.Nat.{ℕ, _+_, _-_, _*_}
 use native.Mathlib.Omega.{arith}
 use lib.Bits.{bitXor}
-use lib.ListN.{length, take, drop}
+use lib.ListN.{length}
+use Rattle.spec.specs.declared.Shape.{Shape}
 use Rattle.spec.specs.Bytes.{part, tabulate, concat, number}
 use Rattle.spec.specs.Hashes.{hash1}
 use Rattle.spec.specs.Shapes.{level, nodeBytes, leafCommitmentBytes, hashBytes, rate, depthOf, entriesOf}
 use Rattle.spec.specs.Primitives.{faest}
-use Rattle.spec.specs.Leaves.{hashKey, leafKey, leafCommitment, vectorHash}
+use Rattle.spec.specs.Leaves.{hashKey, leafKey, leafCommitment, vectorCommitments, vectorHash}
 use Rattle.spec.specs.Rows.{columnByte}
+use Rattle.spec.specs.Verifier.{verifierLeafCommitment}
+use Rattle.laws.proofs.Lists.{length-tabulate}
 use Rattle.planning_laws.proofs.ShapeFacts.{shape-facts}
 use Rattle.field.specs.Field.{p384, Multiples}
 use Rattle.vector.proofs.HashKeys.{h0-length}
-use Rattle.vector.proofs.Buffers.{cleared-columns}
-use Rattle.verifier_vector.proofs.Hidden.{given-commitments, hashed-whole, own-run, from-zero}
+use Rattle.verifier_vector.specs.Vector.{given}
+use Rattle.verifier_vector.proofs.Hidden.{hashed-whole}
 use Rattle.verifier_vector.proofs.convert.Statement.{statement}
 use Rattle.verifier_vector.proofs.convert.Tie as tie
 
@@ -38,50 +41,43 @@ part-multiples-end c =
 add-visible-requires : tie.Need-add-visible-requires
 unfolding level nodeBytes leafCommitmentBytes hashKey
 add-visible-requires c κs =
-    let start = c .before .before .before .before .before .before .before .before .before .before .before .before .before .before .before in
+    let start = c .before .before .before .before .before .before .before .before .before .before .before in
     let g = start .args in
     let p = start .pre in
     let at = 48 * g .i in
     let one : at + 48 - at ≡ 48 = omega arith in
     let key : part (g .keys .now) at (at + 48 - at) ≡ part (faest .h0 (g .s) (g .iv) (48 * g .s .tau)) at 48 = ap₂ (λ (x : List ℕ) (n : ℕ). part x at n) (p .1 .0 .4) one in
-    let m = subst (λ (x : List ℕ). Multiples 384 p384 (number 8 x) (c .before .before .before .before .before .before .before .multiples .result)) key (c .before .before .before .before .before .before .before .multiples .ensures) in (
+    let made = c .before .before .before .multiples in (
       p .0,
       (
         (p .1 .0 .0, p .1 .0 .1, p .1 .0 .2, p .1 .0 .3, p .1 .0 .5),
-        ((p .1 .1 .0, p .1 .1 .1, c .before .before .before .before .before .clear-from .kept .0 ∙ p .1 .1 .2), m),
+        ((p .1 .1 .0, p .1 .1 .1, p .1 .1 .2), subst (λ (x : List ℕ). Multiples 384 p384 (number 8 x) (made .result)) key (made .ensures)),
       ),
     )
 
+-- a leaf commitment has 48 bytes
+own-size : (s : Shape) (iv tree : List ℕ) (i e : ℕ) → length (leafCommitment faest s iv i (leafKey s tree i e)) ≡ 48
+unfolding level nodeBytes leafCommitmentBytes leafCommitment
+own-size s iv tree i e = rw length-tabulate
+
 returns : tie.Need-returns
-unfolding level nodeBytes hashBytes rate faest vectorHash
+unfolding level nodeBytes hashBytes rate faest vectorCommitments vectorHash verifierLeafCommitment
 returns c ch opening hd hh =
-    let start = c .before .before .before .before .before .before .before .before .before .before .before .before .before .before .before .before .before .before .before .before .before .before .before .before .before in
+    let start = c .before .before .before .before .before .before .before .before .before .before .before .before .before .before .before .before .before .before .before .before .before in
     let g = start .args in
     let p = start .pre in
     let s = g .s in
     let x = g .tree .now in
-    let d = g .d in
-    let h = p .1 .0 .2 in
-    let r = entriesOf s (g .i) - d - 1 in
-    let hidden = g .hidden .now in
-    let made = c .before .before .before .before .before .before .before .before .before .add-visible .ensures in
-    let y : List ℕ = concat d (λ e. leafCommitment faest s (g .iv) (g .i) (leafKey s x (g .i) e)) in
-    let z : List ℕ = concat r (λ e. leafCommitment faest s (g .iv) (g .i) (leafKey s x (g .i) (d + 1 + e))) in
-    let lcs : List ℕ = c .before .before .before .before .before .before .before .before .before .add-visible .last .1 .1 .1 .1 .1 .1 .1 .1 .1 .0 in
-    let cols : List ℕ = c .before .before .before .before .before .before .before .before .before .add-visible .last .1 .1 .1 .1 .1 .1 .1 .1 .1 .1 .0 in
-    let all : d + (1 + r) ≡ entriesOf s (g .i) = omega arith in
-    let given = made .0 ∙ ap (λ (v : List ℕ). y ++ (v ++ z)) hh ∙ given-commitments s (g .iv) ch opening x (g .i) d hd r all in
-    let long : length y ≡ 48 * d = sym (ap length (from-zero s (g .iv) x (g .i) d)) ∙ own-run s (g .iv) x (g .i) 0 d in
-    let message : take (48 * d) lcs ++ (hidden ++ drop (48 * d + 48) lcs) ≡ lcs =
-    ap (λ (v : List ℕ). take (48 * d) v ++ (hidden ++ drop (48 * d + 48) v)) (made .0) ∙ hashed-whole (48 * d) 48 y hidden z long (p .1 .1 .0) ∙ sym (made .0)
-    in
+    let n = entriesOf s (g .i) in
+    let made = c .before .before .before .before .before .before .before .before .before .add-visible in
+    let lcs : List ℕ = made .last .1 .1 .1 .1 .1 .1 .1 .1 .1 .0 in
+    let own : ℕ → List ℕ = λ e. leafCommitment faest s (g .iv) (g .i) (leafKey s x (g .i) e) in
+    let leaves = made .ensures .0 ∙ ap₂ (λ (v : List ℕ) (m : ℕ). concat n (given v own m)) hh hd in
+    let message = hashed-whole (g .hidden .now) own (g .d) n lcs (p .1 .0 .2) (p .1 .1 .0) (own-size s (g .iv) x (g .i)) (made .ensures .0) in
     record {
-      leaves = given;
-      columns =
-          cleared-columns (g .b) (depthOf s (g .i)) (length (g .cols .now) - 0) (columnByte faest s (g .iv) x (λ e. bitXor e d) (g .i)) (c .before .before .before .before .before .before .before .before .before .before .before .before .before .before .before .clear-from .last .0) cols
-          (c .before .before .before .before .before .before .before .before .before .before .before .before .before .before .before .clear-from .kept .0 ∙ p .1 .1 .2) (c .before .before .before .before .before .before .before .before .before .before .before .before .before .before .before .clear-from .ensures) (made .1)
-          ∙ ap (λ (n : ℕ). concat (depthOf s (g .i)) (λ j. tabulate (g .b) (columnByte faest s (g .iv) x (λ e. bitXor e n) (g .i) j))) hd;
-      digest = c .before .before .hash-vector .ensures ∙ ap₂ (λ (v : List ℕ) (n : ℕ). hash1 168 v n) (message ∙ given) (p .1 .1 .3);
+      leaves = leaves;
+      columns = made .ensures .1 ∙ ap (λ (m : ℕ). concat (depthOf s (g .i)) (λ j. tabulate (g .b) (columnByte faest s (g .iv) x (λ e. bitXor e m) (g .i) j))) hd;
+      digest = c .before .before .hash-vector .ensures ∙ ap₂ (λ (v : List ℕ) (m : ℕ). hash1 168 v m) (message ∙ leaves) (p .1 .1 .3);
     }
 
 pub convert-spec : {M : Type 1} → statement M
@@ -94,7 +90,6 @@ convert-spec =
     (λ c. search needs)
     (λ c. search needs)
     part-multiples-end
-    (λ c κs. search needs)
     (λ c κs. search needs)
     add-visible-requires
     (λ c κs. search needs)
