@@ -1,0 +1,8 @@
+-- What the definitions compute, and laws of records.
+pub mod Examples
+pub mod Numbers
+pub mod Fields
+pub mod Bounds
+pub mod Refusals
+pub mod ReadBack
+pub mod Reconstructing

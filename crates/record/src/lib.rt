@@ -1,0 +1,9 @@
+// A signing record, document 02, E6: the definitions stand in ../specs, laws in ../proofs.
+
+// The lengths of the work buffers that a record asks for, with the number of the refusal of its front, or 0.
+pub struct Lengths {
+    pub number: usize,
+    pub tree: usize,
+    pub leaf_commitments: usize,
+    pub q: usize,
+}
