@@ -4,5 +4,6 @@ pub mod Numbers
 pub mod Fields
 pub mod Bounds
 pub mod Refusals
+pub mod SameBytes
 pub mod ReadBack
 pub mod Reconstructing
