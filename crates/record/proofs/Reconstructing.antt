@@ -7,17 +7,15 @@ use mathlib.Core.List.{List, [], _∷_}
 use lib.Dec.{eqb}
 use lib.ListN.{length}
 use borrow.Author.Tests.{eq-eqb, ne-eqb}
+use Rattle.spec.specs.declared.Shape.{Shape}
 use Rattle.spec.specs.declared.Answer.{Answer}
 use Rattle.spec.specs.Shapes.{resolved, shapeOk, hashBytes, grindingOk, plannedCount}
 use Rattle.spec.specs.Primitives.{Primitives}
 use Rattle.spec.specs.Verifier.{slotsOk}
 use Rattle.spec.specs.Calls.{firstRefusal, fits, rowOk, nodesOk, countWith, written, Reconstructed, reconstructLengths, reconstructNumber, Reconstruct}
 use Rattle.record.specs.Record.{Contents, contentsOf, readNumber}
-use Rattle.record.specs.RecordCalls.{Work, workLengths, workOf, fieldsNumber, made}
+use Rattle.record.specs.RecordCalls.{Work, workLengths, workOf, Reconstructs, fieldsNumber, made}
 use Rattle.record.proofs.ReadBack.{read-shape, read-row, read-sized}
-
-abbrev pub Reconstructs : Primitives → Contents → Reconstructed → Reconstructed → Answer → Type 0
-Reconstructs P c before after r = Reconstruct P (c .shape) (c .row) (c .iv) (c .challenge) (c .corrections) (c .opening) before after r
 
 abbrev countOf : Contents → ℕ
 countOf c = plannedCount (resolved (c .shape)) (c .challenge)
@@ -38,6 +36,18 @@ module _ (P : Primitives) (c : Contents) (x y : Reconstructed) (a : Answer) (w :
 
   pub ran-kept : (a .number ≡ 0 → ⊥) → y ≡ x
   ran-kept n = w .buffers ∙ rw (ne-eqb (a .number) 0 n) refl
+
+-- with arguments that are the fields
+pub on-fields : (P : Primitives) (c : Contents) {s : Shape} {n : ℕ} {iv ch cs op : List ℕ} {x y : Reconstructed} {a : Answer}
+    → s ≡ c .shape
+    → n ≡ c .row
+    → iv ≡ c .iv
+    → ch ≡ c .challenge
+    → cs ≡ c .corrections
+    → op ≡ c .opening
+    → Reconstruct P s n iv ch cs op x y a
+    → Reconstructs P c x y a
+on-fields P c e₁ e₂ e₃ e₄ e₅ e₆ w = rw (e₁, e₂, e₃, e₄, e₅, e₆) at w
 
 -- it answers
 pub reconstructs : (P : Primitives) (c : Contents) (x : Reconstructed)

@@ -11,7 +11,7 @@ use Rattle.spec.specs.declared.Answer.{Answer}
 use Rattle.spec.specs.Bytes.{zeros}
 use Rattle.spec.specs.Shapes.{resolved, shapeOk, challengeBytes, hashBytes, ivBytes, treeBytes, leafCommitmentsBytes, openingBytes, matrixBytes, correctionsBytes, plannedCount}
 use Rattle.spec.specs.Primitives.{Primitives}
-use Rattle.spec.specs.Calls.{firstRefusal, fits, rowOk, countWith, written, Reconstructed, reconstructed, reconstructNumber}
+use Rattle.spec.specs.Calls.{firstRefusal, fits, rowOk, countWith, written, Reconstructed, reconstructed, reconstructNumber, Reconstruct}
 use Rattle.record.specs.declared.Lengths.{Lengths}
 use Rattle.record.specs.Record.{recordBytes, Contents, contentsOf, headNumber, readNumber, recordOf}
 
@@ -44,11 +44,15 @@ lent c x = record { commitment = zeros (hashBytes (resolved (c .shape))); tree =
 abbrev pub workOf : Reconstructed → Work
 workOf y = record { tree = y .tree; leafCommitments = y .leafCommitments; q = y .q }
 
--- what reconstruct answers of the fields and its buffers
+-- the contract of reconstruct on the fields
+abbrev pub Reconstructs : Primitives → Contents → Reconstructed → Reconstructed → Answer → Type 0
+Reconstructs P c before after r = Reconstruct P (c .shape) (c .row) (c .iv) (c .challenge) (c .corrections) (c .opening) before after r
+
+-- what it answers of them and its buffers
 unfoldable pub fieldsNumber : Contents → Reconstructed → ℕ
 fieldsNumber c x = reconstructNumber (resolved (c .shape)) (c .row) (c .iv) (c .challenge) (c .corrections) (c .opening) x
 
--- what it makes of the fields
+-- what it makes of them
 unfoldable pub made : Primitives → Contents → Reconstructed
 made P c = reconstructed P (resolved (c .shape)) (c .row / 8) (c .iv) (c .challenge) (c .corrections) (c .opening)
 
