@@ -9,12 +9,15 @@ use lib.ListN.{length}
 use borrow.Author.Tests.{eq-eqb, ne-eqb}
 use Rattle.spec.specs.declared.Shape.{Shape}
 use Rattle.spec.specs.declared.Answer.{Answer}
-use Rattle.spec.specs.Shapes.{resolved, shapeOk, hashBytes, grindingOk, plannedCount}
+use Rattle.spec.specs.Shapes.{resolved, shapeOk, ivBytes, challengeBytes, hashBytes, openingBytes, correctionsBytes, grindingOk, plannedCount}
 use Rattle.spec.specs.Primitives.{Primitives}
 use Rattle.spec.specs.Verifier.{slotsOk}
 use Rattle.spec.specs.Calls.{firstRefusal, fits, rowOk, nodesOk, countWith, written, Reconstructed, reconstructLengths, reconstructNumber, Reconstruct}
+use Rattle.laws.specs.Lengths.{Sized}
+use Rattle.laws.proofs.Lengths.{fits-sized}
 use Rattle.record.specs.Record.{Contents, contentsOf, readNumber}
 use Rattle.record.specs.RecordCalls.{Work, workLengths, workOf, Reconstructs, fieldsNumber, made}
+use Rattle.record.proofs.Refusals.{none-failed}
 use Rattle.record.proofs.ReadBack.{read-shape, read-row, read-sized}
 
 abbrev countOf : Contents → ℕ
@@ -98,3 +101,28 @@ open-decide rec x ok e =
       eq-eqb _ _ e,
     )
     refl
+
+-- where it is 0 the shape and the row length are allowed and the fields have their lengths
+pub fields-fit : (c : Contents) (x : Reconstructed) → fieldsNumber c x ≡ 0
+    → (shapeOk (resolved (c .shape)) ≡ true)
+    × (rowOk (c .row) ≡ true)
+    × Sized
+    ((length (c .iv), ivBytes)
+    ∷ (length (c .challenge), challengeBytes (resolved (c .shape)))
+    ∷ (length (c .corrections), correctionsBytes (resolved (c .shape)) (c .row / 8))
+    ∷ (length (c .opening), openingBytes (resolved (c .shape)))
+    ∷ [])
+unfolding fieldsNumber reconstructNumber
+fields-fit c x z =
+    let s = resolved (c .shape) in
+    let lengths = reconstructLengths s (c .row / 8) (c .iv) (c .challenge) (c .corrections) (c .opening) x in
+    let t = none-failed
+    ((shapeOk s, 1)
+    ∷ (rowOk (c .row), 2)
+    ∷ (fits lengths, 3)
+    ∷ (grindingOk s (c .challenge), 4)
+    ∷ (nodesOk s (c .challenge), 5)
+    ∷ (slotsOk s (c .challenge) (c .opening), 6)
+    ∷ []) (refl, (refl, (refl, (refl, (refl, (refl, tt)))))) z in
+    let q = fits-sized lengths (t .1 .1 .0) in
+    (t .0, t .1 .0, (q .0, (q .1 .0, (q .1 .1 .0, (q .1 .1 .1 .0, tt)))))
