@@ -13,6 +13,7 @@ use Rattle.spec.specs.Shapes.{resolved, shapeOk, challengeBytes, hashBytes, ivB
 use Rattle.spec.specs.Primitives.{Primitives}
 use Rattle.spec.specs.Calls.{firstRefusal, fits, rowOk, countWith, written, Reconstructed, reconstructed, reconstructNumber, Reconstruct}
 use Rattle.record.specs.declared.Lengths.{Lengths}
+use Rattle.record.specs.declared.RecordLength.{RecordLength}
 use Rattle.record.specs.Record.{recordBytes, Contents, contentsOf, headNumber, readNumber, recordOf}
 
 -- ---- the work buffers, lent to check_record
@@ -78,6 +79,12 @@ pub record CheckRecord (P : Primitives) (rec : List ℕ) (before after : Work) (
   pub number : r .number ≡ recordNumber P rec before
   pub count : r .count ≡ countWith (answered (r .number)) (plannedCount (resolved (contentsOf rec .shape)) (contentsOf rec .challenge))
   pub buffers : after ≡ written (answered (r .number)) (workOf (made P (contentsOf rec))) before
+
+-- ---- record_length: how long a record is
+
+pub record LengthOf (s : Shape) (n : ℕ) (r : RecordLength) : Type 0 where
+  pub number : r .number ≡ firstRefusal ((shapeOk (resolved s), 1) ∷ (rowOk n, 2) ∷ [])
+  pub bytes : r .bytes ≡ written (r .number) (recordBytes (resolved s) (n / 8)) 0
 
 -- ---- write_record
 

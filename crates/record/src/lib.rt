@@ -7,3 +7,9 @@ pub struct Lengths {
     pub leaf_commitments: usize,
     pub q: usize,
 }
+
+// The length of the record of a shape and a row length, with the number of the refusal, or 0.
+pub struct RecordLength {
+    pub number: usize,
+    pub bytes: usize,
+}

@@ -1,4 +1,4 @@
-// The record maker's public call: write_record. Nothing here depends on either half.
+// The record maker's public calls: write_record, and how long a record is. Nothing here depends on either half.
 ghost use mathlib.Core.Path.{_≡_};
 ghost use mathlib.Core.Bool.{true};
 ghost use mathlib.Core.List.{[], _∷_};
@@ -8,8 +8,9 @@ ghost use Rattle.spec.specs.Shapes.{resolved, shapeOk, openingBytes, correction
 ghost use Rattle.spec.specs.Calls.{fits};
 ghost use Rattle.record.specs.Fields.{bigEndianBytes, fieldOf};
 ghost use Rattle.record.specs.Record.{recordBytes, headFor, recordOf};
-ghost use Rattle.record.specs.RecordCalls.{WriteRecord};
+ghost use Rattle.record.specs.RecordCalls.{LengthOf, WriteRecord};
 ghost use Rattle.record_writer.specs.Put.{Put};
+use record::RecordLength;
 use spec::Answer;
 use spec::Shape;
 
@@ -19,45 +20,35 @@ fn low_byte(n: usize) -> u8
     (n % 256) as u8
 }
 
-fn put_byte(out: &mut [u8], at: usize, b: u8)
-    requires { ⌜ at < length (now out) ⌝ }
-    ensures { λ _. ⌜ Put (b ∷ []) at (now (out .entry)) (now (out .exit)) ⌝ }
+// A number in four bytes, the greatest first.
+fn four_bytes(n: usize) -> [u8; 4]
+    ensures { λ r. ⌜ r ≡ bigEndianBytes 4 n ⌝ }
 {
-    out[at] = b;
+    [
+        low_byte(n / 16777216),
+        low_byte(n / 65536),
+        low_byte(n / 256),
+        low_byte(n),
+    ]
 }
 
-// A number in two bytes, the greatest first.
-fn put_two(out: &mut [u8], at: usize, n: usize)
-    requires { ⌜ at + 2 ≤ length (now out) ⌝ }
-    ensures { λ _. ⌜ Put (bigEndianBytes 2 n) at (now (out .entry)) (now (out .exit)) ⌝ }
+// The head: the shape as given, and the row length.
+fn head_of(s: Shape, n: usize) -> [u8; 9]
+    requires { ⌜ shapeOk (resolved s) ≡ true ⌝ }
+    ensures { λ r. ⌜ r ≡ headFor s n ⌝ }
 {
-    put_byte(out, at, low_byte(n / 256));
-    put_byte(out, at + 1, low_byte(n));
-}
-
-// A number in four bytes.
-fn put_four(out: &mut [u8], at: usize, n: usize)
-    requires { ⌜ at + 4 ≤ length (now out) ⌝ }
-    ensures { λ _. ⌜ Put (bigEndianBytes 4 n) at (now (out .entry)) (now (out .exit)) ⌝ }
-{
-    put_byte(out, at, low_byte(n / 16777216));
-    put_byte(out, at + 1, low_byte(n / 65536));
-    put_byte(out, at + 2, low_byte(n / 256));
-    put_byte(out, at + 3, low_byte(n));
-}
-
-// The version byte and the head.
-fn put_front(out: &mut [u8], s: Shape, n: usize)
-    requires { ⌜ (shapeOk (resolved s) ≡ true) × (14 ≤ length (now out)) ⌝ }
-    ensures { λ _. ⌜ Put (1 ∷ fieldOf (headFor s n)) 0 (now (out .entry)) (now (out .exit)) ⌝ }
-{
-    put_byte(out, 0, 1);
-    put_four(out, 1, 9);
-    put_byte(out, 5, low_byte(s.tau));
-    put_byte(out, 6, low_byte(s.k));
-    put_byte(out, 7, low_byte(s.w));
-    put_two(out, 8, s.t);
-    put_four(out, 10, n);
+    let row = four_bytes(n);
+    [
+        low_byte(s.tau),
+        low_byte(s.k),
+        low_byte(s.w),
+        low_byte(s.t / 256),
+        low_byte(s.t),
+        row[0],
+        row[1],
+        row[2],
+        row[3],
+    ]
 }
 
 // A field; answers the place behind it.
@@ -65,9 +56,28 @@ fn put_field(out: &mut [u8], at: usize, bytes: &[u8]) -> usize
     requires { ⌜ at + 4 + length (now bytes) ≤ length (now out) ⌝ }
     ensures { λ r. ⌜ (r ≡ at + 4 + length (now (bytes .entry))) × Put (fieldOf (now (bytes .entry))) at (now (out .entry)) (now (out .exit)) ⌝ }
 {
-    put_four(out, at, bytes.len());
+    let length = four_bytes(bytes.len());
+    buffers::copy_part(&length, 0, 4, out, at);
     buffers::copy_part(bytes, 0, bytes.len(), out, at + 4);
     at + 4 + bytes.len()
+}
+
+// The version byte.
+fn put_version(out: &mut [u8])
+    requires { ⌜ 0 < length (now out) ⌝ }
+    ensures { λ _. ⌜ Put (1 ∷ []) 0 (now (out .entry)) (now (out .exit)) ⌝ }
+{
+    out[0] = 1;
+}
+
+// The version byte and the head.
+fn put_front(out: &mut [u8], s: Shape, n: usize)
+    requires { ⌜ (shapeOk (resolved s) ≡ true) × (14 ≤ length (now out)) ⌝ }
+    ensures { λ _. ⌜ Put (1 ∷ fieldOf (headFor s n)) 0 (now (out .entry)) (now (out .exit)) ⌝ }
+{
+    let head = head_of(s, n);
+    put_version(out);
+    put_field(out, 1, &head);
 }
 
 // The record, part by part.
@@ -114,6 +124,29 @@ fn write_lengths(
         & ((challenge == 16)
             & ((corrections == c)
                 & ((opening == o) & ((commitment == 32) & ((record == n) & true)))))
+}
+
+// RECORD LENGTH: how many bytes a record has, or the number with which its shape or its row length is refused.
+pub fn record_length(shape: Shape, row_bits: usize) -> RecordLength
+    ensures { λ r. ⌜ LengthOf shape «row_bits» r ⌝ }
+{
+    let s = rules::resolve(shape);
+    if !rules::is_shape(s) {
+        return RecordLength {
+            number: 1,
+            bytes: 0,
+        };
+    }
+    if !rules::is_row_length(row_bits) {
+        return RecordLength {
+            number: 2,
+            bytes: 0,
+        };
+    }
+    RecordLength {
+        number: 0,
+        bytes: record_fields::record_length(s, row_bits / 8),
+    }
 }
 
 // WRITE RECORD: the record of a shape, a row length and the other fields. Every test comes before the first write.

@@ -14,7 +14,9 @@ returns c = rw (failed (c .before .version-ok .ensures) (c .if1 .taken)) refl
 
 returns-2 : tie.Need-returns-2
 unfolding headNumber
-returns-2 c = rw (passed (c .before .before .before .version-ok .ensures) (c .before .before .if1 .left), failed (c .before .field-fits .ensures) (c .if2 .taken)) refl
+returns-2 c =
+    let fi = c .before in
+    rw (passed (fi .before .before .version-ok .ensures) (fi .before .if1 .left), failed (fi .field-fits .ensures) (c .if2 .taken)) refl
 
 shape-of-requires : tie.Need-shape-of-requires
 shape-of-requires c κs = passed (c .before .field-fits .ensures) (c .if2 .left)
@@ -22,25 +24,47 @@ shape-of-requires c κs = passed (c .before .field-fits .ensures) (c .if2 .left)
 returns-3 : tie.Need-returns-3
 unfolding headNumber
 returns-3 c =
-    let s = c .before .is-shape .ensures ∙ ap shapeOk (c .before .before .resolve .ensures ∙ ap resolved (c .before .before .before .shape-of .ensures)) in
-    rw (passed (c .before .before .before .before .before .before .before .version-ok .ensures) (c .before .before .before .before .before .before .if1 .left), passed (c .before .before .before .before .before .field-fits .ensures) (c .before .before .before .before .if2 .left), failed s (c .if3 .taken)) refl
+    let sh = c .before in
+    let fi = sh .before .before .before .before in
+    let s = sh .is-shape .ensures ∙ ap shapeOk (sh .before .resolve .ensures ∙ ap resolved (sh .before .before .shape-of .ensures)) in
+    rw (passed (fi .before .before .version-ok .ensures) (fi .before .if1 .left), passed (fi .field-fits .ensures) (sh .before .before .before .if2 .left), failed s (c .if3 .taken)) refl
 
 row-of-requires : tie.Need-row-of-requires
-row-of-requires c κs = passed (c .before .before .before .before .before .field-fits .ensures) (c .before .before .before .before .if2 .left)
+row-of-requires c κs =
+    let sh = c .before in
+    passed (sh .before .before .before .before .field-fits .ensures) (sh .before .before .before .if2 .left)
 
 returns-4 : tie.Need-returns-4
 unfolding headNumber
 returns-4 c =
-    let s = c .before .before .before .before .is-shape .ensures ∙ ap shapeOk (c .before .before .before .before .before .resolve .ensures ∙ ap resolved (c .before .before .before .before .before .before .shape-of .ensures)) in
-    let n = c .before .is-row-length .ensures ∙ ap rowOk (c .before .before .row-of .ensures) in
-    rw (passed (c .before .before .before .before .before .before .before .before .before .before .version-ok .ensures) (c .before .before .before .before .before .before .before .before .before .if1 .left), passed (c .before .before .before .before .before .before .before .before .field-fits .ensures) (c .before .before .before .before .before .before .before .if2 .left), passed s (c .before .before .before .if3 .left), failed n (c .if4 .taken)) refl
+    let ro = c .before in
+    let sh = ro .before .before .before in
+    let fi = sh .before .before .before .before in
+    let s = sh .is-shape .ensures ∙ ap shapeOk (sh .before .resolve .ensures ∙ ap resolved (sh .before .before .shape-of .ensures)) in
+    let n = ro .is-row-length .ensures ∙ ap rowOk (ro .before .row-of .ensures) in
+    rw (
+      passed (fi .before .before .version-ok .ensures) (fi .before .if1 .left),
+      passed (fi .field-fits .ensures) (sh .before .before .before .if2 .left),
+      passed s (ro .before .before .if3 .left),
+      failed n (c .if4 .taken),
+    )
+    refl
 
 returns-5 : tie.Need-returns-5
 unfolding headNumber
 returns-5 c =
-    let s = c .before .before .before .before .is-shape .ensures ∙ ap shapeOk (c .before .before .before .before .before .resolve .ensures ∙ ap resolved (c .before .before .before .before .before .before .shape-of .ensures)) in
-    let n = c .before .is-row-length .ensures ∙ ap rowOk (c .before .before .row-of .ensures) in
-    rw (passed (c .before .before .before .before .before .before .before .before .before .before .version-ok .ensures) (c .before .before .before .before .before .before .before .before .before .if1 .left), passed (c .before .before .before .before .before .before .before .before .field-fits .ensures) (c .before .before .before .before .before .before .before .if2 .left), passed s (c .before .before .before .if3 .left), passed n (c .if4 .left)) refl
+    let ro = c .before in
+    let sh = ro .before .before .before in
+    let fi = sh .before .before .before .before in
+    let s = sh .is-shape .ensures ∙ ap shapeOk (sh .before .resolve .ensures ∙ ap resolved (sh .before .before .shape-of .ensures)) in
+    let n = ro .is-row-length .ensures ∙ ap rowOk (ro .before .row-of .ensures) in
+    rw (
+      passed (fi .before .before .version-ok .ensures) (fi .before .if1 .left),
+      passed (fi .field-fits .ensures) (sh .before .before .before .if2 .left),
+      passed s (ro .before .before .if3 .left),
+      passed n (c .if4 .left),
+    )
+    refl
 
 pub head-number-spec : {M : Type 1} → statement M
 head-number-spec =
