@@ -8,7 +8,7 @@ use crate::shape::{decode_all_chall, grinding_bits_are_zero, row_bytes, Shape};
 use crate::vole::{vole_commit, vole_reconstruct, Row};
 use crate::Block;
 
-/// Document 01, "When a call is turned down".
+/// Document 01, "When a call is turned down", and document 02, E6.
 #[derive(Clone, Copy, Debug, PartialEq, Eq)]
 pub enum Refusal {
     Shape = 1,
@@ -18,6 +18,9 @@ pub enum Refusal {
     Nodes = 5,
     Slots = 6,
     Line = 7,
+    Version = 9,
+    Field = 10,
+    Commitment = 11,
 }
 
 /// The answer of a call: 0 or the number of a refusal, and the node count.
