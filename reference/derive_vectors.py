@@ -1,10 +1,10 @@
 #!/usr/bin/env python3
-"""What the second implementation prints for the cases of crates/vectors, the program that makes the five calls.
+"""What the second implementation prints for the cases of crates/vectors, the program that makes the five calls, and of crates/record_runs, that of the calls on records.
 
-    derive_vectors.py            compares it with crates/vectors/stdout; exit status 1 at the first line that differs
-    derive_vectors.py --write    writes that file
+    derive_vectors.py            compares it with the stdout of each; exit status 1 at the first line that differs
+    derive_vectors.py --write    writes these files
 
-The cases are the calls of these forms in crates/vectors/src/main.rt, whose first lines say what they mean:
+The cases are the calls of these forms in the src/main.rt of each, whose first lines say what they mean:
 
     case(TAU, K, T, ROWBITS, ROOTIV, CHALLENGE, CHALLENGE)     commit, open, reconstruct
     uneven(TAU, K, W, T, ROWBITS, ROOTIV, CHALLENGE, CHALLENGE)  the same
@@ -13,6 +13,7 @@ The cases are the calls of these forms in crates/vectors/src/main.rt, whose firs
     probe_commit(..), probe_open(..), probe_reconstruct(..)    the command of this name
     decode(TAU, K, W, T, CHALLENGE, CHALLENGE), plan(..)       the command of this name
     probe_decode(..), probe_plan(..)                           the command of this name
+    record(TAU, K, W, T, ROWBITS, ROOTIV, CHALLENGE, CHALLENGE), prefixes(..), flips(..), pairs(..)    the command of this name
 
 The roots and IVs are the lines `DIGIT => words(WORD, WORD)` of crates/vectors_calls/src/inputs.rt.
 For each the release build of this folder is run with these commands.
@@ -25,16 +26,16 @@ from pathlib import Path
 HERE = Path(__file__).resolve().parent
 PROGRAM = HERE / 'target' / 'release' / 'reference'
 CRATES = HERE.parent / 'crates'
-STORED = CRATES / 'vectors' / 'stdout'
-SOURCE = re.sub(r'//[^\n]*', '', (CRATES / 'vectors' / 'src' / 'main.rt').read_text())
+PROGRAMS = 'vectors', 'record_runs'
 INPUTS = (CRATES / 'vectors_calls' / 'src' / 'inputs.rt').read_text()
 LENGTHS = {'case': 7, 'uneven': 8, 'refused_shape': 5, 'flipped': 5, 'probe_commit': 7, 'probe_open': 7, 'probe_reconstruct': 9,
-           'decode': 6, 'plan': 6, 'probe_decode': 7, 'probe_plan': 7}
+           'decode': 6, 'plan': 6, 'probe_decode': 7, 'probe_plan': 7, 'record': 8, 'prefixes': 8, 'flips': 8, 'pairs': 8}
 
 
-def cases():
+def cases(program):
     """The form and the numbers of each case, in the order of the program."""
-    for form, text in re.findall(r'\b(%s)\(([^)]*)\)' % '|'.join(LENGTHS), SOURCE):
+    source = re.sub(r'//[^\n]*', '', (CRATES / program / 'src' / 'main.rt').read_text())
+    for form, text in re.findall(r'\b(%s)\(([^)]*)\)' % '|'.join(LENGTHS), source):
         found = [int(word, 0) for word in text.rstrip(', \n').split(',')]
         if len(found) != LENGTHS[form]:
             sys.exit(f'derive_vectors: {form}({text}) has another form')
@@ -54,6 +55,8 @@ def commands(form, case):
         return [[form, *map(str, case)]]
     if form in ('decode', 'plan'):
         return [[form, *map(str, case[:4]), words(*case[4:])]]
+    if form in ('record', 'prefixes', 'flips', 'pairs'):
+        return [[form, *map(str, case[:5]), NUMBERED[case[5] // 10], NUMBERED[case[5] % 10], words(*case[6:])]]
     known, challenge, flip = 13, (0, 0), []
     if form in ('refused_shape', 'uneven'):
         tau, k, w, t, row_bits = case[:5]
@@ -75,21 +78,27 @@ def printed(command):
     return subprocess.run([PROGRAM, *command], check=True, capture_output=True, text=True).stdout
 
 
+def compare(program, write):
+    file = CRATES / program / 'stdout'
+    derived = [(line, command) for form, case in cases(program) for command in commands(form, case) for line in printed(command).splitlines()]
+    if write:
+        file.write_text(''.join(line + '\n' for line, _ in derived))
+        return
+    stored = file.read_text().split('\n')
+    if stored.pop() != '':
+        sys.exit(f'{file}: no line feed at the end')
+    for number, (line, command) in enumerate(derived):
+        if number >= len(stored) or stored[number] != line:
+            sys.exit(f'{file}:{number + 1}: reference {" ".join(command)} prints: {line}')
+    if len(stored) > len(derived):
+        sys.exit(f'{file}:{len(derived) + 1}: no case prints this line')
+
+
 def main():
     if sys.argv[1:] not in ([], ['--write']):
         sys.exit(__doc__)
-    derived = [(line, command) for form, case in cases() for command in commands(form, case) for line in printed(command).splitlines()]
-    if sys.argv[1:]:
-        STORED.write_text(''.join(line + '\n' for line, _ in derived))
-        return
-    stored = STORED.read_text().split('\n')
-    if stored.pop() != '':
-        sys.exit(f'{STORED}: no line feed at the end')
-    for number, (line, command) in enumerate(derived):
-        if number >= len(stored) or stored[number] != line:
-            sys.exit(f'{STORED}:{number + 1}: reference {" ".join(command)} prints: {line}')
-    if len(stored) > len(derived):
-        sys.exit(f'{STORED}:{len(derived) + 1}: no case prints this line')
+    for program in PROGRAMS:
+        compare(program, write=bool(sys.argv[1:]))
 
 
 main()

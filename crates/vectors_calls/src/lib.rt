@@ -10,6 +10,7 @@ pub use calls::call_commit;
 pub use calls::call_open;
 pub use calls::call_reconstruct;
 use cases::run_case;
+pub use inputs::numbered;
 use inputs::shape_of;
 pub use lists::call_decode;
 pub use lists::call_plan;
@@ -18,6 +19,7 @@ pub use lists::index_count;
 pub use lists::node_limit;
 use lists::plan_case;
 pub use print::print_answer;
+pub use print::print_buffer;
 use spec::Shape;
 use test_support::parts::words;
 
