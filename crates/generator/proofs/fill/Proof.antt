@@ -1,6 +1,6 @@
 -- `generator::fill` meets its contract. The loop's invariant: the first p bytes of out are the output's from byte `first` on. The measure is the number of bytes
 -- left.
-use Prim.Native.Nat.{ℕ, _+_, _-_, _/_, _%_, _≤_}
+use Prim.Native.Nat.{ℕ, _+_, _-_, _≤_}
 use native.Mathlib.Omega.{arith}
 use borrow.Author.Needs.{needs}
 use lib.ListN.{length}
@@ -33,14 +33,13 @@ loop-again c =
     let l = c .before .before .before .before .before .before .before .before .before .before .before .before .before .loop in
     let pair = c .before .before .before .before .before .before .before .before .before .before .block-pair .ensures (a .key .now) (c .before .before .before .before .before .before .before .before .before .before .before .before .before .before .key-schedule .ensures) in
     let f : ℕ → ℕ = λ q. generatorByte 4 (a .key .now) (a .iv) (a .tweak) (a .first + q) in
-    let at = a .first + l .p in
     let byte = block-byte 4 (a .key .now) (a .iv) (a .tweak) in
     let one = c .before .before .before .before .before .before .store in
     let two = c .before .before .store2 in
     let size = l .inv .1 .size in (
       omega (arith, two .ensures .inside),
-      two .ensures .written f _ (λ i h room. byte _ (at / 16 + 1) 0 i _ (pair .1) (omega (arith, one .ensures .whole (omega arith))) h)
-          (one .ensures .written f _ (λ i h room. byte _ (at / 16) (at % 16) i _ (pair .0) (omega arith) h) (l .inv .1)),
+      two .ensures .written f _ (λ i h room. byte _ _ _ i _ (pair .1) (omega (arith, one .ensures .whole (omega arith))) h)
+          (one .ensures .written f _ (λ i h room. byte _ _ _ i _ (pair .0) (omega arith) h) (l .inv .1)),
     )
 
 same-length : tie.Need-same-length Inv-loop μ-loop

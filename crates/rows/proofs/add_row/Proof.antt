@@ -3,7 +3,7 @@
 use borrow.Author.Needs.{needs}
 use mathlib.Core.Path.{_≡_, refl, ap, _∙_, subst}
 use mathlib.Core.List.{List}
-use Prim.Native.Nat.{ℕ, _+_, _*_, _-_, _/_, _%_, _≤_, _<_, min}
+use Prim.Native.Nat.{ℕ, _+_, _*_, _-_, _≤_, _<_, min}
 use native.Mathlib.Omega.{arith}
 use lib.ListN.{length, getD}
 use Rattle.spec.specs.Generator.{generatorBlock, generatorByte}
@@ -38,7 +38,7 @@ nearer b at from long mid n end h hf el em ee = omega arith
 loop-less : tie.Need-loop-less Inv-loop μ-loop
 loop-less c =
     let l = c .before .before .before .before .before .before .before .before .before .before .before .before .before .before .loop in
-    nearer _ (l .at) ((c .before .before .before .before .before .before .before .before .before .before .before .before .before .before .before .before .before .before .args .first + l .at) % 16) _ _ _ _ (c .before .before .before .before .before .before .before .before .before .before .before .before .before .loop-test .taken) (omega arith) (l .inv .1 .size)
+    nearer _ (l .at) _ _ _ _ _ (c .before .before .before .before .before .before .before .before .before .before .before .before .before .loop-test .taken) (omega arith) (l .inv .1 .size)
     (c .before .before .before .before .before .before .add-block .ensures .0) (c .before .before .add-block2 .ensures .0)
 
 loop-again : tie.Need-loop-again Inv-loop μ-loop
@@ -46,15 +46,14 @@ loop-again c =
     let g = c .before .before .before .before .before .before .before .before .before .before .before .before .before .before .before .before .before .before .args in
     let l = c .before .before .before .before .before .before .before .before .before .before .before .before .before .before .loop in
     let pair = c .before .before .before .before .before .before .before .before .before .before .block-pair .ensures (g .seed .now) (c .before .before .before .before .before .before .before .before .before .before .before .before .before .before .before .key-schedule .ensures) in
-    let p = g .first + l .at in
     let added = block-added (g .seed .now) (g .iv) (g .tweak) (g .first) in
     let one = c .before .before .before .before .before .before .add-block .ensures in
     let two = c .before .before .add-block2 .ensures in
     let size = l .inv .1 .size in
     let size2 = one .1 .size in (
       omega (arith, two .0, one .0),
-      added (p / 16 + 1) 0 _ _ _ _ _ _ (pair .1) (omega (arith, one .0)) (omega (arith, two .0)) (omega (arith, two .0))
-          (added (p / 16) (p % 16) _ _ _ _ _ _ (pair .0) (omega arith) (omega (arith, one .0)) (omega (arith, one .0)) (l .inv .1) (one .1))
+      added _ _ _ _ _ _ _ _ (pair .1) (omega (arith, one .0)) (omega (arith, two .0)) (omega (arith, two .0))
+          (added _ _ _ _ _ _ _ _ (pair .0) (omega arith) (omega (arith, one .0)) (omega (arith, one .0)) (l .inv .1) (one .1))
           (two .1),
     )
 
@@ -63,11 +62,10 @@ loop-again-2 c =
     let g = c .before .before .before .before .before .before .before .before .before .before .before .before .args in
     let l = c .before .before .before .before .before .before .before .before .loop in
     let block = c .before .before .before .before .block .ensures (g .seed .now) (c .before .before .before .before .before .before .before .before .before .key-schedule .ensures) in
-    let p = g .first + l .at in
     let one = c .before .before .add-block3 .ensures in
     let size = l .inv .1 .size in (
       omega (arith, one .0),
-      block-added (g .seed .now) (g .iv) (g .tweak) (g .first) (p / 16) (p % 16) _ _ _ _ _ _ block (omega arith) (omega (arith, one .0)) (omega (arith, one .0)) (l .inv .1) (one .1),
+      block-added (g .seed .now) (g .iv) (g .tweak) (g .first) _ _ _ _ _ _ _ _ block (omega arith) (omega (arith, one .0)) (omega (arith, one .0)) (l .inv .1) (one .1),
     )
 
 returns : tie.Need-returns Inv-loop μ-loop
