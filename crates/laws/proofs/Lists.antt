@@ -28,6 +28,10 @@ module _ {A : Type 0} where
       ap₂ (λ (x : A) (l : List A). x ∷ l) (h 0 (omega arith))
       (tabulate-same n (λ i. f (suc i)) (λ i. g (suc i)) (λ i l. h (suc i) (omega arith)))
 
+  -- a rule's elements from element 0 on
+  pub tabulate-from-0 : (n : ℕ) (f : ℕ → A) → tabulate n (λ i. f (0 + i)) ≡ tabulate n f
+  tabulate-from-0 n f = tabulate-same n (λ i. f (0 + i)) f (λ i h. ap f (zero-add i))
+
   -- a list of n elements is the rule's where each element is
   pub is-tabulate : (n : ℕ) (f : ℕ → A) (d : A) (l : List A) → length l ≡ n → ((i : ℕ) → i < n → getD l i d ≡ f i) → l ≡ tabulate n f
   is-tabulate n f d l e h =
@@ -43,8 +47,7 @@ module _ {A : Type 0} where
   -- m elements of a rule, and n more
   pub tabulate-append : (m n : ℕ) (f : ℕ → A) → tabulate (m + n) f ≡ tabulate m f ++ tabulate n (λ i. f (m + i))
   unfolding tabulate
-  tabulate-append zero n f =
-      ap (λ (k : ℕ). tabulate k f) (zero-add n) ∙ tabulate-same n f (λ i. f (zero + i)) (λ i h. ap f (sym (zero-add i)))
+  tabulate-append zero n f = ap (λ (k : ℕ). tabulate k f) (zero-add n) ∙ sym (tabulate-from-0 n f)
   tabulate-append (suc m) n f =
       ap (λ (k : ℕ). tabulate k f) (suc-add m n)
       ∙ ap (λ (l : List A). f 0 ∷ l)

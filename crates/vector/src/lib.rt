@@ -55,7 +55,7 @@ fn add_entry(
     let a = 16 * rules::leaf_of(s, i, e);
     let tweak = leaf::leaf_tweak(i, rules::leaf_count(s));
     let seed = leaf::commit_leaf(t, m, &tree[a..a + 16], iv, tweak, commitment);
-    rows::add_row(t, &seed, iv, (i as u32) + 2147483648, sum);
+    rows::add_row(t, &seed, iv, (i as u32) + 2147483648, 0, sum);
 }
 
 // The entries of vector i whose numbers are from `from` on and below `to`, in the order of their numbers: number x is that of entry x xor the mask. There are
