@@ -42,6 +42,9 @@ void rattle_add_row(const uint8_t t[256], const uint8_t *seed, size_t seed_lengt
 size_t rattle_commit(size_t tau, size_t k, size_t w, size_t t, size_t row_bits, const uint8_t *root, size_t root_length, const uint8_t *iv, size_t iv_length,
                      uint8_t *commitment, size_t commitment_length, uint8_t *tree, size_t tree_length, uint8_t *lcs, size_t lcs_length,
                      uint8_t *u, size_t u_length, uint8_t *v, size_t v_length, uint8_t *corrections, size_t corrections_length);
+size_t rattle_commit_stretch(size_t tau, size_t k, size_t w, size_t t, size_t row_bits, size_t first, size_t width, const uint8_t *root, size_t root_length, const uint8_t *iv, size_t iv_length,
+                     uint8_t *commitment, size_t commitment_length, uint8_t *tree, size_t tree_length, uint8_t *lcs, size_t lcs_length,
+                     uint8_t *u, size_t u_length, uint8_t *v, size_t v_length, uint8_t *corrections, size_t corrections_length);
 size_t rattle_open(size_t tau, size_t k, size_t w, size_t t, const uint8_t *challenge, size_t challenge_length, const uint8_t *tree, size_t tree_length,
                    const uint8_t *lcs, size_t lcs_length, uint8_t *opening, size_t opening_length);
 size_t rattle_reconstruct(size_t tau, size_t k, size_t w, size_t t, size_t row_bits, const uint8_t *iv, size_t iv_length,

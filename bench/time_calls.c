@@ -22,6 +22,9 @@ static struct {
     size_t opened, reconstructed;
 } made[SIDES];
 
+/* what commit_stretch wrote last */
+static uint8_t stretch_u[ROW / 10], stretch_v[128 * (ROW / 10)], stretch_corrections[(VECTORS - 1) * (ROW / 10)];
+
 static const size_t *shape;
 #define TREE (32 * leaf_count(shape) - 16)
 #define LEAF_COMMITMENTS (48 * leaf_count(shape))
@@ -43,6 +46,18 @@ static void commit(int side)
     else
         rattle_commit(SHAPE, BITS, root, 16, iv, 16, made[side].commitment, 32, made[side].tree, TREE, made[side].leaf_commitments, LEAF_COMMITMENTS,
                       made[side].u, ROW, made[side].v, 128 * ROW, made[side].corrections, CORRECTIONS);
+}
+
+/* a tenth of the row, in the place of the front of the buffers; the C has no such form and makes the whole commit */
+enum { FIRST = 5, WIDTH = ROW / 10 };
+
+static void commit_stretch(int side)
+{
+    if (side < RATTLE)
+        commit(side);
+    else
+        rattle_commit_stretch(SHAPE, BITS, FIRST, WIDTH, root, 16, iv, 16, made[side].commitment, 32, made[side].tree, TREE, made[side].leaf_commitments, LEAF_COMMITMENTS,
+                              stretch_u, WIDTH, stretch_v, 128 * WIDTH, stretch_corrections, WIDTH * (shape[0] - 1));
 }
 
 static void open(int side)
@@ -68,8 +83,8 @@ static const struct {
     const char *name;
     void (*work)(int side);
     int times;
-} calls[] = {{"commit", commit, 1}, {"open", open, 20}, {"reconstruct", reconstruct, 1}};
-enum { CALLS = 3 };
+} calls[] = {{"commit", commit, 1}, {"commit of a tenth", commit_stretch, 1}, {"open", open, 20}, {"reconstruct", reconstruct, 1}};
+enum { CALLS = 4 };
 
 static double milliseconds(void (*work)(int), int side, int times)
 {
@@ -89,6 +104,15 @@ static int differ(int a, int b)
         || OTHER(corrections, CORRECTIONS) || OTHER(opening, OPENING) || OTHER(again_commitment, 32) || OTHER(again_tree, TREE)
         || OTHER(again_leaf_commitments, LEAF_COMMITMENTS) || OTHER(q, 128 * ROW) || made[a].opened != made[b].opened
         || made[a].reconstructed != made[b].reconstructed || memcmp(made[a].commitment, made[a].again_commitment, 32);
+}
+
+/* whether n strings of the stretch are other than those bytes of the whole ones */
+static int other_stretch(const uint8_t *cut, const uint8_t *whole, size_t n)
+{
+    for (size_t i = 0; i < n; i++)
+        if (memcmp(cut + WIDTH * i, whole + ROW * i + FIRST, WIDTH))
+            return 1;
+    return 0;
 }
 
 int main(void)
@@ -122,7 +146,7 @@ int main(void)
                         best[c][side] = t;
                 }
         for (int c = 0; c < CALLS; c++) {
-            printf("%s %-12s", sets[s].name, calls[c].name);
+            printf("%s %-17s", sets[s].name, calls[c].name);
             for (int side = 0; side < SIDES; side++)
                 if (best[c][side] < 1)
                     printf("  %s %6.2f us", side_names[side], best[c][side] * 1e3);
@@ -135,6 +159,8 @@ int main(void)
         for (int side = 0; side < SIDES - 1; side++)
             if (differ(SIDES - 1, side))
                 wrong = printf("RESULTS DIFFER from %s\n", side_names[side]);
+        if (other_stretch(stretch_u, made[RATTLE].u, 1) || other_stretch(stretch_v, made[RATTLE].v, 128) || other_stretch(stretch_corrections, made[RATTLE].corrections, shape[0] - 1))
+            wrong = printf("THE STRETCH DIFFERS\n");
         printf("nodes opened: %zu\n", made[SIDES - 1].opened);
     }
     return wrong != 0;

@@ -3,10 +3,13 @@
 
 use std::io::Read;
 
-use crate::calls::{commit, decode, open, plan, reconstruct, Answer};
+use crate::calls::{
+    commit, commit_stretch, decode, open, plan, reconstruct, reconstruct_stretch, Answer,
+};
 use crate::listing::list;
 use crate::shake::shake128;
 use crate::shape::{row_bytes, Shape};
+use crate::stretch::Stretch;
 
 pub const USAGE: &str = "\
 usage: reference decode      TAU K W T CHALLENGE
@@ -21,6 +24,8 @@ usage: reference decode      TAU K W T CHALLENGE
        reference probe_decode      TAU K W T BYTE WHICH MORE
        reference probe_plan        TAU K W T BYTE WHICH MORE
        reference list        (its line on standard input)
+Each with ROWBITS is also there for a stretch of the rows: _stretch behind its
+name, FIRST WIDTH behind ROWBITS.
 Numbers are decimal; ROOT, IV and CHALLENGE are hexadecimal, byte 0 first.
 ";
 
@@ -59,6 +64,67 @@ fn list_line(name: &str, numbers: &[u32]) -> String {
     format!("{name} {}{content}\n", numbers.len())
 }
 
+/// The row length of a call in bits, and the stretch where it is a call of one.
+#[derive(Clone, Copy)]
+struct Rows {
+    bits: usize,
+    stretch: Option<Stretch>,
+}
+
+impl Rows {
+    /// The bytes of a row that a call writes; of a refused stretch at most a row.
+    fn width(self) -> usize {
+        let b = row_bytes(self.bits).unwrap_or(0);
+        self.stretch.map_or(b, |stretch| stretch.width.min(b))
+    }
+}
+
+/// Commit, or its form for a stretch.
+#[allow(clippy::too_many_arguments)]
+fn call_commit(
+    shape: Shape,
+    rows: Rows,
+    root: &[u8],
+    iv: &[u8],
+    com: &mut [u8],
+    tree: &mut [u8],
+    coms: &mut [u8],
+    u: &mut [u8],
+    v: &mut [u8],
+    c: &mut [u8],
+) -> Answer {
+    match rows.stretch {
+        None => commit(shape, rows.bits, root, iv, com, tree, coms, u, v, c),
+        Some(stretch) => commit_stretch(
+            shape, rows.bits, stretch, root, iv, com, tree, coms, u, v, c,
+        ),
+    }
+}
+
+/// Reconstruct, or its form for a stretch.
+#[allow(clippy::too_many_arguments)]
+fn call_reconstruct(
+    shape: Shape,
+    rows: Rows,
+    iv: &[u8],
+    challenge: &[u8],
+    c: &[u8],
+    opening: &[u8],
+    com: &mut [u8],
+    tree: &mut [u8],
+    coms: &mut [u8],
+    q: &mut [u8],
+) -> Answer {
+    match rows.stretch {
+        None => reconstruct(
+            shape, rows.bits, iv, challenge, c, opening, com, tree, coms, q,
+        ),
+        Some(stretch) => reconstruct_stretch(
+            shape, rows.bits, stretch, iv, challenge, c, opening, com, tree, coms, q,
+        ),
+    }
+}
+
 /// The buffers of commit, open and reconstruct, and the answers of these calls
 /// made one after another up to the first that is refused.
 struct Run {
@@ -78,10 +144,10 @@ struct Run {
 
 impl Run {
     /// Buffers of the exact lengths; empty ones where there is no exact length.
-    fn new(shape: Shape, row_bits: usize) -> Run {
+    fn new(shape: Shape, rows: Rows) -> Run {
         let shape = shape.resolve();
         let bytes = |length: fn(&Shape) -> usize| vec![0; shape.as_ref().map_or(0, length)];
-        let b = row_bytes(row_bits).unwrap_or(0);
+        let b = rows.width();
         Run {
             answers: Vec::new(),
             commitment: vec![0; 32],
@@ -103,10 +169,10 @@ impl Run {
         self.answers.iter().all(|answer| answer.number == 0)
     }
 
-    fn commit(&mut self, shape: Shape, row_bits: usize, root: &[u8], iv: &[u8]) {
-        self.answers.push(commit(
+    fn commit(&mut self, shape: Shape, rows: Rows, root: &[u8], iv: &[u8]) {
+        self.answers.push(call_commit(
             shape,
-            row_bits,
+            rows,
             root,
             iv,
             &mut self.commitment,
@@ -126,11 +192,11 @@ impl Run {
         }
     }
 
-    fn reconstruct(&mut self, shape: Shape, row_bits: usize, iv: &[u8], challenge: &[u8]) {
+    fn reconstruct(&mut self, shape: Shape, rows: Rows, iv: &[u8], challenge: &[u8]) {
         if self.well() {
-            self.answers.push(reconstruct(
+            self.answers.push(call_reconstruct(
                 shape,
-                row_bits,
+                rows,
                 iv,
                 challenge,
                 &self.corrections,
@@ -183,6 +249,15 @@ impl Arguments<'_> {
         })
     }
 
+    fn rows(&mut self, of_stretch: bool) -> Option<Rows> {
+        let bits = self.number()?;
+        let stretch = match of_stretch {
+            true => Some(Stretch::new(self.number()?, self.number()?)),
+            false => None,
+        };
+        Some(Rows { bits, stretch })
+    }
+
     fn end(mut self) -> Option<()> {
         self.0.next().is_none().then_some(())
     }
@@ -222,9 +297,9 @@ fn numbers_command(command: &str, mut rest: Arguments) -> Option<Outcome> {
     Some((text.into_bytes(), true))
 }
 
-/// `commit`, `open`, `reconstruct` and `roundtrip`.
-fn bytes_command(command: &str, mut rest: Arguments) -> Option<Outcome> {
-    let (shape, row_bits) = (rest.shape()?, rest.number()?);
+/// `commit`, `open`, `reconstruct` and `roundtrip`, of whole rows or a stretch.
+fn bytes_command(command: &str, of_stretch: bool, mut rest: Arguments) -> Option<Outcome> {
+    let (shape, rows) = (rest.shape()?, rest.rows(of_stretch)?);
     let (root, iv) = (rest.bytes()?, rest.bytes()?);
     let challenge = match command {
         "commit" => Vec::new(),
@@ -236,8 +311,8 @@ fn bytes_command(command: &str, mut rest: Arguments) -> Option<Outcome> {
     };
     rest.end()?;
 
-    let mut run = Run::new(shape, row_bits);
-    run.commit(shape, row_bits, &root, &iv);
+    let mut run = Run::new(shape, rows);
+    run.commit(shape, rows, &root, &iv);
     if command != "commit" {
         run.open(shape, &challenge);
     }
@@ -245,7 +320,7 @@ fn bytes_command(command: &str, mut rest: Arguments) -> Option<Outcome> {
         *byte ^= 1;
     }
     if command == "reconstruct" || command == "roundtrip" {
-        run.reconstruct(shape, row_bits, &iv, &challenge);
+        run.reconstruct(shape, rows, &iv, &challenge);
     }
 
     let text = answer_lines(*run.answers.last()?);
@@ -328,11 +403,14 @@ fn probe_numbers_command(command: &str, mut rest: Arguments) -> Option<Outcome> 
 /// `probe_commit`, `probe_open` and `probe_reconstruct`: one call, on buffers of
 /// which the one numbered WHICH, in the order of the call, is a byte shorter than
 /// the exact length, or longer where MORE is not 0.
-fn probe_command(command: &str, mut rest: Arguments) -> Option<Outcome> {
+fn probe_command(command: &str, of_stretch: bool, mut rest: Arguments) -> Option<Outcome> {
     let shape = rest.shape()?;
-    let row_bits = match command {
-        "probe_open" => 8,
-        _ => rest.number()?,
+    let rows = match command {
+        "probe_open" => Rows {
+            bits: 8,
+            stretch: None,
+        },
+        _ => rest.rows(of_stretch)?,
     };
     let first_byte = match command {
         "probe_commit" => 0,
@@ -345,7 +423,7 @@ fn probe_command(command: &str, mut rest: Arguments) -> Option<Outcome> {
     };
     rest.end()?;
 
-    let exact = Run::new(shape, row_bits);
+    let exact = Run::new(shape, rows);
     let buffer = |place: usize, exact: usize, content: u8| {
         vec![content; probed_length(exact, place == which, more)]
     };
@@ -369,9 +447,9 @@ fn probe_command(command: &str, mut rest: Arguments) -> Option<Outcome> {
             let [commitment, tree, leaf_commitments, u, v, corrections] = &mut outputs[..] else {
                 return None;
             };
-            commit(
+            call_commit(
                 shape,
-                row_bits,
+                rows,
                 &root,
                 &iv,
                 commitment,
@@ -410,9 +488,9 @@ fn probe_command(command: &str, mut rest: Arguments) -> Option<Outcome> {
             let [commitment, tree, leaf_commitments, q] = &mut outputs[..] else {
                 return None;
             };
-            reconstruct(
+            call_reconstruct(
                 shape,
-                row_bits,
+                rows,
                 &iv,
                 &challenge(1),
                 &corrections,
@@ -430,13 +508,19 @@ fn probe_command(command: &str, mut rest: Arguments) -> Option<Outcome> {
 
 /// Carries out a command; nothing where the arguments cannot be read.
 pub fn run(args: &[String], input: &mut impl Read) -> Option<Outcome> {
-    let (command, rest) = args.split_first()?;
+    let (name, rest) = args.split_first()?;
     let rest = Arguments(rest.iter());
-    match command.as_str() {
+    let (command, of_stretch) = match name.strip_suffix("_stretch") {
+        Some(command) => (command, true),
+        None => (name.as_str(), false),
+    };
+    match command {
+        "commit" | "open" | "reconstruct" | "roundtrip" => bytes_command(command, of_stretch, rest),
+        "probe_commit" | "probe_reconstruct" => probe_command(command, of_stretch, rest),
+        _ if of_stretch => None,
         "list" => list_command(rest, input),
         "decode" | "plan" => numbers_command(command, rest),
-        "commit" | "open" | "reconstruct" | "roundtrip" => bytes_command(command, rest),
-        "probe_commit" | "probe_open" | "probe_reconstruct" => probe_command(command, rest),
+        "probe_open" => probe_command(command, false, rest),
         "probe_decode" | "probe_plan" => probe_numbers_command(command, rest),
         _ => None,
     }

@@ -3,7 +3,8 @@
 //!
 //! "Document 000" is the FAEST v2.0 specification; its figures and sections
 //! are named beside the functions that carry them out. "Document 01" is the
-//! requirements paper with the five calls and their refusals.
+//! requirements paper with the five calls and their refusals, "document 02" the
+//! later changes to it.
 
 pub mod aes;
 pub mod bavc;
@@ -14,6 +15,7 @@ pub mod listing;
 pub mod prg;
 pub mod shake;
 pub mod shape;
+pub mod stretch;
 pub mod vole;
 
 /// A string of 128 bits: a node, a seed, an IV, a challenge or an AES block.

@@ -61,6 +61,23 @@ length-part xs at n h = length-take-le n (drop at xs) (simp length-drop (omega a
 pub getD-part : (xs : List ℕ) (at n p : ℕ) → p < n → getD (part xs at n) p 0 ≡ getD xs (at + p) 0
 getD-part xs at n p h = getD-take n (drop at xs) p 0 h ∙ getD-drop at xs p 0
 
+-- a part of a part
+pub part-part : (xs : List ℕ) (at n m l : ℕ) → at + n ≤ length xs → m + l ≤ n → part (part xs at n) m l ≡ part xs (at + m) l
+part-part xs at n m l k h =
+    let whole = length-part xs at n k in
+    let long = length-part (part xs at n) m l (omega arith) in
+    ext-getD 0 (part (part xs at n) m l) (part xs (at + m) l) (long ∙ sym (length-part xs (at + m) l (omega arith)))
+    (λ i e.
+    let lt : i < l = rw long at e in
+    getD-part (part xs at n) m l i lt ∙ getD-part xs at n (m + i) (omega arith)
+    ∙ ap (λ (p : ℕ). getD xs p 0) (let z : at + (m + i) ≡ at + m + i = omega arith in z) ∙ sym (getD-part xs (at + m) l i lt))
+
+-- a part of a list that is given by a rule
+pub part-tabulate : (n : ℕ) (f : ℕ → ℕ) (at l : ℕ) → at + l ≤ n → part (tabulate n f) at l ≡ tabulate l (λ p. f (at + p))
+part-tabulate n f at l h =
+    is-tabulate l (λ p. f (at + p)) 0 (part (tabulate n f) at l) (length-part (tabulate n f) at l (simp length-tabulate (omega arith)))
+    (λ p k. getD-part (tabulate n f) at l p k ∙ getD-tabulate n f (at + p) 0 (omega arith))
+
 pub length-zeros : (n : ℕ) → length (zeros n) ≡ n
 unfolding zeros
 length-zeros n = length-replicate n 0

@@ -1,16 +1,14 @@
 -- What `commit_leaf` and `add_row` ensure, of the leaf that `leaf_of` finds.
 use borrow.Author.Needs.{needs}
-use mathlib.Core.Path.{_≡_, refl, ap, ap₂, _∙_}
+use mathlib.Core.Path.{_≡_, ap, ap₂, _∙_}
 use Prim.Native.Nat.{ℕ, _+_, _-_, _*_}
-use native.Mathlib.Nat.{zero-add}
 use native.Mathlib.Omega.{arith}
 use Rattle.spec.specs.Bytes.{part}
 use Rattle.spec.specs.Shapes.{level, nodeBytes, keyWords, treeBytes}
 use Rattle.spec.specs.Primitives.{faest}
 use Rattle.spec.specs.Leaves.{nodeAt, leafKey, leafSeed, leafCommitment}
-use Rattle.spec.specs.Rows.{rowByte}
+use Rattle.spec.specs.Rows.{rowByte, stretchByte}
 use Rattle.planning_laws.proofs.ShapeFacts.{shape-facts}
-use Rattle.columns.proofs.Adding.{xored-same}
 use Rattle.vector.proofs.add_entry.Statement.{statement}
 use Rattle.vector.proofs.add_entry.Tie as tie
 
@@ -31,7 +29,7 @@ add-add-row c =
     omega arith
 
 returns : tie.Need-returns
-unfolding level nodeBytes keyWords faest nodeAt leafKey rowByte
+unfolding level nodeBytes keyWords faest nodeAt leafKey rowByte stretchByte
 returns c =
     let start = c .before .before .before .before .before .before .before .before .before .before .before .before .before .before .before .before in
     let g = start .args in
@@ -44,10 +42,8 @@ returns c =
     let a = 16 * leaf .result in
     let one : a + 16 - a ≡ 16 = omega arith in
     let key = ap₂ (λ (n m : ℕ). part x (16 * n) m) (leaf .ensures .0) one in
-    let seed = made .0 ∙ ap (leafSeed faest (g .s) (g .iv) (g .i)) key in (
-      made .1 ∙ ap (leafCommitment faest (g .s) (g .iv) (g .i)) key,
-      xored-same 0 _ _ _ _ _ _ refl (λ p a b. ap (rowByte faest (g .s) (g .iv) x (g .i) (g .e)) (zero-add p)) (rw seed at (c .before .before .add-row .ensures)),
-    )
+    let seed = made .0 ∙ ap (leafSeed faest (g .s) (g .iv) (g .i)) key in
+    (made .1 ∙ ap (leafCommitment faest (g .s) (g .iv) (g .i)) key, rw seed at (c .before .before .add-row .ensures))
 
 pub add-entry-spec : {M : Type 1} → statement M
 add-entry-spec =
