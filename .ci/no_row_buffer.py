@@ -7,7 +7,8 @@ It reads the .rt files of every crate that the signing and the checking half rea
    (the number 2^31 stands once, in `vector::add_entry`, which passes it to `rows::add_row`); `generator::fill` is called for nodes and leaves alone.
 2. In what `rows::add_row` and the functions of `columns` reach, every array has at most 16 bytes, but for the S-box, which is lent, and the round keys, which are made of the
    seed. The functions of `columns` see sums of rows.
-3. Of all that commit, commit_stretch, reconstruct and reconstruct_stretch reach, every array above 16 bytes stands in the table below with what it holds.
+3. What they write into is lent: from call to call their destination is a part of a parameter, up to a buffer of the public call, or an array of at most 16 bytes.
+4. Of all that commit, commit_stretch, reconstruct and reconstruct_stretch reach, every array above 16 bytes stands in the table below with what it holds.
 
 An array that is not in the table, or a form that cannot be measured here, fails. Then the script tests itself: each of the edits at the end, applied to copies in memory, must fail,
 and for the reason beside it.
@@ -51,6 +52,8 @@ CALLERS = {
     'aes::encrypt_pair': {'generator::block_pair'},
 }
 ROW_TWEAK = '2147483648'
+# where rows, or sums of rows, are written to
+DESTINATIONS = [('rows::add_row', 'sum'), ('columns::add_last', 'cols'), ('columns::add_bytes', 'cols')]
 
 SIZES = {'u8': 1, 'bool': 1, 'u16': 2, 'u32': 4, 'u64': 8, 'usize': 8}
 
@@ -148,7 +151,9 @@ class Program:
                 self.names[crate][path[1]] = '::'.join(path)
                 i = end + 1
             elif ts[i] == 'const':
-                end = ts.index(';', ts.index('=', i))
+                end = ts.index('=', i)
+                while ts[end] != ';':
+                    end = closing(ts, end) + 1 if ts[end] in CLOSE else end + 1
                 kind = type_of_tokens(ts[i + 3:ts.index('=', i)])
                 self.consts[crate + '::' + ts[i + 1]] = kind
                 i = end + 1
@@ -340,12 +345,19 @@ class Program:
                 note(kind, False, 'expression')
             elif t.startswith('b"'):
                 note(self.type_of(f, env, [t]), False, 'byte string')
+            elif f.crate + '::' + t in self.consts:
+                note(self.consts[f.crate + '::' + t], False, 'constant ' + t)
             elif t in ('match', 'unsafe', 'type', 'impl', 'static'):
                 raise Refused(f'a form of {f.name} that is not read here: {t}')
             i += 1
         return found
 
     def calls(self, f):
+        for full, _ in self.calls_with(f):
+            yield full
+
+    def calls_with(self, f):
+        """Each call of the function: whom, and the arguments."""
         ts = f.body
         for i, t in enumerate(ts):
             if t != '(' or i == 0 or not re.match(r'[A-Za-z_]\w*$', ts[i - 1]) or ts[i - 1] in ('if', 'while', 'return', 'in', 'as', 'else', 'mut'):
@@ -361,7 +373,32 @@ class Program:
             full = self.find(f.crate, path)
             if full is None:
                 raise Refused(f'a call of {f.name} that is not found: ' + '::'.join(path))
-            yield full
+            yield full, split(ts[i + 1:closing(ts, i)])
+
+    def destinations(self, all_of):
+        """Follows what is written into, from call to caller; all of it is lent by the host, or small."""
+        seen, rest = set(), list(DESTINATIONS)
+        while rest:
+            callee, param = rest.pop()
+            if (callee, param) in seen:
+                continue
+            seen.add((callee, param))
+            place = list(self.functions[callee].params).index(param)
+            for name in sorted(all_of):
+                f = self.functions[name]
+                for full, arguments in self.calls_with(f):
+                    if full != callee:
+                        continue
+                    words = [w for w in arguments[place] if w not in ('&', 'mut')]
+                    if len(words) > 1 and words[1] != '[':
+                        raise Refused(f'what {name} lends {callee} cannot be followed')
+                    if words[0] in f.params and f.params[words[0]] == ('ref', ('slice', 'u8')):
+                        rest.append((name, words[0]))
+                        continue
+                    small = [t for t, lent, where in self.arrays(f) if where == 'local ' + words[0]]
+                    if len(small) != 1 or self.size(small[0]) > 16:
+                        raise Refused(f'rows are written into {words[0]} of {name}')
+        return seen
 
     def reach(self, names):
         seen, rest = set(), list(names)
@@ -401,7 +438,10 @@ def check(sources):
             if p.size(t) > 16 and named(t) not in BESIDE_ROWS:
                 raise Refused(f'{named(t)} in {name} ({where}), which sees bytes of rows')
 
-    # 3. every array above 16 bytes
+    # 3. what rows are written into
+    p.destinations(all_of)
+
+    # 4. every array above 16 bytes
     seen = {}
     for name in sorted(all_of):
         for t, lent, where in p.arrays(p.functions[name]):
@@ -453,6 +493,8 @@ EDITS = [
     ('vector', 'let tweak = leaf::leaf_tweak', 'let pair = [0u8; 32];\n    let tweak = leaf::leaf_tweak', '[u8; 32] in vector::add_entry'),
     ('columns', '    let mut block = [0u8; 16];\n    for i in 0..16', '    let mut block = [0u64; 4];\n    for i in 0..16', '[u64; 4] in columns::block_at'),
     ('signer_vectors', '    let b = z.width;\n    let next', '    let mut sum = [0u8; 8192];\n    let b = z.width;\n    let next', '[u8; 8192] in signer_vectors::other_vector'),
+    ('signer_vectors', 'tree, lcs, total, cols);', 'tree, lcs, total, hash);', 'rows are written into hashes of signer_commit::write_commitment'),
+    ('rows', '    let b = sum.len();', '    const ROW: [u8; 64] = [0; 64];\n    let b = sum.len();', 'an array of rows::add_row that cannot be measured'),
     ('signer_tree', 'tree::expand_node(', 'let k = 2147483648;\n        tree::expand_node(', 'the tweak of rows stands in'),
     ('columns', 'pub fn add_bytes(', 'type Row = u8;\npub fn add_bytes(', 'an item of columns that cannot be read'),
     ('rows', '    let b = sum.len();', '    let b = sum.len();\n    let copy = sum.to_vec();', 'a method of rows::add_row'),
