@@ -21,3 +21,4 @@ pub mod Digits
 pub mod Running
 pub mod Parts
 pub mod Conjunctions
+pub mod Words

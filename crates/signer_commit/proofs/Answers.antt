@@ -13,7 +13,7 @@ use Rattle.spec.specs.Primitives.{faest}
 use Rattle.spec.specs.Leaves.{leafCommitments, commitmentOf}
 use Rattle.spec.specs.Rows.{matrixOf}
 use Rattle.spec.specs.Signer.{signerTree, signerLeafCommitment, signerU, signerColumn, corrections}
-use Rattle.spec.specs.Calls.{fits, rowOk, Committed, committed, commitNumber, Commit}
+use Rattle.spec.specs.Calls.{fits, rowOk, Committed, committed, commitLengths, commitNumber, Commit}
 
 -- the lengths that commit compares
 abbrev pub Lengths : Shape → ℕ → List ℕ → List ℕ → Committed → List (ℕ × ℕ)
@@ -29,7 +29,7 @@ Lengths t b root iv x =
     ∷ []
 
 module _ (s t : Shape) (e : t ≡ resolved s) (n : ℕ) (root iv : List ℕ) (x : Committed) (r : Answer) where
-  commit-refused : (m : ℕ) → commitNumber (resolved s) n root iv x ≡ m → eqb m 0 ≡ false → (r .number ≡ m) × (r .count ≡ 0) → Commit faest s n root iv x x r
+  commit-refused : (m : ℕ) → commitNumber (resolved s) n (commitLengths (resolved s) (n / 8) root iv x) ≡ m → eqb m 0 ≡ false → (r .number ≡ m) × (r .count ≡ 0) → Commit faest s n root iv x x r
   commit-refused m d z a = record { number = a .0 ∙ sym d; count = a .1; buffers = rw (a .0, z) refl }
 
   pub commit-1 : shapeOk t ≡ false → (r .number ≡ 1) × (r .count ≡ 0) → Commit faest s n root iv x x r

@@ -1,6 +1,6 @@
 -- Document 01's refusals and limits, computed: each number where its condition holds alone and where a later one holds too, the counts that go with
 -- them, the borders of shapes and row lengths.
-use Prim.Native.Nat.{ℕ, _+_, _*_}
+use Prim.Native.Nat.{ℕ, _+_, _*_, _/_}
 use mathlib.Core.Path.{_≡_, refl}
 use mathlib.Core.Bool.{true, false, cond}
 use mathlib.Core.List.{List, [], _∷_, _++_}
@@ -12,7 +12,7 @@ use Rattle.spec.specs.Tree.{parent, isAncestorWithin, isAncestor, some, 
 use Rattle.spec.specs.Challenge.{bitAt, bitsAt, indexAt, clearAt}
 use Rattle.spec.specs.Shapes.{faest128s, faest128f, resolved, level, nodeBytes, challengeBytes, leafCommitmentBytes, hashBytes, deeper, depthOf, firstBit, leaves, leafOf, shapeOk, hiddenIndex, hiddenLeaf, hiddenLeaves, grindingOk, planned, plannedCount, treeBytes, leafCommitmentsBytes, openingBytes, matrixBytes, correctionsBytes}
 use Rattle.spec.specs.Verifier.{slotsOk}
-use Rattle.spec.specs.Calls.{rowOk, nodesOk, countWith, decodeNumber, planNumber, commitNumber, openNumber, reconstructNumber}
+use Rattle.spec.specs.Calls.{rowOk, nodesOk, countWith, decodeLengths, decodeNumber, planLengths, planNumber, commitLengths, commitNumber, openLengths, reconstructLengths, reconstructNumber}
 
 abbrev pub shape : ℕ → ℕ → ℕ → ℕ → Shape
 shape tau k w t = record { tau = tau; k = k; w = w; t = t }
@@ -88,39 +88,42 @@ ch first = first ∷ zeros 15
 
 -- decode with a list of n numbers
 abbrev pub decoding : Shape → ℕ → ℕ → ℕ
-decoding s first n = decodeNumber s (ch first) (zeros n)
+decoding s first n = decodeNumber s (ch first) (decodeLengths s (ch first) (zeros n))
 
 -- plan with a list of n numbers
 abbrev pub planning : Shape → ℕ → ℕ → ℕ
-planning s first n = planNumber s (ch first) (zeros n)
+planning s first n = planNumber s (ch first) (planLengths s (ch first) (zeros n))
 
 -- commit with rows of n bits and buffers for `small` and 8 bits, u being of `long` bytes
 abbrev pub committing : Shape → ℕ → ℕ → ℕ
 committing s n long =
-    commitNumber s n (zeros 16) (zeros 16)
-    (record { commitment = zeros 32; tree = zeros 48; leafCommitments = zeros 96; u = zeros long; v = zeros 128; corrections = [] })
+    commitNumber s n (commitLengths s (n / 8) (zeros 16) (zeros 16)
+    (record { commitment = zeros 32; tree = zeros 48; leafCommitments = zeros 96; u = zeros long; v = zeros 128; corrections = [] }))
 
 -- open with an opening of `long` bytes
 abbrev pub opening : Shape → ℕ → ℕ → ℕ
-opening s first long = openNumber s (ch first) (zeros 48) (zeros 96) (zeros long)
+opening s first long = planNumber s (ch first) (openLengths s (ch first) (zeros 48) (zeros 96) (zeros long))
 
 -- reconstruct with an opening whose last byte is `last`, all buffers for `small` and 8 bits
 abbrev pub reconstructing : Shape → ℕ → ℕ → ℕ → ℕ
 reconstructing s n first last =
-    reconstructNumber s n (zeros 16) (ch first) [] (zeros 63 ++ (last ∷ []))
-    (record { commitment = zeros 32; tree = zeros 48; leafCommitments = zeros 96; q = zeros 128 })
+    let op = zeros 63 ++ (last ∷ []) in
+    reconstructNumber s n (ch first) op (reconstructLengths s (n / 8) (zeros 16) (ch first) [] op
+    (record { commitment = zeros 32; tree = zeros 48; leafCommitments = zeros 96; q = zeros 128 }))
 
 -- the same at 2, 2, 124, 5 and the challenge 0c, which reveals four nodes: the opening is zeros but for byte i
 abbrev pub reconstructingAt : ℕ → ℕ
 reconstructingAt i =
-    reconstructNumber (shape 2 2 124 5) 8 (zeros 16) (ch 12) (zeros 1) (set (zeros 176) i 1)
-    (record { commitment = zeros 32; tree = zeros 240; leafCommitments = zeros 384; q = zeros 128 })
+    let op = set (zeros 176) i 1 in
+    reconstructNumber (shape 2 2 124 5) 8 (ch 12) op (reconstructLengths (shape 2 2 124 5) 1 (zeros 16) (ch 12) (zeros 1) op
+    (record { commitment = zeros 32; tree = zeros 240; leafCommitments = zeros 384; q = zeros 128 }))
 
 -- at 2, 2, 124, t: with t 5 the challenge 0c leaves one slot unused, with t 3 it needs a node too many
 abbrev pub reconstructing2 : ℕ → ℕ → ℕ → ℕ
 reconstructing2 t first last =
-    reconstructNumber (shape 2 2 124 t) 8 (zeros 16) (ch first) (zeros 1) (zeros (95 + 16 * t) ++ (last ∷ []))
-    (record { commitment = zeros 32; tree = zeros 240; leafCommitments = zeros 384; q = zeros 128 })
+    let op = zeros (95 + 16 * t) ++ (last ∷ []) in
+    reconstructNumber (shape 2 2 124 t) 8 (ch first) op (reconstructLengths (shape 2 2 124 t) 1 (zeros 16) (ch first) (zeros 1) op
+    (record { commitment = zeros 32; tree = zeros 240; leafCommitments = zeros 384; q = zeros 128 }))
 
 abbrev pub Numbers : Type 0
 Numbers =
@@ -155,7 +158,7 @@ Numbers =
     × (reconstructingAt 160 ≡ 6)
 
 pub numbers : Numbers
-unfolding tabulate zeros allZero number parent isAncestorWithin isAncestor some covered siblingToReveal revealedFrom revealed nodeCount bitAt bitsAt indexAt clearAt level nodeBytes challengeBytes leafCommitmentBytes hashBytes depthOf firstBit leaves leafOf shapeOk hiddenIndex hiddenLeaf hiddenLeaves grindingOk planned plannedCount treeBytes leafCommitmentsBytes openingBytes matrixBytes correctionsBytes slotsOk rowOk nodesOk decodeNumber planNumber commitNumber openNumber reconstructNumber deeper
+unfolding tabulate zeros allZero number parent isAncestorWithin isAncestor some covered siblingToReveal revealedFrom revealed nodeCount bitAt bitsAt indexAt clearAt level nodeBytes challengeBytes leafCommitmentBytes hashBytes depthOf firstBit leaves leafOf shapeOk hiddenIndex hiddenLeaf hiddenLeaves grindingOk planned plannedCount treeBytes leafCommitmentsBytes openingBytes matrixBytes correctionsBytes slotsOk rowOk nodesOk decodeNumber planNumber commitNumber reconstructNumber deeper
 numbers =
     (refl, refl, refl, refl, refl, refl, refl, refl, refl, refl, refl, refl, refl, refl, refl, refl, refl, refl, refl, refl, refl, refl, refl, refl, refl, refl, refl, refl, refl)
 
@@ -166,10 +169,10 @@ more i buffer = cond (eqb i buffer) 1 0
 
 abbrev pub Lengths : Type 0
 Lengths =
-    (tabulate 3 (λ i. decodeNumber small (zeros (16 + more i 0)) (zeros (1 + more i 1))) ≡ 3 ∷ 3 ∷ 0 ∷ [])
-    × (tabulate 3 (λ i. planNumber small (zeros (16 + more i 0)) (zeros (1 + more i 1))) ≡ 3 ∷ 3 ∷ 0 ∷ [])
+    (tabulate 3 (λ i. decodeNumber small (zeros 16) (decodeLengths small (zeros (16 + more i 0)) (zeros (1 + more i 1)))) ≡ 3 ∷ 3 ∷ 0 ∷ [])
+    × (tabulate 3 (λ i. planNumber small (zeros 16) (planLengths small (zeros (16 + more i 0)) (zeros (1 + more i 1)))) ≡ 3 ∷ 3 ∷ 0 ∷ [])
     × (tabulate 9 (λ i.
-    commitNumber small 8 (zeros (16 + more i 0)) (zeros (16 + more i 1))
+    commitNumber small 8 (commitLengths small 1 (zeros (16 + more i 0)) (zeros (16 + more i 1))
     (record {
       commitment = zeros (32 + more i 2);
       tree = zeros (48 + more i 3);
@@ -177,17 +180,17 @@ Lengths =
       u = zeros (1 + more i 5);
       v = zeros (128 + more i 6);
       corrections = zeros (more i 7);
-    }))
+    })))
     ≡ replicate 8 3 ++ (0 ∷ []))
-    × (tabulate 5 (λ i. openNumber small (zeros (16 + more i 0)) (zeros (48 + more i 1)) (zeros (96 + more i 2)) (zeros (64 + more i 3)))
+    × (tabulate 5 (λ i. planNumber small (zeros 16) (openLengths small (zeros (16 + more i 0)) (zeros (48 + more i 1)) (zeros (96 + more i 2)) (zeros (64 + more i 3))))
     ≡ replicate 4 3 ++ (0 ∷ []))
     × (tabulate 9 (λ i.
-    reconstructNumber small 8 (zeros (16 + more i 0)) (zeros (16 + more i 1)) (zeros (more i 2)) (zeros (64 + more i 3))
-    (record { commitment = zeros (32 + more i 4); tree = zeros (48 + more i 5); leafCommitments = zeros (96 + more i 6); q = zeros (128 + more i 7) }))
+    reconstructNumber small 8 (zeros 16) (zeros 64) (reconstructLengths small 1 (zeros (16 + more i 0)) (zeros (16 + more i 1)) (zeros (more i 2)) (zeros (64 + more i 3))
+    (record { commitment = zeros (32 + more i 4); tree = zeros (48 + more i 5); leafCommitments = zeros (96 + more i 6); q = zeros (128 + more i 7) })))
     ≡ replicate 8 3 ++ (0 ∷ []))
 
 pub lengths : Lengths
-unfolding tabulate zeros allZero number parent isAncestorWithin isAncestor some covered siblingToReveal revealedFrom revealed nodeCount bitAt bitsAt indexAt clearAt level nodeBytes challengeBytes leafCommitmentBytes hashBytes depthOf firstBit leaves leafOf shapeOk hiddenIndex hiddenLeaf hiddenLeaves grindingOk planned plannedCount treeBytes leafCommitmentsBytes openingBytes matrixBytes correctionsBytes slotsOk rowOk nodesOk decodeNumber planNumber commitNumber openNumber reconstructNumber deeper
+unfolding tabulate zeros allZero number parent isAncestorWithin isAncestor some covered siblingToReveal revealedFrom revealed nodeCount bitAt bitsAt indexAt clearAt level nodeBytes challengeBytes leafCommitmentBytes hashBytes depthOf firstBit leaves leafOf shapeOk hiddenIndex hiddenLeaf hiddenLeaves grindingOk planned plannedCount treeBytes leafCommitmentsBytes openingBytes matrixBytes correctionsBytes slotsOk rowOk nodesOk decodeNumber planNumber commitNumber reconstructNumber deeper
 lengths = (refl, refl, refl, refl, refl)
 
 -- the count with each number, where 7 nodes are planned

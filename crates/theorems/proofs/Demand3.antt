@@ -15,7 +15,7 @@ use Rattle.spec.specs.Primitives.{Primitives}
 use Rattle.spec.specs.Leaves.{leafCommitments}
 use Rattle.spec.specs.Signer.{signerTree, signerLeafCommitment, corrections, openingOf}
 use Rattle.spec.specs.Verifier.{slotsOk}
-use Rattle.spec.specs.Calls.{firstRefusal, fits, countWith, written, rowOk, nodesOk, Committed, committed, commitLengths, commitNumber, openLengths, openNumber, Open, Reconstructed, reconstructed, reconstructLengths, reconstructNumber, Reconstruct}
+use Rattle.spec.specs.Calls.{firstRefusal, fits, countWith, written, rowOk, nodesOk, Committed, committed, commitLengths, commitNumber, planNumber, openLengths, Open, Reconstructed, reconstructed, reconstructLengths, reconstructNumber, Reconstruct}
 use Rattle.planning_laws.proofs.ShapeLaws.{shape-laws}
 use Rattle.laws.specs.Lengths.{Sized}
 use Rattle.laws.proofs.Lengths.{sized-fits, fits-sized}
@@ -54,7 +54,7 @@ five-of s ch r m ne e k =
 
 open-five : (s : Shape) (ch tree lcs opening opening′ : List ℕ) (r : Answer) → Open s ch tree lcs opening opening′ r
     → shapeOk (resolved s) ≡ true → Sized (openLengths (resolved s) ch tree lcs opening) → Five (resolved s) ch r
-unfolding openNumber nodesOk
+unfolding planNumber nodesOk
 open-five s ch tree lcs opening opening′ r o sh z =
     five-of (resolved s) ch r 0 refl (o .number ∙ rw (sh, sized-fits (openLengths (resolved s) ch tree lcs opening) z) refl) (o .count)
 
@@ -72,13 +72,13 @@ check-five P s n iv ch corrections opening x x′ r o sh ro z =
 -- ---- the three calls after one another
 
 open-zero : (s : Shape) (ch tree lcs opening : List ℕ) → shapeOk s ≡ true → Sized (openLengths s ch tree lcs opening) → grindingOk s ch ≡ true → plannedCount s ch ≤ s .t
-    → openNumber s ch tree lcs opening ≡ 0
-unfolding openNumber nodesOk
+    → planNumber s ch (openLengths s ch tree lcs opening) ≡ 0
+unfolding planNumber nodesOk
 open-zero s ch tree lcs opening a b c d = rw (a, sized-fits (openLengths s ch tree lcs opening) b, c, le-leb (plannedCount s ch) (s .t) d) refl
 
 check-zero : (s : Shape) (n : ℕ) (iv ch corrections opening : List ℕ) (x : Reconstructed) → shapeOk s ≡ true → rowOk n ≡ true
     → Sized (reconstructLengths s (n / 8) iv ch corrections opening x) → grindingOk s ch ≡ true → plannedCount s ch ≤ s .t → slotsOk s ch opening ≡ true
-    → reconstructNumber s n iv ch corrections opening x ≡ 0
+    → reconstructNumber s n ch opening (reconstructLengths s (n / 8) iv ch corrections opening x) ≡ 0
 unfolding reconstructNumber nodesOk
 check-zero s n iv ch corrections opening x a b c d e g =
     rw (a, b, sized-fits (reconstructLengths s (n / 8) iv ch corrections opening x) c, d, le-leb (plannedCount s ch) (s .t) e, g) refl
@@ -94,10 +94,10 @@ module _ (P : Primitives) where
   -- with the resolved shape s and the signer's bytes written out
   told : (s : Shape) (n : ℕ) (root iv ch opening opening′ : List ℕ) (signer : Committed) (verifier verifier′ : Reconstructed) (opened checked : Answer)
       → shapeOk s ≡ true → rowOk n ≡ true → Sized (commitLengths s (n / 8) root iv signer)
-      → opened .number ≡ openNumber s ch (committed P s (n / 8) root iv .tree) (committed P s (n / 8) root iv .leafCommitments) opening
+      → opened .number ≡ planNumber s ch (openLengths s ch (committed P s (n / 8) root iv .tree) (committed P s (n / 8) root iv .leafCommitments) opening)
       → opened .count ≡ countWith (opened .number) (plannedCount s ch)
       → opening′ ≡ written (opened .number) (openingOf s ch (committed P s (n / 8) root iv .tree) (committed P s (n / 8) root iv .leafCommitments)) opening
-      → checked .number ≡ reconstructNumber s n iv ch (committed P s (n / 8) root iv .corrections) opening′ verifier
+      → checked .number ≡ reconstructNumber s n ch opening′ (reconstructLengths s (n / 8) iv ch (committed P s (n / 8) root iv .corrections) opening′ verifier)
       → checked .count ≡ countWith (checked .number) (plannedCount s ch)
       → verifier′ ≡ written (checked .number) (reconstructed P s (n / 8) iv ch (committed P s (n / 8) root iv .corrections) opening′) verifier
       → Sized ((length ch, challengeBytes s) ∷ (length opening, openingBytes s) ∷ (length (verifier .commitment), hashBytes s)
@@ -156,8 +156,8 @@ module _ (P : Primitives) where
 -- ---- what an opening depends on
 
 open-number-same : (s : Shape) (ch tree lcs before tree₂ lcs₂ before₂ : List ℕ) → length tree ≡ length tree₂ → length lcs ≡ length lcs₂ → length before ≡ length before₂
-    → openNumber s ch tree lcs before ≡ openNumber s ch tree₂ lcs₂ before₂
-unfolding openNumber nodesOk
+    → planNumber s ch (openLengths s ch tree lcs before) ≡ planNumber s ch (openLengths s ch tree₂ lcs₂ before₂)
+unfolding planNumber nodesOk
 open-number-same s ch tree lcs before tree₂ lcs₂ before₂ a b c = rw (a, b, c) refl
 
 pub opening-depends : OpeningDepends

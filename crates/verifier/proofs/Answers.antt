@@ -12,7 +12,7 @@ use Rattle.spec.specs.Bytes.{allZero}
 use Rattle.spec.specs.Shapes.{resolved, level, nodeBytes, challengeBytes, hashBytes, leafCommitmentBytes, shapeOk, grindingOk, plannedCount, treeBytes, leafCommitmentsBytes, openingBytes, matrixBytes, correctionsBytes}
 use Rattle.spec.specs.Primitives.{faest}
 use Rattle.spec.specs.Verifier.{slotsOk}
-use Rattle.spec.specs.Calls.{fits, countWith, rowOk, nodesOk, Reconstructed, reconstructed, reconstructNumber, Reconstruct}
+use Rattle.spec.specs.Calls.{fits, countWith, rowOk, nodesOk, Reconstructed, reconstructed, reconstructLengths, reconstructNumber, Reconstruct}
 
 -- the lengths that reconstruct compares
 abbrev pub Lengths : Shape → ℕ → List ℕ → List ℕ → List ℕ → List ℕ → Reconstructed → List (ℕ × ℕ)
@@ -39,7 +39,7 @@ module _ (s t : Shape) (e : t ≡ resolved s) (n : ℕ) (iv ch cs op : List ℕ)
   abbrev Same : Type 0
   Same = Reconstruct faest s n iv ch cs op x x r
 
-  refused : (k m : ℕ) → reconstructNumber (resolved s) n iv ch cs op x ≡ k → eqb k 0 ≡ false → countWith k (plannedCount (resolved s) ch) ≡ m
+  refused : (k m : ℕ) → reconstructNumber (resolved s) n ch op (reconstructLengths (resolved s) (n / 8) iv ch cs op x) ≡ k → eqb k 0 ≡ false → countWith k (plannedCount (resolved s) ch) ≡ m
       → (r .number ≡ k) × (r .count ≡ m) → Same
   refused k m d z c a = record { number = a .0 ∙ sym d; count = a .1 ∙ sym (rw (a .0) c); buffers = rw (a .0, z) refl }
 
