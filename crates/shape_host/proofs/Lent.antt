@@ -41,15 +41,19 @@ module _ (s : Shape) (ch before count xs : List ℕ) (n most room later : ℕ) (
   abbrev Lengths : List (ℕ × ℕ)
   Lengths = withCount count (hostListLengths s room ch before)
 
-  pub same-number : cond (shapeOk s) (cond (fits ((length ch, challengeBytes s) ∷ (length xs, room) ∷ [])) later 3) 1 ≡ cond (shapeOk s) (cond (fits Lengths) later 3) 1
+  -- what the call beneath compares
+  abbrev Beneath : List (ℕ × ℕ)
+  Beneath = (length ch, challengeBytes s) ∷ (length xs, room) ∷ []
+
+  same-fit : room < most → fits Beneath ≡ fits Lengths
+  same-fit h = rw (l, f room h) (reordered (eqb (length count) 4) (eqb (length ch) (challengeBytes s)) (eqb (length before) (4 * room)))
+
+  pub same-number : cond (shapeOk s) (cond (fits Beneath) later 3) 1 ≡ cond (shapeOk s) (cond (fits Lengths) later 3) 1
   same-number = go (shapeOk s) refl
     where
-      go : (b : Bool) → shapeOk s ≡ b
-          → cond (shapeOk s) (cond (fits ((length ch, challengeBytes s) ∷ (length xs, room) ∷ [])) later 3) 1 ≡ cond (shapeOk s) (cond (fits Lengths) later 3) 1
+      go : (b : Bool) → shapeOk s ≡ b → cond (shapeOk s) (cond (fits Beneath) later 3) 1 ≡ cond (shapeOk s) (cond (fits Lengths) later 3) 1
       go false e = rw e refl
-      go true e =
-          ap (λ (x : Bool). cond (shapeOk s) (cond x later 3) 1)
-          (rw (l, f room (small e)) (reordered (eqb (length count) 4) (eqb (length ch) (challengeBytes s)) (eqb (length before) (4 * room))))
+      go true e = ap (λ (x : Bool). cond (shapeOk s) (cond x later 3) 1) (same-fit (small e))
 
   pub right : (number : ℕ) → number ≡ cond (shapeOk s) (cond (fits Lengths) later 3) 1 → countGiven number ≡ true → Right s before count n room
   right number e h =
