@@ -1,6 +1,6 @@
 -- An exported call and the call beneath it test the same, since a list of n numbers has 4 n bytes; so they answer and write the same. Every index, node and count of a shape is
 -- below 2^32.
-use Prim.Native.Nat.{ℕ, zero, suc, _+_, _*_, _≤_, _<_}
+use Prim.Native.Nat.{ℕ, zero, suc, _+_, _-_, _*_, _≤_, _<_}
 use mathlib.Core.Path.{_≡_, refl, sym, ap, _∙_}
 use mathlib.Core.Bool.{Bool, true, false, cond}
 use mathlib.Core.List.{List, _++_}
@@ -10,9 +10,9 @@ use lib.ListN.{length, getD, drop}
 use borrow.Author.Tests.{eq-eqb}
 use Rattle.spec.specs.declared.Shape.{Shape}
 use Rattle.spec.specs.declared.Answer.{Answer}
-use Rattle.spec.specs.Bytes.{part, number, digits}
-use Rattle.spec.specs.Tree.{siblingToReveal, revealedFrom, revealed, nodeCount}
-use Rattle.spec.specs.Shapes.{resolved, shapeOk, hiddenIndex, hiddenIndices, planned, plannedCount}
+use Rattle.spec.specs.Bytes.{part, number}
+use Rattle.spec.specs.Tree.{covered, siblingToReveal, revealedFrom, revealed, nodeCount}
+use Rattle.spec.specs.Shapes.{resolved, leaves, hiddenIndex, hiddenIndices, hiddenLeaves, planned, plannedCount}
 use Rattle.spec.specs.Primitives.{Primitives}
 use Rattle.spec.specs.Calls.{written, countWith, decodeNumber, Decode, planNumber, Plan, Committed, commitNumber, Commit, Open, Reconstructed, reconstructNumber, Reconstruct}
 use Rattle.spec.specs.HostCalls.{wordBytes, countSlice, HostDecode, HostPlan, HostCommit, HostOpen, HostReconstruct}
@@ -22,7 +22,7 @@ use Rattle.laws.proofs.Words.{same-test, words-length, words-append, words-drop
 use Rattle.planning_laws.proofs.Revealed.{revealed-below}
 use Rattle.planning_laws.proofs.HiddenLeaves.{hidden-index-lt}
 use Rattle.planning_laws.proofs.ShapeFacts.{shape-facts, leaves-max, entries-small}
-use Rattle.theorems.specs.HostCalls.{SameAnswer, ExportedCalls, Readable, EveryReadable}
+use Rattle.theorems.specs.HostCalls.{SameAnswer, ExportedCalls, EveryReadable}
 
 -- ---- from the number to the rest
 
@@ -120,5 +120,5 @@ every-readable s ch e =
           let at = getD-tabulate (resolved s .tau) (hiddenIndex (resolved s) ch) i 0 h in
           read (hiddenIndices (resolved s) ch) i (rw length-tabulate h) (rw at (omega (arith, hidden-index-lt (resolved s) ch i, entries-small (resolved s) i f))) ∙ at;
       nodes = λ i h. read (planned (resolved s) ch) i h (revealed-below _ _ 81920 (omega (arith, leaves-max (resolved s) f)) i);
-      count = number-digits 8 4 (plannedCount (resolved s) ch) (omega (arith, revealed-few _ _, leaves-max (resolved s) f));
+      count = number-digits 8 4 (plannedCount (resolved s) ch) (omega (arith, revealed-few (covered (hiddenLeaves (resolved s) ch)) (leaves (resolved s) - 1), leaves-max (resolved s) f));
     }
