@@ -109,7 +109,8 @@ static int run(const char *name, size_t tau, size_t k, size_t w, size_t t)
         same = same && number == 0 && memcmp(commitment, again, sizeof again) == 0 && is_cut(128, first, width, q, q2);
         same = same && agreeing(challenge, u2, v2, q2, width) == 128;
         pieces++;
-        equal += same;
+        if (same)
+            equal++;
         free(u2), free(v2), free(corrections2), free(q2);
     }
     wrong += equal != pieces;

@@ -89,6 +89,7 @@ int main(void)
             return 1;
         for (size_t c = 0; c < CALLS; c++) {
             answer = 0;
+            calls[c].work(); /* the first call may bind names of the C library, on the stack it runs on */
             const size_t d = depth(calls[c].work, calls[c].size);
             if (answer != 0 || d > calls[c].size / 8 * 7)
                 wrong += (size_t)printf("%s: answered %zu, %zu bytes of stack, at tau %zu\n", calls[c].name, answer, d, shape[0]);
