@@ -13,11 +13,11 @@ use Rattle.spec.specs.Challenge.{bitAt, bitsAt, indexAt, clearAt}
 use Rattle.spec.specs.Shapes.{level, nodeBytes, challengeBytes, leafCommitmentBytes, deeper, depthOf, entriesOf, firstBit, firstEntry, leaves, leafOf, shapeOk, hiddenIndex, hiddenLeaf, hiddenLeaves, grindingOk, planned, plannedCount, treeBytes, leafCommitmentsBytes, openingBytes}
 use Rattle.spec.specs.Primitives.{prg}
 use Rattle.spec.specs.Leaves.{nodeAt, leafKey, stretched, leafSeed}
-use Rattle.spec.specs.Rows.{rowByte, uByte}
+use Rattle.spec.specs.Rows.{rowByte, stretchByte, uByte}
 use Rattle.spec.specs.Signer.{signerU, correction, corrections, leafCommitmentAt, openingOf}
 use Rattle.spec.specs.Calls.{written, nodesOk, planLengths, planNumber, openLengths}
 use Rattle.spec.proofs.StandIns.{standIn}
-use Rattle.spec.proofs.WorkedExample.{shape, challenge, iv, signer-tree, signer-leaf-commitments}
+use Rattle.spec.proofs.WorkedExample.{shape, whole, rows, challenge, signer-tree, signer-leaf-commitments}
 
 -- two lists that differ at place i are not equal
 apart : (xs ys : List ℕ) (i : ℕ) → T (not (eqb (getD xs i 0) (getD ys i 0))) → xs ≡ ys → ⊥
@@ -73,11 +73,11 @@ not-covered-nodes = apart (coveredNumber shape challenge ∷ []) (planNumber sha
 -- ---- the correction of vector 0 taken as u instead of nothing
 
 pub withVector0 : List ℕ
-withVector0 = signerU standIn shape 2 iv signer-tree ++ corrections standIn shape 2 iv signer-tree
+withVector0 = signerU shape 2 (rows whole signer-tree) ++ corrections shape 2 (rows whole signer-tree)
 
-pub not-vector-0 : withVector0 ≡ corrections standIn shape 2 iv signer-tree → ⊥
-unfolding withVector0 tabulate concat xorBelow level nodeBytes leafCommitmentBytes depthOf entriesOf leaves leafOf prg nodeAt leafKey stretched leafSeed rowByte uByte signerU correction corrections deeper
-not-vector-0 = apart withVector0 (corrections standIn shape 2 iv signer-tree) 1 tt
+pub not-vector-0 : withVector0 ≡ corrections shape 2 (rows whole signer-tree) → ⊥
+unfolding withVector0 tabulate concat xorBelow level nodeBytes leafCommitmentBytes depthOf entriesOf leaves leafOf prg nodeAt leafKey stretched leafSeed rowByte stretchByte uByte signerU correction corrections deeper
+not-vector-0 = apart withVector0 (corrections shape 2 (rows whole signer-tree)) 1 tt
 
 -- ---- the opening filled first and the count compared later
 

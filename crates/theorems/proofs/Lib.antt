@@ -2,6 +2,8 @@
 pub mod Columns
 pub mod Buffers
 pub mod Reconstruction
+pub mod ColumnRule
+pub mod Stretches
 pub mod Demand3
 pub mod PlanningExamples
 pub mod Fewest
