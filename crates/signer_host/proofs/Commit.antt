@@ -10,7 +10,7 @@ use Rattle.spec.specs.declared.Shape.{Shape}
 use Rattle.spec.specs.declared.Answer.{Answer}
 use Rattle.spec.specs.Shapes.{resolved, level, nodeBytes, shapeOk}
 use Rattle.spec.specs.Primitives.{faest}
-use Rattle.spec.specs.Calls.{countGiven, rowOk, Committed, committed, commitLengths, commitNumber, Commit}
+use Rattle.spec.specs.Calls.{countGiven, rowOk, wholeRow, Committed, committed, commitLengths, commitNumber, Commit}
 use Rattle.spec.specs.HostCalls.{countSlice, withCount, HostCommit}
 use Rattle.host_words.proofs.Passed as passed
 
@@ -37,6 +37,6 @@ module _ (s : Shape) (n : ℕ) (root iv : List ℕ) (x y : Committed) (count : L
   commit-host count′ d =
       record {
         number = passed.number root count m e beneath host full none (r .number) (o .number);
-        buffers = passed.bytes root count m e beneath host full none (r .number) (o .number) (λ q. committed faest (resolved s) (n / 8) q iv) x y (o .buffers);
+        buffers = passed.bytes root count m e beneath host full none (r .number) (o .number) (λ q. committed faest (resolved s) (wholeRow n) q iv) x y (o .buffers);
         counted = rw (o .count) at d;
       }

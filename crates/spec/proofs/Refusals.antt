@@ -13,7 +13,7 @@ use Rattle.spec.specs.Tree.{parent, isAncestorWithin, isAncestor, some, 
 use Rattle.spec.specs.Challenge.{bitAt, bitsAt, indexAt, clearAt}
 use Rattle.spec.specs.Shapes.{faest128s, faest128f, resolved, level, nodeBytes, challengeBytes, leafCommitmentBytes, hashBytes, deeper, depthOf, firstBit, leaves, leafOf, shapeOk, hiddenIndex, hiddenLeaf, hiddenLeaves, grindingOk, planned, plannedCount, treeBytes, leafCommitmentsBytes, openingBytes, matrixBytes, correctionsBytes}
 use Rattle.spec.specs.Verifier.{slotsOk}
-use Rattle.spec.specs.Calls.{rowOk, stretchOk, nodesOk, countWith, decodeNumber, planNumber, Committed, commitLengths, commitNumber, commitStretchNumber, openNumber, Reconstructed, reconstructLengths, reconstructNumber, reconstructStretchNumber}
+use Rattle.spec.specs.Calls.{rowOk, stretchOk, nodesOk, countWith, decodeLengths, decodeNumber, planLengths, planNumber, Committed, commitLengths, commitNumber, commitStretchNumber, openLengths, Reconstructed, reconstructLengths, reconstructNumber, reconstructStretchNumber}
 
 abbrev pub shape : ℕ → ℕ → ℕ → ℕ → Shape
 shape tau k w t = record { tau = tau; k = k; w = w; t = t }
@@ -217,7 +217,7 @@ StretchNumbers =
     × (reconstructingStretch small 16 1 1 2 1 ≡ 4)
 
 pub stretch-numbers : StretchNumbers
-unfolding tabulate zeros allZero number parent isAncestorWithin isAncestor some covered siblingToReveal revealedFrom revealed nodeCount bitAt bitsAt indexAt clearAt level nodeBytes challengeBytes leafCommitmentBytes hashBytes depthOf firstBit leaves leafOf shapeOk hiddenIndex hiddenLeaf hiddenLeaves grindingOk planned plannedCount treeBytes leafCommitmentsBytes openingBytes matrixBytes correctionsBytes slotsOk rowOk nodesOk decodeNumber planNumber commitNumber openNumber reconstructNumber deeper stretchOk commitStretchNumber reconstructStretchNumber
+unfolding tabulate zeros allZero number parent isAncestorWithin isAncestor some covered siblingToReveal revealedFrom revealed nodeCount bitAt bitsAt indexAt clearAt level nodeBytes challengeBytes leafCommitmentBytes hashBytes depthOf firstBit leaves leafOf shapeOk hiddenIndex hiddenLeaf hiddenLeaves grindingOk planned plannedCount treeBytes leafCommitmentsBytes openingBytes matrixBytes correctionsBytes slotsOk rowOk nodesOk decodeNumber planNumber commitNumber reconstructNumber deeper stretchOk commitStretchNumber reconstructStretchNumber
 stretch-numbers = (refl, refl, refl, refl, refl, refl, refl, refl, refl, refl, refl, refl)
 
 -- ---- lengths: of the buffers of a call, in its order, buffer i alone is a byte longer, or none where i is past the last; at `small` with 8 bits

@@ -6,11 +6,12 @@ use mathlib.Core.Bool.{cond}
 use mathlib.Core.List.{List, [], _∷_, _++_}
 use lib.ListN.{length, drop}
 use Rattle.spec.specs.declared.Shape.{Shape}
+use Rattle.spec.specs.declared.Stretch.{Stretch}
 use Rattle.spec.specs.Bytes.{digits}
 use Rattle.spec.specs.Shapes.{resolved, challengeBytes, hiddenIndices, planned, plannedCount}
 use Rattle.spec.specs.Primitives.{Primitives}
 use Rattle.spec.specs.Signer.{openingOf}
-use Rattle.spec.specs.Calls.{countGiven, written, decodeNumber, planNumber, Committed, committed, commitLengths, commitNumber, openLengths, Reconstructed, reconstructed, reconstructLengths, reconstructNumber}
+use Rattle.spec.specs.Calls.{wholeRow, countGiven, written, decodeNumber, planNumber, Committed, committed, commitLengths, commitNumber, commitStretchNumber, openLengths, Reconstructed, reconstructed, reconstructLengths, reconstructNumber, reconstructStretchNumber}
 
 -- a list of numbers: four bytes each, least byte first
 unfoldable pub wordBytes : List ℕ → List ℕ
@@ -40,11 +41,16 @@ pub record HostPlan (s : Shape) (ch before after count count′ : List ℕ) (r :
   pub nodes : after ≡ written r (wordBytes (planned (resolved s) ch) ++ drop (4 * plannedCount (resolved s) ch) before) before
   pub counted : count′ ≡ countSlice r (plannedCount (resolved s) ch) count
 
--- ---- commit
+-- ---- commit, of the rows and of a stretch of them
 
 pub record HostCommit (P : Primitives) (s : Shape) (n : ℕ) (root iv : List ℕ) (before after : Committed) (count count′ : List ℕ) (r : ℕ) : Type 0 where
   pub number : r ≡ commitNumber (resolved s) n (withCount count (commitLengths (resolved s) (n / 8) root iv before))
-  pub buffers : after ≡ written r (committed P (resolved s) (n / 8) root iv) before
+  pub buffers : after ≡ written r (committed P (resolved s) (wholeRow n) root iv) before
+  pub counted : count′ ≡ countSlice r 0 count
+
+pub record HostCommitStretch (P : Primitives) (s : Shape) (n : ℕ) (z : Stretch) (root iv : List ℕ) (before after : Committed) (count count′ : List ℕ) (r : ℕ) : Type 0 where
+  pub number : r ≡ commitStretchNumber (resolved s) n z (withCount count (commitLengths (resolved s) (z .width) root iv before))
+  pub buffers : after ≡ written r (committed P (resolved s) z root iv) before
   pub counted : count′ ≡ countSlice r 0 count
 
 -- ---- open
@@ -54,9 +60,14 @@ pub record HostOpen (s : Shape) (ch tree lcs before after count count′ : List 
   pub opening : after ≡ written r (openingOf (resolved s) ch tree lcs) before
   pub counted : count′ ≡ countSlice r (plannedCount (resolved s) ch) count
 
--- ---- reconstruct
+-- ---- reconstruct, of the rows and of a stretch of them
 
 pub record HostReconstruct (P : Primitives) (s : Shape) (n : ℕ) (iv ch corrections opening : List ℕ) (before after : Reconstructed) (count count′ : List ℕ) (r : ℕ) : Type 0 where
   pub number : r ≡ reconstructNumber (resolved s) n ch opening (withCount count (reconstructLengths (resolved s) (n / 8) iv ch corrections opening before))
-  pub buffers : after ≡ written r (reconstructed P (resolved s) (n / 8) iv ch corrections opening) before
+  pub buffers : after ≡ written r (reconstructed P (resolved s) (wholeRow n) iv ch corrections opening) before
+  pub counted : count′ ≡ countSlice r (plannedCount (resolved s) ch) count
+
+pub record HostReconstructStretch (P : Primitives) (s : Shape) (n : ℕ) (z : Stretch) (iv ch corrections opening : List ℕ) (before after : Reconstructed) (count count′ : List ℕ) (r : ℕ) : Type 0 where
+  pub number : r ≡ reconstructStretchNumber (resolved s) n z ch opening (withCount count (reconstructLengths (resolved s) (z .width) iv ch corrections opening before))
+  pub buffers : after ≡ written r (reconstructed P (resolved s) z iv ch corrections opening) before
   pub counted : count′ ≡ countSlice r (plannedCount (resolved s) ch) count

@@ -17,7 +17,7 @@ use Rattle.spec.specs.Leaves.{leafCommitments}
 use Rattle.spec.specs.Rows.{stretchByte}
 use Rattle.spec.specs.Signer.{signerTree, signerLeafCommitment, corrections, openingOf}
 use Rattle.spec.specs.Verifier.{slotsOk, reconstructedTree}
-use Rattle.spec.specs.Calls.{firstRefusal, fits, countWith, written, rowOk, wholeRow, stretchOk, nodesOk, Committed, committed, commitLengths, commitStretchNumber, CommitStretch, openLengths, openNumber, Open, Reconstructed, reconstructed, reconstructLengths, reconstructStretchNumber, ReconstructStretch}
+use Rattle.spec.specs.Calls.{firstRefusal, fits, countWith, written, rowOk, wholeRow, stretchOk, nodesOk, Committed, committed, commitLengths, commitStretchNumber, CommitStretch, planNumber, openLengths, Open, Reconstructed, reconstructed, reconstructLengths, reconstructStretchNumber, ReconstructStretch}
 use Rattle.planning_laws.proofs.ShapeLaws.{shape-laws}
 use Rattle.laws.specs.Lengths.{Sized}
 use Rattle.laws.proofs.Lengths.{sized-fits, fits-sized}
@@ -94,7 +94,7 @@ module _ (P : Primitives) where
   -- with the resolved shape s and the signer's bytes written out
   told : (s : Shape) (n : ℕ) (z : Stretch) (root iv ch opening opening′ : List ℕ) (signer : Committed) (verifier verifier′ : Reconstructed) (opened checked : Answer)
       → shapeOk s ≡ true → rowOk n ≡ true → stretchOk (n / 8) z ≡ true → Sized (commitLengths s (z .width) root iv signer)
-      → opened .number ≡ openNumber s ch (committed P s z root iv .tree) (committed P s z root iv .leafCommitments) opening
+      → opened .number ≡ planNumber s ch (openLengths s ch (committed P s z root iv .tree) (committed P s z root iv .leafCommitments) opening)
       → opened .count ≡ countWith (opened .number) (plannedCount s ch)
       → opening′ ≡ written (opened .number) (openingOf s ch (committed P s z root iv .tree) (committed P s z root iv .leafCommitments)) opening
       → checked .number ≡ reconstructStretchNumber s n z ch opening′ (reconstructLengths s (z .width) iv ch (committed P s z root iv .corrections) opening′ verifier)

@@ -9,13 +9,14 @@ use lib.Dec.{eqb}
 use lib.ListN.{length, getD, drop}
 use borrow.Author.Tests.{eq-eqb}
 use Rattle.spec.specs.declared.Shape.{Shape}
+use Rattle.spec.specs.declared.Stretch.{Stretch}
 use Rattle.spec.specs.declared.Answer.{Answer}
 use Rattle.spec.specs.Bytes.{part, number}
 use Rattle.spec.specs.Tree.{covered, siblingToReveal, revealedFrom, revealed, nodeCount}
 use Rattle.spec.specs.Shapes.{resolved, leaves, hiddenIndex, hiddenIndices, hiddenLeaves, planned, plannedCount}
 use Rattle.spec.specs.Primitives.{Primitives}
-use Rattle.spec.specs.Calls.{written, countWith, decodeNumber, Decode, planNumber, Plan, Committed, commitNumber, Commit, Open, Reconstructed, reconstructNumber, Reconstruct}
-use Rattle.spec.specs.HostCalls.{wordBytes, countSlice, HostDecode, HostPlan, HostCommit, HostOpen, HostReconstruct}
+use Rattle.spec.specs.Calls.{written, countWith, decodeNumber, Decode, planNumber, Plan, Committed, commitNumber, commitStretchNumber, Commit, CommitStretch, Open, Reconstructed, reconstructNumber, reconstructStretchNumber, Reconstruct, ReconstructStretch}
+use Rattle.spec.specs.HostCalls.{wordBytes, countSlice, HostDecode, HostPlan, HostCommit, HostCommitStretch, HostOpen, HostReconstruct, HostReconstructStretch}
 use Rattle.laws.proofs.Lists.{length-tabulate, getD-tabulate}
 use Rattle.laws.proofs.Digits.{number-digits}
 use Rattle.laws.proofs.Words.{same-test, words-length, words-append, words-drop, words-part, count-slice}
@@ -77,10 +78,24 @@ module _ (P : Primitives) where
   commit s bits root iv x x′ after count count′ r n o h l =
       same r n 0 _ x x′ after count count′ (h .number ∙ rw (eq-eqb (length count) 4 l) (sym (o .number))) (o .buffers) (h .buffers) (o .count) (h .counted)
 
+  commit-stretch : (s : Shape) (bits : ℕ) (z : Stretch) (root iv : List ℕ) (x x′ after : Committed) (count count′ : List ℕ) (r : Answer) (n : ℕ)
+      → CommitStretch P s bits z root iv x x′ r → HostCommitStretch P s bits z root iv x after count count′ n → length count ≡ 4 → SameAnswer r x′ n after count count′
+  unfolding commitStretchNumber
+  commit-stretch s bits z root iv x x′ after count count′ r n o h l =
+      same r n 0 _ x x′ after count count′ (h .number ∙ rw (eq-eqb (length count) 4 l) (sym (o .number))) (o .buffers) (h .buffers) (o .count) (h .counted)
+
   reconstruct : (s : Shape) (bits : ℕ) (iv ch cs op : List ℕ) (x x′ after : Reconstructed) (count count′ : List ℕ) (r : Answer) (n : ℕ)
       → Reconstruct P s bits iv ch cs op x x′ r → HostReconstruct P s bits iv ch cs op x after count count′ n → length count ≡ 4 → SameAnswer r x′ n after count count′
   unfolding reconstructNumber
   reconstruct s bits iv ch cs op x x′ after count count′ r n o h l =
+      let e : n ≡ r .number = h .number ∙ rw (eq-eqb (length count) 4 l) (sym (o .number)) in
+      same r n (r .count) _ x x′ after count count′ e (o .buffers) (h .buffers) refl (given r n (plannedCount (resolved s) ch) count count′ e (o .count) (h .counted))
+
+  reconstruct-stretch : (s : Shape) (bits : ℕ) (z : Stretch) (iv ch cs op : List ℕ) (x x′ after : Reconstructed) (count count′ : List ℕ) (r : Answer) (n : ℕ)
+      → ReconstructStretch P s bits z iv ch cs op x x′ r → HostReconstructStretch P s bits z iv ch cs op x after count count′ n → length count ≡ 4
+      → SameAnswer r x′ n after count count′
+  unfolding reconstructStretchNumber
+  reconstruct-stretch s bits z iv ch cs op x x′ after count count′ r n o h l =
       let e : n ≡ r .number = h .number ∙ rw (eq-eqb (length count) 4 l) (sym (o .number)) in
       same r n (r .count) _ x x′ after count count′ e (o .buffers) (h .buffers) refl (given r n (plannedCount (resolved s) ch) count count′ e (o .count) (h .counted))
 
@@ -92,7 +107,16 @@ opened s ch tree lcs opening opening′ after count count′ r n o h l =
     same r n (r .count) _ opening opening′ after count count′ e (o .opening) (h .opening) refl (given r n (plannedCount (resolved s) ch) count count′ e (o .count) (h .counted))
 
 pub exported-calls : (P : Primitives) → ExportedCalls P
-exported-calls P = record { decode = decode; plan = plan; commit = commit P; opened = opened; reconstruct = reconstruct P }
+exported-calls P =
+    record {
+      decode = decode;
+      plan = plan;
+      commit = commit P;
+      commit-stretch = commit-stretch P;
+      opened = opened;
+      reconstruct = reconstruct P;
+      reconstruct-stretch = reconstruct-stretch P;
+    }
 
 -- ---- what a host reads
 

@@ -6,12 +6,13 @@ use mathlib.Core.Bool.{true}
 use mathlib.Core.List.{List}
 use lib.ListN.{length, getD}
 use Rattle.spec.specs.declared.Shape.{Shape}
+use Rattle.spec.specs.declared.Stretch.{Stretch}
 use Rattle.spec.specs.declared.Answer.{Answer}
 use Rattle.spec.specs.Bytes.{part, number, digits}
 use Rattle.spec.specs.Shapes.{resolved, shapeOk, hiddenIndex, hiddenIndices, planned, plannedCount}
 use Rattle.spec.specs.Primitives.{Primitives}
-use Rattle.spec.specs.Calls.{Decode, Plan, Committed, Commit, Open, Reconstructed, Reconstruct}
-use Rattle.spec.specs.HostCalls.{wordBytes, countSlice, HostDecode, HostPlan, HostCommit, HostOpen, HostReconstruct}
+use Rattle.spec.specs.Calls.{Decode, Plan, Committed, Commit, CommitStretch, Open, Reconstructed, Reconstruct, ReconstructStretch}
+use Rattle.spec.specs.HostCalls.{wordBytes, countSlice, HostDecode, HostPlan, HostCommit, HostCommitStretch, HostOpen, HostReconstruct, HostReconstructStretch}
 
 -- the exported call returns n and leaves `buffers` and count′; the call beneath answers r and leaves `beneath`
 pub record SameAnswer {A : Type 0} (r : Answer) (beneath : A) (n : ℕ) (buffers : A) (count count′ : List ℕ) : Type 0 where
@@ -39,6 +40,12 @@ pub record ExportedCalls (P : Primitives) : Type 0 where
       → HostCommit P s bits root iv x after count count′ n
       → length count ≡ 4
       → SameAnswer r x′ n after count count′
+  pub commit-stretch :
+      (s : Shape) (bits : ℕ) (z : Stretch) (root iv : List ℕ) (x x′ after : Committed) (count count′ : List ℕ) (r : Answer) (n : ℕ)
+      → CommitStretch P s bits z root iv x x′ r
+      → HostCommitStretch P s bits z root iv x after count count′ n
+      → length count ≡ 4
+      → SameAnswer r x′ n after count count′
   pub opened :
       (s : Shape) (ch tree lcs opening opening′ after count count′ : List ℕ) (r : Answer) (n : ℕ)
       → Open s ch tree lcs opening opening′ r
@@ -49,6 +56,12 @@ pub record ExportedCalls (P : Primitives) : Type 0 where
       (s : Shape) (bits : ℕ) (iv ch corrections opening : List ℕ) (x x′ after : Reconstructed) (count count′ : List ℕ) (r : Answer) (n : ℕ)
       → Reconstruct P s bits iv ch corrections opening x x′ r
       → HostReconstruct P s bits iv ch corrections opening x after count count′ n
+      → length count ≡ 4
+      → SameAnswer r x′ n after count count′
+  pub reconstruct-stretch :
+      (s : Shape) (bits : ℕ) (z : Stretch) (iv ch corrections opening : List ℕ) (x x′ after : Reconstructed) (count count′ : List ℕ) (r : Answer) (n : ℕ)
+      → ReconstructStretch P s bits z iv ch corrections opening x x′ r
+      → HostReconstructStretch P s bits z iv ch corrections opening x after count count′ n
       → length count ≡ 4
       → SameAnswer r x′ n after count count′
 

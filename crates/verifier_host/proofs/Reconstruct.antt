@@ -10,7 +10,7 @@ use Rattle.spec.specs.declared.Shape.{Shape}
 use Rattle.spec.specs.declared.Answer.{Answer}
 use Rattle.spec.specs.Shapes.{resolved, shapeOk, plannedCount}
 use Rattle.spec.specs.Primitives.{faest}
-use Rattle.spec.specs.Calls.{countGiven, rowOk, Reconstructed, reconstructed, reconstructLengths, reconstructNumber, Reconstruct}
+use Rattle.spec.specs.Calls.{countGiven, rowOk, wholeRow, Reconstructed, reconstructed, reconstructLengths, reconstructNumber, Reconstruct}
 use Rattle.spec.specs.HostCalls.{countSlice, withCount, HostReconstruct}
 use Rattle.host_words.proofs.Passed as passed
 
@@ -37,6 +37,6 @@ module _ (s : Shape) (n : ℕ) (iv ch cs op : List ℕ) (x y : Reconstructed) (c
   reconstruct-host count′ d =
       record {
         number = passed.number iv count m e beneath host full none (r .number) (o .number);
-        buffers = passed.bytes iv count m e beneath host full none (r .number) (o .number) (λ q. reconstructed faest (resolved s) (n / 8) q ch cs op) x y (o .buffers);
+        buffers = passed.bytes iv count m e beneath host full none (r .number) (o .number) (λ q. reconstructed faest (resolved s) (wholeRow n) q ch cs op) x y (o .buffers);
         counted = passed.counted iv count m e beneath host full none (r .number) (o .number) (λ q. plannedCount (resolved s) ch) (r .count) count′ (o .count) d;
       }
