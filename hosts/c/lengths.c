@@ -2,12 +2,10 @@
 #include <rachnoel.h>
 
 #include <stdio.h>
-#include <stdlib.h>
-#include <string.h>
 
 enum { ROW = 1, MOST_LEAVES = 40960 };
 static uint8_t tree[32 * MOST_LEAVES], lcs[48 * MOST_LEAVES], opening[48 * 32 + 16 * 512 + 1], list[4 * 512 + 1];
-static uint8_t challenge[RACHNOEL_BLOCK], iv[RACHNOEL_BLOCK], commitment[RACHNOEL_COMMITMENT], matrix[128 * ROW + 1], count[RACHNOEL_COUNT];
+static uint8_t challenge[RACHNOEL_BLOCK], iv[RACHNOEL_BLOCK], commitment[RACHNOEL_COMMITMENT], q[128 * ROW + 1], corrections[31 * ROW + 1], count[RACHNOEL_COUNT];
 
 static size_t wrong, shapes;
 
@@ -19,11 +17,11 @@ static void expect(int right, const char *what, const size_t s[4])
     }
 }
 
-/* reconstruct with a grinding bit set: 4 where every length is right. Buffer `longer` of the six whose length the shape decides has a byte more. */
+/* reconstruct with a grinding bit set: 4 where every length is right. Of the five buffers whose length the shape or the row decides, the one numbered `longer` has a byte more. */
 static size_t reconstruct(const size_t s[4], const rachnoel_lengths *n, int longer)
 {
-    return rachnoel_reconstruct(s[0], s[1], s[2], s[3], 8 * ROW, iv, sizeof iv, challenge, sizeof challenge, matrix, n->corrections + (longer == 1), opening,
-        n->opening + (longer == 2), commitment, sizeof commitment, tree, n->tree + (longer == 3), lcs, n->leaf_commitments + (longer == 4), matrix,
+    return rachnoel_reconstruct(s[0], s[1], s[2], s[3], 8 * ROW, iv, sizeof iv, challenge, sizeof challenge, corrections, n->corrections + (longer == 1), opening,
+        n->opening + (longer == 2), commitment, sizeof commitment, tree, n->tree + (longer == 3), lcs, n->leaf_commitments + (longer == 4), q,
         n->matrix + (longer == 5), count, sizeof count);
 }
 
