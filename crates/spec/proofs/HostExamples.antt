@@ -6,10 +6,10 @@ use lib.ListN.{replicate}
 use Rattle.spec.specs.declared.Shape.{Shape}
 use Rattle.spec.specs.Bytes.{tabulate, zeros, allZero, digits}
 use Rattle.spec.specs.Challenge.{bitAt, bitsAt, clearAt}
-use Rattle.spec.specs.Shapes.{level, challengeBytes, deeper, depthOf, firstBit, shapeOk, grindingOk}
-use Rattle.spec.specs.Calls.{decodeNumber}
+use Rattle.spec.specs.Shapes.{level, nodeBytes, challengeBytes, leafCommitmentBytes, hashBytes, deeper, depthOf, firstBit, leaves, shapeOk, grindingOk, treeBytes, leafCommitmentsBytes, matrixBytes, correctionsBytes}
+use Rattle.spec.specs.Calls.{rowOk, stretchOk, decodeNumber, commitLengths, commitStretchNumber}
 use Rattle.spec.specs.HostCalls.{wordBytes, countSlice, withCount, hostListLengths}
-use Rattle.spec.proofs.Refusals.{shape, small, ch}
+use Rattle.spec.proofs.Refusals.{shape, small, ch, signerBuffers, stretch}
 
 abbrev pub Words : Type 0
 Words =
@@ -38,6 +38,11 @@ slices = refl
 abbrev decoding : Shape → ℕ → ℕ → ℕ → ℕ
 decoding s first n m = decodeNumber s (ch first) (withCount (zeros m) (hostListLengths s (s .tau) (ch first) (zeros n)))
 
+-- commit of a stretch of a byte, with rows of n bits and a count slice of m bytes
+abbrev committing : ℕ → ℕ → ℕ → ℕ
+committing n first m =
+    commitStretchNumber small n (stretch first 1) (withCount (zeros m) (commitLengths small 1 (zeros 16) (zeros 16) (signerBuffers 1)))
+
 abbrev pub Turns : Type 0
 Turns =
     (decoding small 0 4 4 ≡ 0)
@@ -48,7 +53,11 @@ Turns =
     × (decoding small 2 1 4 ≡ 3)
     × (decoding small 2 8 4 ≡ 3)
     × (decoding small 2 4 4 ≡ 4)
+    × (committing 8 0 4 ≡ 0)
+    × (committing 12 1 3 ≡ 2)
+    × (committing 8 1 3 ≡ 8)
+    × (committing 8 0 3 ≡ 3)
 
 pub turns : Turns
-unfolding tabulate zeros allZero bitAt bitsAt clearAt level challengeBytes deeper depthOf firstBit shapeOk grindingOk decodeNumber
-turns = (refl, refl, refl, refl, refl, refl, refl, refl)
+unfolding tabulate zeros allZero bitAt bitsAt clearAt level nodeBytes challengeBytes leafCommitmentBytes hashBytes deeper depthOf firstBit leaves shapeOk grindingOk treeBytes leafCommitmentsBytes matrixBytes correctionsBytes rowOk stretchOk decodeNumber commitStretchNumber
+turns = (refl, refl, refl, refl, refl, refl, refl, refl, refl, refl, refl, refl)

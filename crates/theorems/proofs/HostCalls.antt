@@ -3,7 +3,7 @@
 use Prim.Native.Nat.{ℕ, zero, suc, _+_, _-_, _*_, _≤_, _<_}
 use mathlib.Core.Path.{_≡_, refl, sym, ap, _∙_}
 use mathlib.Core.Bool.{Bool, true, false, cond}
-use mathlib.Core.List.{List, _++_}
+use mathlib.Core.List.{List, [], _∷_, _++_}
 use native.Mathlib.Omega.{arith}
 use lib.Dec.{eqb}
 use lib.ListN.{length, getD, drop}
@@ -11,19 +11,19 @@ use borrow.Author.Tests.{eq-eqb}
 use Rattle.spec.specs.declared.Shape.{Shape}
 use Rattle.spec.specs.declared.Stretch.{Stretch}
 use Rattle.spec.specs.declared.Answer.{Answer}
-use Rattle.spec.specs.Bytes.{part, number}
+use Rattle.spec.specs.Bytes.{part, number, digits}
 use Rattle.spec.specs.Tree.{covered, siblingToReveal, revealedFrom, revealed, nodeCount}
 use Rattle.spec.specs.Shapes.{resolved, leaves, hiddenIndex, hiddenIndices, hiddenLeaves, planned, plannedCount}
 use Rattle.spec.specs.Primitives.{Primitives}
 use Rattle.spec.specs.Calls.{written, countWith, decodeNumber, Decode, planNumber, Plan, Committed, commitNumber, commitStretchNumber, Commit, CommitStretch, Open, Reconstructed, reconstructNumber, reconstructStretchNumber, Reconstruct, ReconstructStretch}
 use Rattle.spec.specs.HostCalls.{wordBytes, countSlice, HostDecode, HostPlan, HostCommit, HostCommitStretch, HostOpen, HostReconstruct, HostReconstructStretch}
 use Rattle.laws.proofs.Lists.{length-tabulate, getD-tabulate}
-use Rattle.laws.proofs.Digits.{number-digits}
+use Rattle.laws.proofs.Digits.{digits-number, number-digits}
 use Rattle.laws.proofs.Words.{same-test, words-length, words-append, words-drop, words-part, count-slice}
 use Rattle.planning_laws.proofs.Revealed.{revealed-below}
 use Rattle.planning_laws.proofs.HiddenLeaves.{hidden-index-lt}
 use Rattle.planning_laws.proofs.ShapeFacts.{shape-facts, leaves-max, entries-small}
-use Rattle.theorems.specs.HostCalls.{SameAnswer, ExportedCalls, EveryReadable}
+use Rattle.theorems.specs.HostCalls.{SameAnswer, ExportedCalls, EveryList, EveryReadable}
 
 -- ---- from the number to the rest
 
@@ -68,6 +68,27 @@ plan s ch xs xs′ after count count′ r n o h l =
     same r n (r .count) (wordBytes p ++ drop (4 * m) (wordBytes xs)) (wordBytes xs) (wordBytes xs′) after count count′ e
     (ap wordBytes (o .nodes) ∙ written-words (r .number) (p ++ drop m xs) xs ∙ ap (λ (l : List ℕ). written (r .number) l (wordBytes xs)) w) (h .nodes) refl
     (given r n m count count′ e (o .count) (h .counted))
+
+pub every-list : EveryList
+unfolding wordBytes
+every-list [] zero h l = ([], (refl, refl))
+every-list (a ∷ bs) zero h l = absurd (omega arith)
+every-list [] (suc m) h l = absurd (omega arith)
+every-list (a ∷ []) (suc m) h l = absurd (omega arith)
+every-list (a ∷ (b ∷ [])) (suc m) h l = absurd (omega arith)
+every-list (a ∷ (b ∷ (c ∷ []))) (suc m) h l = absurd (omega arith)
+every-list (a ∷ (b ∷ (c ∷ (d ∷ bs)))) (suc m) h l =
+    let front : List ℕ = a ∷ (b ∷ (c ∷ (d ∷ []))) in
+    let e : digits 8 4 (number 8 front) ≡ front = digits-number 8 front (four h) in
+    let r = every-list bs m (λ i. h (suc (suc (suc (suc i))))) (omega arith) in
+    (number 8 front ∷ r .0, (ap suc (r .1 .0), rw (e, r .1 .1) refl))
+  where
+    four : ((i : ℕ) → getD (a ∷ (b ∷ (c ∷ (d ∷ bs)))) i 0 < 256) → (i : ℕ) → getD (a ∷ (b ∷ (c ∷ (d ∷ [])))) i 0 < 256
+    four h zero = h 0
+    four h (suc zero) = h 1
+    four h (suc (suc zero)) = h 2
+    four h (suc (suc (suc zero))) = h 3
+    four h (suc (suc (suc (suc i)))) = omega arith
 
 -- ---- the calls without lists
 

@@ -65,6 +65,10 @@ pub record ExportedCalls (P : Primitives) : Type 0 where
       → length count ≡ 4
       → SameAnswer r x′ n after count count′
 
+-- a slice as long as m numbers holds m numbers, whatever its bytes
+abbrev pub EveryList : Type 0
+EveryList = (bytes : List ℕ) (m : ℕ) → ((i : ℕ) → getD bytes i 0 < 256) → length bytes ≡ 4 * m → (xs : List ℕ) × ((length xs ≡ m) × (wordBytes xs ≡ bytes))
+
 -- the four bytes of an index, of a node and of a count, read as a number: nothing of them is cut off
 pub record Readable (s : Shape) (ch : List ℕ) : Type 0 where
   pub indices : (i : ℕ) → i < resolved s .tau → number 8 (part (wordBytes (hiddenIndices (resolved s) ch)) (4 * i) 4) ≡ hiddenIndex (resolved s) ch i
