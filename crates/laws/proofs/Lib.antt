@@ -22,3 +22,4 @@ pub mod Running
 pub mod Parts
 pub mod Conjunctions
 pub mod Calls
+pub mod Words

@@ -13,7 +13,7 @@ use Rattle.spec.specs.Tree.{parent, isAncestorWithin, isAncestor, some, 
 use Rattle.spec.specs.Challenge.{bitAt, bitsAt, indexAt, clearAt}
 use Rattle.spec.specs.Shapes.{faest128s, faest128f, resolved, level, nodeBytes, challengeBytes, leafCommitmentBytes, hashBytes, deeper, depthOf, firstBit, leaves, leafOf, shapeOk, hiddenIndex, hiddenLeaf, hiddenLeaves, grindingOk, planned, plannedCount, treeBytes, leafCommitmentsBytes, openingBytes, matrixBytes, correctionsBytes}
 use Rattle.spec.specs.Verifier.{slotsOk}
-use Rattle.spec.specs.Calls.{rowOk, stretchOk, nodesOk, countWith, decodeNumber, planNumber, Committed, commitLengths, commitNumber, commitStretchNumber, openNumber, Reconstructed, reconstructLengths, reconstructNumber, reconstructStretchNumber}
+use Rattle.spec.specs.Calls.{rowOk, stretchOk, nodesOk, countWith, decodeLengths, decodeNumber, planLengths, planNumber, Committed, commitLengths, commitNumber, commitStretchNumber, openLengths, Reconstructed, reconstructLengths, reconstructNumber, reconstructStretchNumber}
 
 abbrev pub shape : ℕ → ℕ → ℕ → ℕ → Shape
 shape tau k w t = record { tau = tau; k = k; w = w; t = t }
@@ -89,11 +89,11 @@ ch first = first ∷ zeros 15
 
 -- decode with a list of n numbers
 abbrev pub decoding : Shape → ℕ → ℕ → ℕ
-decoding s first n = decodeNumber s (ch first) (zeros n)
+decoding s first n = decodeNumber s (ch first) (decodeLengths s (ch first) (zeros n))
 
 -- plan with a list of n numbers
 abbrev pub planning : Shape → ℕ → ℕ → ℕ
-planning s first n = planNumber s (ch first) (zeros n)
+planning s first n = planNumber s (ch first) (planLengths s (ch first) (zeros n))
 
 -- commit's buffers for `small` and rows or stretches of a byte, u being of `long` bytes
 abbrev pub signerBuffers : ℕ → Committed
@@ -113,7 +113,7 @@ committingStretch s n first width long =
 
 -- open with an opening of `long` bytes
 abbrev pub opening : Shape → ℕ → ℕ → ℕ
-opening s first long = openNumber s (ch first) (zeros 48) (zeros 96) (zeros long)
+opening s first long = planNumber s (ch first) (openLengths s (ch first) (zeros 48) (zeros 96) (zeros long))
 
 -- reconstruct's buffers for `small` and rows or stretches of a byte
 abbrev pub verifierBuffers : Reconstructed
@@ -178,7 +178,7 @@ Numbers =
     × (reconstructingAt 160 ≡ 6)
 
 pub numbers : Numbers
-unfolding tabulate zeros allZero number parent isAncestorWithin isAncestor some covered siblingToReveal revealedFrom revealed nodeCount bitAt bitsAt indexAt clearAt level nodeBytes challengeBytes leafCommitmentBytes hashBytes depthOf firstBit leaves leafOf shapeOk hiddenIndex hiddenLeaf hiddenLeaves grindingOk planned plannedCount treeBytes leafCommitmentsBytes openingBytes matrixBytes correctionsBytes slotsOk rowOk nodesOk decodeNumber planNumber commitNumber openNumber reconstructNumber deeper
+unfolding tabulate zeros allZero number parent isAncestorWithin isAncestor some covered siblingToReveal revealedFrom revealed nodeCount bitAt bitsAt indexAt clearAt level nodeBytes challengeBytes leafCommitmentBytes hashBytes depthOf firstBit leaves leafOf shapeOk hiddenIndex hiddenLeaf hiddenLeaves grindingOk planned plannedCount treeBytes leafCommitmentsBytes openingBytes matrixBytes correctionsBytes slotsOk rowOk nodesOk decodeNumber planNumber commitNumber reconstructNumber deeper
 numbers =
     (refl, refl, refl, refl, refl, refl, refl, refl, refl, refl, refl, refl, refl, refl, refl, refl, refl, refl, refl, refl, refl, refl, refl, refl, refl, refl, refl, refl, refl)
 
@@ -217,7 +217,7 @@ StretchNumbers =
     × (reconstructingStretch small 16 1 1 2 1 ≡ 4)
 
 pub stretch-numbers : StretchNumbers
-unfolding tabulate zeros allZero number parent isAncestorWithin isAncestor some covered siblingToReveal revealedFrom revealed nodeCount bitAt bitsAt indexAt clearAt level nodeBytes challengeBytes leafCommitmentBytes hashBytes depthOf firstBit leaves leafOf shapeOk hiddenIndex hiddenLeaf hiddenLeaves grindingOk planned plannedCount treeBytes leafCommitmentsBytes openingBytes matrixBytes correctionsBytes slotsOk rowOk nodesOk decodeNumber planNumber commitNumber openNumber reconstructNumber deeper stretchOk commitStretchNumber reconstructStretchNumber
+unfolding tabulate zeros allZero number parent isAncestorWithin isAncestor some covered siblingToReveal revealedFrom revealed nodeCount bitAt bitsAt indexAt clearAt level nodeBytes challengeBytes leafCommitmentBytes hashBytes depthOf firstBit leaves leafOf shapeOk hiddenIndex hiddenLeaf hiddenLeaves grindingOk planned plannedCount treeBytes leafCommitmentsBytes openingBytes matrixBytes correctionsBytes slotsOk rowOk nodesOk decodeNumber planNumber commitNumber reconstructNumber deeper stretchOk commitStretchNumber reconstructStretchNumber
 stretch-numbers = (refl, refl, refl, refl, refl, refl, refl, refl, refl, refl, refl, refl)
 
 -- ---- lengths: of the buffers of a call, in its order, buffer i alone is a byte longer, or none where i is past the last; at `small` with 8 bits
@@ -227,8 +227,8 @@ more i buffer = cond (eqb i buffer) 1 0
 
 abbrev pub Lengths : Type 0
 Lengths =
-    (tabulate 3 (λ i. decodeNumber small (zeros (16 + more i 0)) (zeros (1 + more i 1))) ≡ 3 ∷ 3 ∷ 0 ∷ [])
-    × (tabulate 3 (λ i. planNumber small (zeros (16 + more i 0)) (zeros (1 + more i 1))) ≡ 3 ∷ 3 ∷ 0 ∷ [])
+    (tabulate 3 (λ i. decodeNumber small (zeros 16) (decodeLengths small (zeros (16 + more i 0)) (zeros (1 + more i 1)))) ≡ 3 ∷ 3 ∷ 0 ∷ [])
+    × (tabulate 3 (λ i. planNumber small (zeros 16) (planLengths small (zeros (16 + more i 0)) (zeros (1 + more i 1)))) ≡ 3 ∷ 3 ∷ 0 ∷ [])
     × (tabulate 9 (λ i.
     commitNumber small 8
     (commitLengths small 1 (zeros (16 + more i 0)) (zeros (16 + more i 1))
@@ -241,7 +241,7 @@ Lengths =
       corrections = zeros (more i 7);
     })))
     ≡ replicate 8 3 ++ (0 ∷ []))
-    × (tabulate 5 (λ i. openNumber small (zeros (16 + more i 0)) (zeros (48 + more i 1)) (zeros (96 + more i 2)) (zeros (64 + more i 3)))
+    × (tabulate 5 (λ i. planNumber small (zeros 16) (openLengths small (zeros (16 + more i 0)) (zeros (48 + more i 1)) (zeros (96 + more i 2)) (zeros (64 + more i 3))))
     ≡ replicate 4 3 ++ (0 ∷ []))
     × (tabulate 9 (λ i.
     reconstructNumberOf small 8 (zeros (16 + more i 0)) (zeros (16 + more i 1)) (zeros (more i 2)) (zeros (64 + more i 3))
@@ -249,7 +249,7 @@ Lengths =
     ≡ replicate 8 3 ++ (0 ∷ []))
 
 pub lengths : Lengths
-unfolding tabulate zeros allZero number parent isAncestorWithin isAncestor some covered siblingToReveal revealedFrom revealed nodeCount bitAt bitsAt indexAt clearAt level nodeBytes challengeBytes leafCommitmentBytes hashBytes depthOf firstBit leaves leafOf shapeOk hiddenIndex hiddenLeaf hiddenLeaves grindingOk planned plannedCount treeBytes leafCommitmentsBytes openingBytes matrixBytes correctionsBytes slotsOk rowOk nodesOk decodeNumber planNumber commitNumber openNumber reconstructNumber deeper
+unfolding tabulate zeros allZero number parent isAncestorWithin isAncestor some covered siblingToReveal revealedFrom revealed nodeCount bitAt bitsAt indexAt clearAt level nodeBytes challengeBytes leafCommitmentBytes hashBytes depthOf firstBit leaves leafOf shapeOk hiddenIndex hiddenLeaf hiddenLeaves grindingOk planned plannedCount treeBytes leafCommitmentsBytes openingBytes matrixBytes correctionsBytes slotsOk rowOk nodesOk decodeNumber planNumber commitNumber reconstructNumber deeper
 lengths = (refl, refl, refl, refl, refl)
 
 -- the count with each number, where 7 nodes are planned

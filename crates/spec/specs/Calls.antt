@@ -46,9 +46,13 @@ stretchOk b z = leb 1 (z .width) && leb (z .first + z .width) b
 unfoldable pub nodesOk : Shape → List ℕ → Bool
 nodesOk s ch = leb (plannedCount s ch) (s .t)
 
--- the count is the planned one with 0, 5 and 6, and else 0
+-- a call gives the count with 0, 5 and 6
+abbrev pub countGiven : ℕ → Bool
+countGiven number = eqb number 0 || (eqb number 5 || eqb number 6)
+
+-- the count is the planned one where it is given, and else 0
 unfoldable pub countWith : ℕ → ℕ → ℕ
-countWith number n = cond (eqb number 0 || (eqb number 5 || eqb number 6)) n 0
+countWith number n = cond (countGiven number) n 0
 
 -- what a call that answers `number` leaves of a buffer: the new contents with 0, and else the old
 abbrev pub written : {A : Type 0} → ℕ → A → A → A
@@ -56,32 +60,28 @@ written number new old = cond (eqb number 0) new old
 
 -- ---- decode: the hidden indices
 
-unfoldable pub decodeNumber : Shape → List ℕ → List ℕ → ℕ
-decodeNumber s ch indices =
-    firstRefusal
-    ((shapeOk s, 1)
-    ∷ (fits ((length ch, challengeBytes s) ∷ (length indices, s .tau) ∷ []), 3)
-    ∷ (grindingOk s ch, 4)
-    ∷ [])
+abbrev pub decodeLengths : Shape → List ℕ → List ℕ → List (ℕ × ℕ)
+decodeLengths s ch indices = (length ch, challengeBytes s) ∷ (length indices, s .tau) ∷ []
+
+unfoldable pub decodeNumber : Shape → List ℕ → List (ℕ × ℕ) → ℕ
+decodeNumber s ch lengths = firstRefusal ((shapeOk s, 1) ∷ (fits lengths, 3) ∷ (grindingOk s ch, 4) ∷ [])
 
 pub record Decode (s : Shape) (ch before after : List ℕ) (r : Answer) : Type 0 where
-  pub number : r .number ≡ decodeNumber (resolved s) ch before
+  pub number : r .number ≡ decodeNumber (resolved s) ch (decodeLengths (resolved s) ch before)
   pub count : r .count ≡ 0
   pub indices : after ≡ written (r .number) (hiddenIndices (resolved s) ch) before
 
 -- ---- plan: the revealed nodes, at the front of the list
 
-unfoldable pub planNumber : Shape → List ℕ → List ℕ → ℕ
-planNumber s ch nodes =
-    firstRefusal
-    ((shapeOk s, 1)
-    ∷ (fits ((length ch, challengeBytes s) ∷ (length nodes, s .t) ∷ []), 3)
-    ∷ (grindingOk s ch, 4)
-    ∷ (nodesOk s ch, 5)
-    ∷ [])
+abbrev pub planLengths : Shape → List ℕ → List ℕ → List (ℕ × ℕ)
+planLengths s ch nodes = (length ch, challengeBytes s) ∷ (length nodes, s .t) ∷ []
+
+-- of plan and of open
+unfoldable pub planNumber : Shape → List ℕ → List (ℕ × ℕ) → ℕ
+planNumber s ch lengths = firstRefusal ((shapeOk s, 1) ∷ (fits lengths, 3) ∷ (grindingOk s ch, 4) ∷ (nodesOk s ch, 5) ∷ [])
 
 pub record Plan (s : Shape) (ch before after : List ℕ) (r : Answer) : Type 0 where
-  pub number : r .number ≡ planNumber (resolved s) ch before
+  pub number : r .number ≡ planNumber (resolved s) ch (planLengths (resolved s) ch before)
   pub count : r .count ≡ countWith (r .number) (plannedCount (resolved s) ch)
   pub nodes : after ≡ written (r .number) (planned (resolved s) ch ++ drop (plannedCount (resolved s) ch) before) before
 
@@ -152,13 +152,8 @@ openLengths s ch tree lcs opening =
     ∷ (length opening, openingBytes s)
     ∷ []
 
-unfoldable pub openNumber : Shape → List ℕ → List ℕ → List ℕ → List ℕ → ℕ
-openNumber s ch tree lcs opening =
-    firstRefusal
-    ((shapeOk s, 1) ∷ (fits (openLengths s ch tree lcs opening), 3) ∷ (grindingOk s ch, 4) ∷ (nodesOk s ch, 5) ∷ [])
-
 pub record Open (s : Shape) (ch tree lcs before after : List ℕ) (r : Answer) : Type 0 where
-  pub number : r .number ≡ openNumber (resolved s) ch tree lcs before
+  pub number : r .number ≡ planNumber (resolved s) ch (openLengths (resolved s) ch tree lcs before)
   pub count : r .count ≡ countWith (r .number) (plannedCount (resolved s) ch)
   pub opening : after ≡ written (r .number) (openingOf (resolved s) ch tree lcs) before
 

@@ -17,7 +17,7 @@ use Rattle.spec.specs.Leaves.{leafCommitments}
 use Rattle.spec.specs.Rows.{stretchByte}
 use Rattle.spec.specs.Signer.{signerTree, signerLeafCommitment, corrections, openingOf}
 use Rattle.spec.specs.Verifier.{slotsOk, reconstructedTree}
-use Rattle.spec.specs.Calls.{firstRefusal, fits, countWith, written, rowOk, wholeRow, stretchOk, nodesOk, Committed, committed, commitLengths, commitStretchNumber, CommitStretch, openLengths, openNumber, Open, Reconstructed, reconstructed, reconstructLengths, reconstructStretchNumber, ReconstructStretch}
+use Rattle.spec.specs.Calls.{firstRefusal, fits, countWith, written, rowOk, wholeRow, stretchOk, nodesOk, Committed, committed, commitLengths, commitStretchNumber, CommitStretch, planNumber, openLengths, Open, Reconstructed, reconstructed, reconstructLengths, reconstructStretchNumber, ReconstructStretch}
 use Rattle.planning_laws.proofs.ShapeLaws.{shape-laws}
 use Rattle.laws.specs.Lengths.{Sized}
 use Rattle.laws.proofs.Lengths.{sized-fits, fits-sized}
@@ -59,7 +59,7 @@ five-of s ch r m ne e k =
 
 open-five : (s : Shape) (ch tree lcs opening opening′ : List ℕ) (r : Answer) → Open s ch tree lcs opening opening′ r
     → shapeOk (resolved s) ≡ true → Sized (openLengths (resolved s) ch tree lcs opening) → Five (resolved s) ch r
-unfolding openNumber nodesOk
+unfolding planNumber nodesOk
 open-five s ch tree lcs opening opening′ r o sh z =
     five-of (resolved s) ch r 0 refl (o .number ∙ rw (sh, sized-fits (openLengths (resolved s) ch tree lcs opening) z) refl) (o .count)
 
@@ -77,8 +77,8 @@ check-five P s n z iv ch corrections opening x x′ r o sh ro st l =
 -- ---- the three calls after one another
 
 open-zero : (s : Shape) (ch tree lcs opening : List ℕ) → shapeOk s ≡ true → Sized (openLengths s ch tree lcs opening) → grindingOk s ch ≡ true → plannedCount s ch ≤ s .t
-    → openNumber s ch tree lcs opening ≡ 0
-unfolding openNumber nodesOk
+    → planNumber s ch (openLengths s ch tree lcs opening) ≡ 0
+unfolding planNumber nodesOk
 open-zero s ch tree lcs opening a b c d = rw (a, sized-fits (openLengths s ch tree lcs opening) b, c, le-leb (plannedCount s ch) (s .t) d) refl
 
 check-zero : (s : Shape) (n : ℕ) (z : Stretch) (ch opening : List ℕ) (lengths : List (ℕ × ℕ)) → shapeOk s ≡ true → rowOk n ≡ true → stretchOk (n / 8) z ≡ true
@@ -94,7 +94,7 @@ module _ (P : Primitives) where
   -- with the resolved shape s and the signer's bytes written out
   told : (s : Shape) (n : ℕ) (z : Stretch) (root iv ch opening opening′ : List ℕ) (signer : Committed) (verifier verifier′ : Reconstructed) (opened checked : Answer)
       → shapeOk s ≡ true → rowOk n ≡ true → stretchOk (n / 8) z ≡ true → Sized (commitLengths s (z .width) root iv signer)
-      → opened .number ≡ openNumber s ch (committed P s z root iv .tree) (committed P s z root iv .leafCommitments) opening
+      → opened .number ≡ planNumber s ch (openLengths s ch (committed P s z root iv .tree) (committed P s z root iv .leafCommitments) opening)
       → opened .count ≡ countWith (opened .number) (plannedCount s ch)
       → opening′ ≡ written (opened .number) (openingOf s ch (committed P s z root iv .tree) (committed P s z root iv .leafCommitments)) opening
       → checked .number ≡ reconstructStretchNumber s n z ch opening′ (reconstructLengths s (z .width) iv ch (committed P s z root iv .corrections) opening′ verifier)
@@ -173,8 +173,8 @@ module _ (P : Primitives) where
 -- ---- what an opening depends on
 
 open-number-same : (s : Shape) (ch tree lcs before tree₂ lcs₂ before₂ : List ℕ) → length tree ≡ length tree₂ → length lcs ≡ length lcs₂ → length before ≡ length before₂
-    → openNumber s ch tree lcs before ≡ openNumber s ch tree₂ lcs₂ before₂
-unfolding openNumber nodesOk
+    → planNumber s ch (openLengths s ch tree lcs before) ≡ planNumber s ch (openLengths s ch tree₂ lcs₂ before₂)
+unfolding planNumber nodesOk
 open-number-same s ch tree lcs before tree₂ lcs₂ before₂ a b c = rw (a, b, c) refl
 
 pub opening-depends : OpeningDepends

@@ -8,3 +8,4 @@ pub mod Demand3
 pub mod PlanningExamples
 pub mod Fewest
 pub mod OneIndex
+pub mod HostCalls

@@ -2,3 +2,5 @@
 pub mod Demands
 pub mod Stretches
 pub mod Planning
+-- The calls for a C host and the calls beneath them.
+pub mod HostCalls

@@ -1,27 +1,12 @@
-// The public calls of the signing half as C calls them, alone in an archive as a licensee links it, for bench/.
-ghost use mathlib.Core.Path.{_≡_};
-ghost use Rattle.spec.specs.declared.Answer.{Answer};
+// The signing half for a C host: commit, of the rows and of a stretch of them, and open on numbers and byte slices.
 ghost use Rattle.spec.specs.Primitives.{faest};
-ghost use Rattle.spec.specs.Calls.{Commit, CommitStretch, Open};
-use spec::Answer;
+ghost use Rattle.spec.specs.HostCalls.{HostCommit, HostCommitStretch, HostOpen};
 use spec::Shape;
 use spec::Stretch;
 
-fn number_of(r: Answer) -> usize
-    ensures { λ n. ⌜ n ≡ r .number ⌝ }
-{
-    r.number
-}
-
-fn count_of(r: Answer) -> usize
-    ensures { λ n. ⌜ n ≡ r .count ⌝ }
-{
-    r.count
-}
-
-// The number that commit answers.
+// COMMIT. Where the count slice has another length than 4, the root is not passed on.
 #[no_mangle]
-pub extern "C" fn rattle_commit(
+pub extern "C" fn rachnoel_commit(
     tau: usize,
     k: usize,
     w: usize,
@@ -35,16 +20,18 @@ pub extern "C" fn rattle_commit(
     u: &mut [u8],
     v: &mut [u8],
     corrections: &mut [u8],
+    count: &mut [u8],
 ) -> usize
-    ensures { λ r. ⌜ ((a : Answer) × Commit faest (record { tau = tau; k = k; w = w; t = t }) «row_bits» (now (root .entry)) (now (iv .entry))
+    ensures { λ r. ⌜ HostCommit faest (record { tau = tau; k = k; w = w; t = t }) «row_bits» (now (root .entry)) (now (iv .entry))
         (record { commitment = now (commitment .entry); tree = now (tree .entry); leafCommitments = now («leaf_commitments» .entry); u = now (u .entry); v = now (v .entry); corrections = now (corrections .entry) })
         (record { commitment = now (commitment .exit); tree = now (tree .exit); leafCommitments = now («leaf_commitments» .exit); u = now (u .exit); v = now (v .exit); corrections = now (corrections .exit) })
-        a × (r ≡ a .number)) ⌝ }
+        (now (count .entry)) (now (count .exit)) r ⌝ }
 {
-    number_of(signer::commit(
+    let n = host_words::passed_on(root.len(), count.len());
+    let a = signer::commit(
         Shape { tau, k, w, t },
         row_bits,
-        root,
+        &root[..n],
         iv,
         commitment,
         tree,
@@ -52,12 +39,13 @@ pub extern "C" fn rattle_commit(
         u,
         v,
         corrections,
-    ))
+    );
+    host_words::give(a, count)
 }
 
-// The number that commit_stretch answers.
+// COMMIT of a stretch of the rows, in the same way.
 #[no_mangle]
-pub extern "C" fn rattle_commit_stretch(
+pub extern "C" fn rachnoel_commit_stretch(
     tau: usize,
     k: usize,
     w: usize,
@@ -73,17 +61,19 @@ pub extern "C" fn rattle_commit_stretch(
     u: &mut [u8],
     v: &mut [u8],
     corrections: &mut [u8],
+    count: &mut [u8],
 ) -> usize
-    ensures { λ r. ⌜ ((a : Answer) × CommitStretch faest (record { tau = tau; k = k; w = w; t = t }) «row_bits» (record { first = first; width = width }) (now (root .entry)) (now (iv .entry))
+    ensures { λ r. ⌜ HostCommitStretch faest (record { tau = tau; k = k; w = w; t = t }) «row_bits» (record { first = first; width = width }) (now (root .entry)) (now (iv .entry))
         (record { commitment = now (commitment .entry); tree = now (tree .entry); leafCommitments = now («leaf_commitments» .entry); u = now (u .entry); v = now (v .entry); corrections = now (corrections .entry) })
         (record { commitment = now (commitment .exit); tree = now (tree .exit); leafCommitments = now («leaf_commitments» .exit); u = now (u .exit); v = now (v .exit); corrections = now (corrections .exit) })
-        a × (r ≡ a .number)) ⌝ }
+        (now (count .entry)) (now (count .exit)) r ⌝ }
 {
-    number_of(signer::commit_stretch(
+    let n = host_words::passed_on(root.len(), count.len());
+    let a = signer::commit_stretch(
         Shape { tau, k, w, t },
         row_bits,
         Stretch { first, width },
-        root,
+        &root[..n],
         iv,
         commitment,
         tree,
@@ -91,12 +81,13 @@ pub extern "C" fn rattle_commit_stretch(
         u,
         v,
         corrections,
-    ))
+    );
+    host_words::give(a, count)
 }
 
-// The count that open answers.
+// OPEN. Where the count slice has another length than 4, the challenge is not passed on.
 #[no_mangle]
-pub extern "C" fn rattle_open(
+pub extern "C" fn rachnoel_open(
     tau: usize,
     k: usize,
     w: usize,
@@ -105,14 +96,18 @@ pub extern "C" fn rattle_open(
     tree: &[u8],
     leaf_commitments: &[u8],
     opening: &mut [u8],
+    count: &mut [u8],
 ) -> usize
-    ensures { λ r. ⌜ ((a : Answer) × Open (record { tau = tau; k = k; w = w; t = t }) (now (challenge .entry)) (now (tree .entry)) (now («leaf_commitments» .entry)) (now (opening .entry)) (now (opening .exit)) a × (r ≡ a .count)) ⌝ }
+    ensures { λ r. ⌜ HostOpen (record { tau = tau; k = k; w = w; t = t }) (now (challenge .entry)) (now (tree .entry)) (now («leaf_commitments» .entry))
+        (now (opening .entry)) (now (opening .exit)) (now (count .entry)) (now (count .exit)) r ⌝ }
 {
-    count_of(signer::open(
+    let n = host_words::passed_on(challenge.len(), count.len());
+    let a = signer::open(
         Shape { tau, k, w, t },
-        challenge,
+        &challenge[..n],
         tree,
         leaf_commitments,
         opening,
-    ))
+    );
+    host_words::give(a, count)
 }
