@@ -1,6 +1,7 @@
 /* Times commit under several shapes and row lengths, in Rattle and in portable C: least processor time of some runs. One line for each point:
    the curve, what it goes by, milliseconds of the C, milliseconds of the Rattle. */
 #include "portable.h"
+#include <rachnoel.h>
 #include <stdio.h>
 #include <string.h>
 #include <time.h>
@@ -25,14 +26,16 @@ static uint8_t root[16] = {1, 2, 3}, iv[16] = {4, 5, 6};
 
 static double milliseconds(int side, size_t tau, size_t k, size_t row_bits)
 {
-    const size_t w = 128 - tau * k, shape[4] = {tau, k, w, 128}, leaves = tau << k, b = row_bits / 8;
+    const size_t w = 128 - tau * k, shape[4] = {tau, k, w, 128}, b = row_bits / 8;
+    const rachnoel_lengths n = rachnoel_lengths_of(tau, k, w, 128, b);
+    uint8_t count[RACHNOEL_COUNT];
     struct timespec from, to;
     clock_gettime(CLOCK_PROCESS_CPUTIME_ID, &from);
     if (side == 0)
         c_commit(shape, b, root, iv, made[0].commitment, made[0].tree, made[0].leaf_commitments, made[0].u, made[0].v, made[0].corrections);
     else
-        rattle_commit(tau, k, w, 128, row_bits, root, 16, iv, 16, made[1].commitment, 32, made[1].tree, 32 * leaves - 16, made[1].leaf_commitments,
-                      48 * leaves, made[1].u, b, made[1].v, 128 * b, made[1].corrections, (tau - 1) * b);
+        rachnoel_commit(tau, k, w, 128, row_bits, root, 16, iv, 16, made[1].commitment, 32, made[1].tree, n.tree, made[1].leaf_commitments, n.leaf_commitments,
+                        made[1].u, n.u, made[1].v, n.matrix, made[1].corrections, n.corrections, count, 4);
     clock_gettime(CLOCK_PROCESS_CPUTIME_ID, &to);
     return (double)(to.tv_sec - from.tv_sec) * 1e3 + (double)(to.tv_nsec - from.tv_nsec) / 1e6;
 }

@@ -1,4 +1,4 @@
-/* The portable C, and the functions of crates bench_exports, bench_signer and bench_verifier that are measured beside it. A slice is its pointer and its length. */
+/* The portable C, and the functions of crate bench_exports that are measured beside it. A slice is its pointer and its length. The calls are those of rachnoel.h. */
 #include <stddef.h>
 #include <stdint.h>
 
@@ -39,13 +39,3 @@ void rattle_leaf_hash(const uint64_t m[16][6], const uint8_t stretched[64], uint
 size_t rattle_plan(size_t tau, size_t k, size_t w, size_t t, const uint8_t *challenge, size_t challenge_length, uint32_t *nodes, size_t nodes_length);
 void rattle_grow(const uint8_t t[256], const uint8_t *root, size_t root_length, const uint8_t iv[16], size_t leaves, uint8_t *tree, size_t tree_length);
 void rattle_add_row(const uint8_t t[256], const uint8_t *seed, size_t seed_length, const uint8_t iv[16], uint32_t tweak, uint8_t *sum, size_t sum_length);
-size_t rattle_commit(size_t tau, size_t k, size_t w, size_t t, size_t row_bits, const uint8_t *root, size_t root_length, const uint8_t *iv, size_t iv_length,
-                     uint8_t *commitment, size_t commitment_length, uint8_t *tree, size_t tree_length, uint8_t *lcs, size_t lcs_length,
-                     uint8_t *u, size_t u_length, uint8_t *v, size_t v_length, uint8_t *corrections, size_t corrections_length);
-size_t rattle_open(size_t tau, size_t k, size_t w, size_t t, const uint8_t *challenge, size_t challenge_length, const uint8_t *tree, size_t tree_length,
-                   const uint8_t *lcs, size_t lcs_length, uint8_t *opening, size_t opening_length);
-size_t rattle_reconstruct(size_t tau, size_t k, size_t w, size_t t, size_t row_bits, const uint8_t *iv, size_t iv_length,
-                          const uint8_t *challenge, size_t challenge_length,
-                          const uint8_t *corrections, size_t corrections_length, const uint8_t *opening, size_t opening_length,
-                          uint8_t *commitment, size_t commitment_length, uint8_t *tree, size_t tree_length, uint8_t *lcs, size_t lcs_length,
-                          uint8_t *q, size_t q_length);

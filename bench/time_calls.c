@@ -1,7 +1,7 @@
-/* Times commit, open and reconstruct, in archives that have these calls alone, beside portable C with AES by bytes and by tables, at FAEST-128s and FAEST-128f with rows of 1,680 bits: the same work in turn, the least processor time of
+/* Times commit, open and reconstruct, in the archives that a licensee links, beside portable C with AES by bytes and by tables, at FAEST-128s and FAEST-128f with rows of 1,680 bits: the same work in turn, the least processor time of
    many runs of each side, and whether the results agree. A call is longer than what the system gives a process at a time, hence the processor's time. */
 #include "portable.h"
-#include "portable_shape.h"
+#include <rachnoel.h>
 #include <stdio.h>
 #include <string.h>
 #include <time.h>
@@ -22,11 +22,12 @@ static struct {
     size_t opened, reconstructed;
 } made[SIDES];
 
+/* what commit_stretch wrote last */
+static uint8_t stretch_u[ROW / 10], stretch_v[128 * (ROW / 10)], stretch_corrections[(VECTORS - 1) * (ROW / 10)];
+
 static const size_t *shape;
-#define TREE (32 * leaf_count(shape) - 16)
-#define LEAF_COMMITMENTS (48 * leaf_count(shape))
-#define CORRECTIONS (ROW * (shape[0] - 1))
-#define OPENING (48 * shape[0] + 16 * shape[3])
+static rachnoel_lengths n;
+static uint8_t count[RACHNOEL_COUNT];
 #define SHAPE shape[0], shape[1], shape[2], shape[3]
 
 static void (*const c_commits[])(const size_t *, size_t, const uint8_t *, const uint8_t *, uint8_t *, uint8_t *, uint8_t *, uint8_t *, uint8_t *, uint8_t *) = {c_commit, t_commit};
@@ -41,16 +42,30 @@ static void commit(int side)
         c_commits[side](shape, ROW, root, iv, made[side].commitment, made[side].tree, made[side].leaf_commitments, made[side].u, made[side].v,
                         made[side].corrections);
     else
-        rattle_commit(SHAPE, BITS, root, 16, iv, 16, made[side].commitment, 32, made[side].tree, TREE, made[side].leaf_commitments, LEAF_COMMITMENTS,
-                      made[side].u, ROW, made[side].v, 128 * ROW, made[side].corrections, CORRECTIONS);
+        rachnoel_commit(SHAPE, BITS, root, 16, iv, 16, made[side].commitment, 32, made[side].tree, n.tree, made[side].leaf_commitments, n.leaf_commitments,
+                        made[side].u, n.u, made[side].v, n.matrix, made[side].corrections, n.corrections, count, 4);
+}
+
+/* a tenth of the row, in the place of the front of the buffers; the C has no such form and makes the whole commit */
+enum { FIRST = 5, WIDTH = ROW / 10 };
+
+static void commit_stretch(int side)
+{
+    if (side < RATTLE)
+        commit(side);
+    else
+        rachnoel_commit_stretch(SHAPE, BITS, FIRST, WIDTH, root, 16, iv, 16, made[side].commitment, 32, made[side].tree, n.tree, made[side].leaf_commitments,
+                                n.leaf_commitments, stretch_u, WIDTH, stretch_v, 128 * WIDTH, stretch_corrections, WIDTH * (shape[0] - 1), count, 4);
 }
 
 static void open(int side)
 {
     if (side < RATTLE)
         made[side].opened = c_opens[side](shape, challenge, made[side].tree, made[side].leaf_commitments, made[side].opening);
-    else
-        made[side].opened = rattle_open(SHAPE, challenge, 16, made[side].tree, TREE, made[side].leaf_commitments, LEAF_COMMITMENTS, made[side].opening, OPENING);
+    else {
+        rachnoel_open(SHAPE, challenge, 16, made[side].tree, n.tree, made[side].leaf_commitments, n.leaf_commitments, made[side].opening, n.opening, count, 4);
+        made[side].opened = rachnoel_number(count);
+    }
 }
 
 static void reconstruct(int side)
@@ -58,18 +73,19 @@ static void reconstruct(int side)
     if (side < RATTLE)
         made[side].reconstructed = c_reconstructs[side](shape, ROW, iv, challenge, made[side].corrections, made[side].opening, made[side].again_commitment,
                                                         made[side].again_tree, made[side].again_leaf_commitments, made[side].q);
-    else
-        made[side].reconstructed = rattle_reconstruct(SHAPE, BITS, iv, 16, challenge, 16, made[side].corrections, CORRECTIONS, made[side].opening, OPENING,
-                                                      made[side].again_commitment, 32, made[side].again_tree, TREE, made[side].again_leaf_commitments,
-                                                      LEAF_COMMITMENTS, made[side].q, 128 * ROW);
+    else {
+        rachnoel_reconstruct(SHAPE, BITS, iv, 16, challenge, 16, made[side].corrections, n.corrections, made[side].opening, n.opening, made[side].again_commitment,
+                             32, made[side].again_tree, n.tree, made[side].again_leaf_commitments, n.leaf_commitments, made[side].q, n.matrix, count, 4);
+        made[side].reconstructed = rachnoel_number(count);
+    }
 }
 
 static const struct {
     const char *name;
     void (*work)(int side);
     int times;
-} calls[] = {{"commit", commit, 1}, {"open", open, 20}, {"reconstruct", reconstruct, 1}};
-enum { CALLS = 3 };
+} calls[] = {{"commit", commit, 1}, {"commit of a tenth", commit_stretch, 1}, {"open", open, 20}, {"reconstruct", reconstruct, 1}};
+enum { CALLS = 4 };
 
 static double milliseconds(void (*work)(int), int side, int times)
 {
@@ -85,10 +101,19 @@ static double milliseconds(void (*work)(int), int side, int times)
 static int differ(int a, int b)
 {
 #define OTHER(field, length) memcmp(made[a].field, made[b].field, length)
-    return OTHER(commitment, 32) || OTHER(tree, TREE) || OTHER(leaf_commitments, LEAF_COMMITMENTS) || OTHER(u, ROW) || OTHER(v, 128 * ROW)
-        || OTHER(corrections, CORRECTIONS) || OTHER(opening, OPENING) || OTHER(again_commitment, 32) || OTHER(again_tree, TREE)
-        || OTHER(again_leaf_commitments, LEAF_COMMITMENTS) || OTHER(q, 128 * ROW) || made[a].opened != made[b].opened
+    return OTHER(commitment, 32) || OTHER(tree, n.tree) || OTHER(leaf_commitments, n.leaf_commitments) || OTHER(u, n.u) || OTHER(v, n.matrix)
+        || OTHER(corrections, n.corrections) || OTHER(opening, n.opening) || OTHER(again_commitment, 32) || OTHER(again_tree, n.tree)
+        || OTHER(again_leaf_commitments, n.leaf_commitments) || OTHER(q, n.matrix) || made[a].opened != made[b].opened
         || made[a].reconstructed != made[b].reconstructed || memcmp(made[a].commitment, made[a].again_commitment, 32);
+}
+
+/* whether n strings of the stretch are other than those bytes of the whole ones */
+static int other_stretch(const uint8_t *cut, const uint8_t *whole, size_t n)
+{
+    for (size_t i = 0; i < n; i++)
+        if (memcmp(cut + WIDTH * i, whole + ROW * i + FIRST, WIDTH))
+            return 1;
+    return 0;
 }
 
 int main(void)
@@ -103,16 +128,17 @@ int main(void)
         double best[CALLS][SIDES];
         uint32_t list[512];
         shape = sets[s].shape;
+        n = rachnoel_lengths_of(SHAPE, ROW);
         /* the sides begin with other bytes */
         for (int side = 0; side < SIDES; side++)
             memset(&made[side], 0x55 + side, sizeof made[side]);
         /* the first challenge of a list that is accepted */
-        for (unsigned n = 0, found = 0; !found; n++) {
+        for (unsigned c = 0, found = 0; !found; c++) {
             for (unsigned i = 0; i < 16; i++)
-                challenge[i] = (uint8_t)((n * 1009 + i) * 7 + (n * 1009 + i) / 251);
+                challenge[i] = (uint8_t)((c * 1009 + i) * 7 + (c * 1009 + i) / 251);
             challenge[15] &= (uint8_t)(0xff >> shape[2]);
-            const size_t count = c_plan(shape, challenge, list);
-            found = 0 < count && count <= shape[3];
+            const size_t nodes = c_plan(shape, challenge, list);
+            found = 0 < nodes && nodes <= shape[3];
         }
         for (int r = 0; r < RUNS; r++)
             for (int c = 0; c < CALLS; c++)
@@ -122,7 +148,7 @@ int main(void)
                         best[c][side] = t;
                 }
         for (int c = 0; c < CALLS; c++) {
-            printf("%s %-12s", sets[s].name, calls[c].name);
+            printf("%s %-17s", sets[s].name, calls[c].name);
             for (int side = 0; side < SIDES; side++)
                 if (best[c][side] < 1)
                     printf("  %s %6.2f us", side_names[side], best[c][side] * 1e3);
@@ -135,6 +161,8 @@ int main(void)
         for (int side = 0; side < SIDES - 1; side++)
             if (differ(SIDES - 1, side))
                 wrong = printf("RESULTS DIFFER from %s\n", side_names[side]);
+        if (other_stretch(stretch_u, made[RATTLE].u, 1) || other_stretch(stretch_v, made[RATTLE].v, 128) || other_stretch(stretch_corrections, made[RATTLE].corrections, shape[0] - 1))
+            wrong = printf("THE STRETCH DIFFERS\n");
         printf("nodes opened: %zu\n", made[SIDES - 1].opened);
     }
     return wrong != 0;

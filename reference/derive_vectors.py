@@ -1,7 +1,7 @@
 #!/usr/bin/env python3
-"""What the second implementation prints for the cases of crates/vectors, the program that makes the five calls, and of crates/record_runs, that of the calls on records.
+"""What the second implementation prints for the cases of crates/vectors, crates/vectors_stretches and crates/vectors_records, the programs that make the calls.
 
-    derive_vectors.py            compares it with the stdout of each; exit status 1 at the first line that differs
+    derive_vectors.py            compares it with the file `stdout` of each; exit status 1 at the first line that differs
     derive_vectors.py --write    writes these files
 
 The cases are the calls of these forms in the src/main.rt of each, whose first lines say what they mean:
@@ -13,8 +13,11 @@ The cases are the calls of these forms in the src/main.rt of each, whose first l
     probe_commit(..), probe_open(..), probe_reconstruct(..)    the command of this name
     decode(TAU, K, W, T, CHALLENGE, CHALLENGE), plan(..)       the command of this name
     probe_decode(..), probe_plan(..)                           the command of this name
-    record(TAU, K, W, T, ROWBITS, ROOTIV, CHALLENGE, CHALLENGE), prefixes(..), flips(..), pairs(..)    the command of this name
+    stretch(TAU, K, W, T, ROWBITS, FIRST, WIDTH, ROOTIV, CHALLENGE, CHALLENGE)  commit_stretch, open_stretch, reconstruct_stretch
+    probe_commit_stretch(..), probe_reconstruct_stretch(..)    the command of this name
+    record(TAU, K, W, T, ROWBITS, ROOTIV, CHALLENGE, CHALLENGE), prefixes(..), flips(..), pairs(..)  the command of this name
 
+A number may be a constant of that file, `const NAME: usize = NUMBER`.
 The roots and IVs are the lines `DIGIT => words(WORD, WORD)` of crates/vectors_calls/src/inputs.rt.
 For each the release build of this folder is run with these commands.
 """
@@ -26,17 +29,19 @@ from pathlib import Path
 HERE = Path(__file__).resolve().parent
 PROGRAM = HERE / 'target' / 'release' / 'reference'
 CRATES = HERE.parent / 'crates'
-PROGRAMS = 'vectors', 'record_runs'
 INPUTS = (CRATES / 'vectors_calls' / 'src' / 'inputs.rt').read_text()
 LENGTHS = {'case': 7, 'uneven': 8, 'refused_shape': 5, 'flipped': 5, 'probe_commit': 7, 'probe_open': 7, 'probe_reconstruct': 9,
-           'decode': 6, 'plan': 6, 'probe_decode': 7, 'probe_plan': 7, 'record': 8, 'prefixes': 8, 'flips': 8, 'pairs': 8}
+           'decode': 6, 'plan': 6, 'probe_decode': 7, 'probe_plan': 7,
+           'stretch': 10, 'probe_commit_stretch': 9, 'probe_reconstruct_stretch': 11,
+           'record': 8, 'prefixes': 8, 'flips': 8, 'pairs': 8}
 
 
-def cases(program):
+def cases(name):
     """The form and the numbers of each case, in the order of the program."""
-    source = re.sub(r'//[^\n]*', '', (CRATES / program / 'src' / 'main.rt').read_text())
+    source = re.sub(r'//[^\n]*', '', (CRATES / name / 'src' / 'main.rt').read_text())
+    constants = dict(re.findall(r'\bconst (\w+): usize = (\d+);', source))
     for form, text in re.findall(r'\b(%s)\(([^)]*)\)' % '|'.join(LENGTHS), source):
-        found = [int(word, 0) for word in text.rstrip(', \n').split(',')]
+        found = [int(constants.get(word.strip(), word), 0) for word in text.rstrip(', \n').split(',')]
         if len(found) != LENGTHS[form]:
             sys.exit(f'derive_vectors: {form}({text}) has another form')
         yield form, found
@@ -58,6 +63,10 @@ def commands(form, case):
     if form in ('record', 'prefixes', 'flips', 'pairs'):
         return [[form, *map(str, case[:5]), NUMBERED[case[5] // 10], NUMBERED[case[5] % 10], words(*case[6:])]]
     known, challenge, flip = 13, (0, 0), []
+    if form == 'stretch':
+        signer = [*map(str, case[:7]), NUMBERED[case[7] // 10], NUMBERED[case[7] % 10]]
+        both = [*signer, words(*case[8:])]
+        return [['commit_stretch', *signer], ['open_stretch', *both], ['reconstruct_stretch', *both]]
     if form in ('refused_shape', 'uneven'):
         tau, k, w, t, row_bits = case[:5]
     else:
@@ -78,27 +87,27 @@ def printed(command):
     return subprocess.run([PROGRAM, *command], check=True, capture_output=True, text=True).stdout
 
 
-def compare(program, write):
-    file = CRATES / program / 'stdout'
-    derived = [(line, command) for form, case in cases(program) for command in commands(form, case) for line in printed(command).splitlines()]
+def check(name, write):
+    stored_file = CRATES / name / 'stdout'
+    derived = [(line, command) for form, case in cases(name) for command in commands(form, case) for line in printed(command).splitlines()]
     if write:
-        file.write_text(''.join(line + '\n' for line, _ in derived))
+        stored_file.write_text(''.join(line + '\n' for line, _ in derived))
         return
-    stored = file.read_text().split('\n')
+    stored = stored_file.read_text().split('\n')
     if stored.pop() != '':
-        sys.exit(f'{file}: no line feed at the end')
+        sys.exit(f'{stored_file}: no line feed at the end')
     for number, (line, command) in enumerate(derived):
         if number >= len(stored) or stored[number] != line:
-            sys.exit(f'{file}:{number + 1}: reference {" ".join(command)} prints: {line}')
+            sys.exit(f'{stored_file}:{number + 1}: reference {" ".join(command)} prints: {line}')
     if len(stored) > len(derived):
-        sys.exit(f'{file}:{len(derived) + 1}: no case prints this line')
+        sys.exit(f'{stored_file}:{len(derived) + 1}: no case prints this line')
 
 
 def main():
     if sys.argv[1:] not in ([], ['--write']):
         sys.exit(__doc__)
-    for program in PROGRAMS:
-        compare(program, write=bool(sys.argv[1:]))
+    for name in 'vectors', 'vectors_stretches', 'vectors_records':
+        check(name, write=bool(sys.argv[1:]))
 
 
 main()

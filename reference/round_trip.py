@@ -1,8 +1,8 @@
 #!/usr/bin/env python3
 """What crates/run_round_trip prints, derived by the second implementation. Usage: round_trip.py STDOUT-FILE [--write]
 
-The shapes, row lengths and challenges are those of crates/run_round_trip/src/main.rt. `reference roundtrip` ends with 0 only where every column of Q is what the
-challenge asks for.
+The shapes, row lengths, stretches and challenges are those of crates/run_round_trip/src/main.rt. `reference roundtrip` ends with 0 only where every column of Q is
+what the challenge asks for.
 """
 import os
 import subprocess
@@ -13,9 +13,10 @@ PROGRAM = os.path.join(HERE, 'target', 'release', 'reference')
 ROOT = bytes(range(16)).hex()
 IV = bytes(range(16, 32)).hex()
 CASES = [
-    ('11 11 7 102', '1680', 'efe34b324e8cc9ab257940fe1bd03800'),
-    ('2 2 124 4', '8', '0c000000000000000000000000000000'),
-    ('3 3 119 8', '136', '6a010000000000000000000000000000'),
+    ('11 11 7 102', '1680', None, 'efe34b324e8cc9ab257940fe1bd03800'),
+    ('2 2 124 4', '8', None, '0c000000000000000000000000000000'),
+    ('3 3 119 8', '136', None, '6a010000000000000000000000000000'),
+    ('11 11 7 102', '1680', ('13', '37'), 'efe34b324e8cc9ab257940fe1bd03800'),
 ]
 
 
@@ -26,13 +27,14 @@ def run(command, *args):
 
 def text():
     lines = []
-    for shape, bits, challenge in CASES:
+    for shape, bits, stretch, challenge in CASES:
         s = shape.split()
-        commit = run('commit', *s, bits, ROOT, IV)
-        opened = run('open', *s, bits, ROOT, IV, challenge)
-        checked = run('reconstruct', *s, bits, ROOT, IV, challenge)
-        run('roundtrip', *s, bits, ROOT, IV, challenge)
-        lines.append(f'shape {shape}, rows of {bits} bits')
+        form, rows = ('_stretch', (bits, *stretch)) if stretch else ('', (bits,))
+        commit = run('commit' + form, *s, *rows, ROOT, IV)
+        opened = run('open' + form, *s, *rows, ROOT, IV, challenge)
+        checked = run('reconstruct' + form, *s, *rows, ROOT, IV, challenge)
+        run('roundtrip' + form, *s, *rows, ROOT, IV, challenge)
+        lines.append(f'shape {shape}, rows of {bits} bits' + (f', {stretch[1]} bytes from byte {stretch[0]} on' if stretch else ''))
         for name, answer in ('commit', commit), ('open', opened), ('reconstruct', checked):
             lines.append(f"{name} answers {answer['number']} with count {answer['count']}")
         lines.append('commitment of the signing half  ' + commit['commitment'].split()[1])

@@ -6,7 +6,7 @@
 
 Commit, open and reconstruct follow figures 5.4, 5.5, 5.8 and 5.9. The generator, the two hashes and the leaf hash are simple sums in place of AES, SHAKE
 and the field, as in crates/spec/proofs/StandIns.antt, so that a prover can compute the whole example. Of V and Q only the columns of the vectors are
-listed: the others are zeros. The commitment and the leaf commitments of the verifier must be the signer's.
+listed: the others are zeros. Where an example has a stretch of the rows, its lists are cut out of the whole ones. The commitment and the leaf commitments of the verifier must be the signer's.
 """
 import re
 import sys
@@ -19,7 +19,10 @@ EXAMPLES = {
     'LongRowsExample': (3, 3, 119, 9, 18, [0x5E, 0x01]),
     'UnevenExample': (3, 1, 123, 6, 2, [0x16]),
 }
-TAU, K, W, T, B, FIRST = EXAMPLES[Path(sys.argv[1]).stem]
+# where an example has a stretch of the rows too: the first word of its lists' names, its first byte and its width
+STRETCHES = {'WorkedExample': ('last', 1, 1)}
+NAME = Path(sys.argv[1]).stem
+TAU, K, W, T, B, FIRST = EXAMPLES[NAME]
 TAU_1 = 128 - W - TAU * K
 DEPTHS = [K + (i < TAU_1) for i in range(TAU)]
 N = [1 << depth for depth in DEPTHS]
@@ -165,6 +168,10 @@ def example():
     commitment, leaf_commitments, rest = reconstruct(lists['opening'], lists['signer-corrections'])
     assert commitment == lists['signer-commitment'] and leaf_commitments == lists['signer-leaf-commitments']
     lists.update(rest)
+    if NAME in STRETCHES:
+        word, first, width = STRETCHES[NAME]
+        for name in ('signer-u', 'signer-v', 'signer-corrections', 'verifier-q'):
+            lists[f'{word}-{name.split("-")[1]}'] = joined(lists[name][at + first:at + first + width] for at in range(0, len(lists[name]), B))
     return lists
 
 

@@ -1,14 +1,16 @@
-//! The five calls of document 01, with their refusals and exact lengths.
+//! The five calls of document 01, with their refusals and exact lengths, and
+//! the two of a stretch of the rows (document 02, E1).
 //!
-//! Every call tests what it is lent in the order of the numbers and writes
-//! only with number 0.
+//! Every call tests what it is lent in the order of the numbers, 8 after 2, and
+//! writes only with number 0.
 
 use crate::bavc::{self, Bottom, Vectors};
 use crate::shape::{decode_all_chall, grinding_bits_are_zero, row_bytes, Shape};
+use crate::stretch::{cut, spread, Stretch};
 use crate::vole::{vole_commit, vole_reconstruct, Row};
 use crate::Block;
 
-/// Document 01, "When a call is turned down", and document 02, E6.
+/// Document 01, "When a call is turned down", and document 02, E1 and E6.
 #[derive(Clone, Copy, Debug, PartialEq, Eq)]
 pub enum Refusal {
     Shape = 1,
@@ -18,6 +20,7 @@ pub enum Refusal {
     Nodes = 5,
     Slots = 6,
     Line = 7,
+    Stretch = 8,
     Version = 9,
     Field = 10,
     Commitment = 11,
@@ -145,6 +148,61 @@ pub fn commit(
     Answer::done(0)
 }
 
+/// Commit, of a stretch of the rows: as commit, but of u, of every column and of
+/// every correction the stretch alone. All of them are made and cut. Checks 1, 2,
+/// 8, 3.
+#[allow(clippy::too_many_arguments)]
+pub fn commit_stretch(
+    shape: Shape,
+    row_bits: usize,
+    stretch: Stretch,
+    root: &[u8],
+    iv: &[u8],
+    commitment: &mut [u8],
+    tree: &mut [u8],
+    leaf_commitments: &mut [u8],
+    u: &mut [u8],
+    v: &mut [u8],
+    corrections: &mut [u8],
+) -> Answer {
+    let Some(meant) = shape.resolve() else {
+        return Answer::refused(Refusal::Shape, 0);
+    };
+    let Some(b) = row_bytes(row_bits) else {
+        return Answer::refused(Refusal::RowLength, 0);
+    };
+    let Some(places) = stretch.within(b) else {
+        return Answer::refused(Refusal::Stretch, 0);
+    };
+    let others = meant.tau - 1;
+    if u.len() != stretch.width
+        || v.len() != 128 * stretch.width
+        || corrections.len() != others * stretch.width
+    {
+        return Answer::refused(Refusal::Buffer, 0);
+    }
+    let (mut whole_u, mut whole_v) = (vec![0; b], vec![0; 128 * b]);
+    let mut whole_corrections = vec![0; others * b];
+    let answer = commit(
+        shape,
+        row_bits,
+        root,
+        iv,
+        commitment,
+        tree,
+        leaf_commitments,
+        &mut whole_u,
+        &mut whole_v,
+        &mut whole_corrections,
+    );
+    if answer.number == 0 {
+        u.copy_from_slice(&cut(&whole_u, b, &places));
+        v.copy_from_slice(&cut(&whole_v, b, &places));
+        corrections.copy_from_slice(&cut(&whole_corrections, b, &places));
+    }
+    answer
+}
+
 /// Open: figure 5.4 of document 000, from the tree as it is lent. Checks 1, 3,
 /// 4, 5.
 pub fn open(
@@ -226,4 +284,53 @@ pub fn reconstruct(
             Answer::done(count)
         }
     }
+}
+
+/// Reconstruct, of a stretch of the rows: as reconstruct, but of every column the
+/// stretch alone, and of every correction the stretch is lent. Q is made whole, with
+/// zeros for what is not known of the corrections, and cut: its bytes depend on the
+/// bytes of the corrections at the same places only. Checks 1, 2, 8, 3, 4, 5, 6.
+#[allow(clippy::too_many_arguments)]
+pub fn reconstruct_stretch(
+    shape: Shape,
+    row_bits: usize,
+    stretch: Stretch,
+    iv: &[u8],
+    challenge: &[u8],
+    corrections: &[u8],
+    opening: &[u8],
+    commitment: &mut [u8],
+    tree: &mut [u8],
+    leaf_commitments: &mut [u8],
+    q: &mut [u8],
+) -> Answer {
+    let Some(meant) = shape.resolve() else {
+        return Answer::refused(Refusal::Shape, 0);
+    };
+    let Some(b) = row_bytes(row_bits) else {
+        return Answer::refused(Refusal::RowLength, 0);
+    };
+    let Some(places) = stretch.within(b) else {
+        return Answer::refused(Refusal::Stretch, 0);
+    };
+    if corrections.len() != (meant.tau - 1) * stretch.width || q.len() != 128 * stretch.width {
+        return Answer::refused(Refusal::Buffer, 0);
+    }
+    let mut whole_q = vec![0; 128 * b];
+    let answer = reconstruct(
+        shape,
+        row_bits,
+        iv,
+        challenge,
+        &spread(corrections, b, &places),
+        opening,
+        commitment,
+        tree,
+        leaf_commitments,
+        &mut whole_q,
+    );
+    if answer.number == 0 {
+        q.copy_from_slice(&cut(&whole_q, b, &places));
+    }
+    answer
 }

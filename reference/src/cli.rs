@@ -3,11 +3,14 @@
 
 use std::io::Read;
 
-use crate::calls::{commit, decode, open, plan, reconstruct, Answer};
+use crate::calls::{
+    commit, commit_stretch, decode, open, plan, reconstruct, reconstruct_stretch, Answer,
+};
 use crate::listing::list;
 use crate::record_commands::{check_command, record_command};
 use crate::shake::shake128;
 use crate::shape::{row_bytes, Shape};
+use crate::stretch::Stretch;
 
 pub const USAGE: &str = "\
 usage: reference decode      TAU K W T CHALLENGE
@@ -27,6 +30,8 @@ usage: reference decode      TAU K W T CHALLENGE
        reference probe_plan        TAU K W T BYTE WHICH MORE
        reference list        (its line on standard input)
        reference check       (a record on standard input)
+Each with ROWBITS is also there for a stretch of the rows: _stretch behind its
+name, FIRST WIDTH behind ROWBITS.
 Numbers are decimal; ROOT, IV and CHALLENGE are hexadecimal, byte 0 first.
 ";
 
@@ -65,6 +70,74 @@ fn list_line(name: &str, numbers: &[u32]) -> String {
     format!("{name} {}{content}\n", numbers.len())
 }
 
+/// The row length of a call in bits, and the stretch where it is a call of one.
+#[derive(Clone, Copy)]
+pub struct Rows {
+    bits: usize,
+    stretch: Option<Stretch>,
+}
+
+impl Rows {
+    pub fn whole(bits: usize) -> Rows {
+        Rows {
+            bits,
+            stretch: None,
+        }
+    }
+
+    /// The bytes of a row that a call writes; of a refused stretch at most a row.
+    fn width(self) -> usize {
+        let b = row_bytes(self.bits).unwrap_or(0);
+        self.stretch.map_or(b, |stretch| stretch.width.min(b))
+    }
+}
+
+/// Commit, or its form for a stretch.
+#[allow(clippy::too_many_arguments)]
+fn call_commit(
+    shape: Shape,
+    rows: Rows,
+    root: &[u8],
+    iv: &[u8],
+    com: &mut [u8],
+    tree: &mut [u8],
+    coms: &mut [u8],
+    u: &mut [u8],
+    v: &mut [u8],
+    c: &mut [u8],
+) -> Answer {
+    match rows.stretch {
+        None => commit(shape, rows.bits, root, iv, com, tree, coms, u, v, c),
+        Some(stretch) => commit_stretch(
+            shape, rows.bits, stretch, root, iv, com, tree, coms, u, v, c,
+        ),
+    }
+}
+
+/// Reconstruct, or its form for a stretch.
+#[allow(clippy::too_many_arguments)]
+fn call_reconstruct(
+    shape: Shape,
+    rows: Rows,
+    iv: &[u8],
+    challenge: &[u8],
+    c: &[u8],
+    opening: &[u8],
+    com: &mut [u8],
+    tree: &mut [u8],
+    coms: &mut [u8],
+    q: &mut [u8],
+) -> Answer {
+    match rows.stretch {
+        None => reconstruct(
+            shape, rows.bits, iv, challenge, c, opening, com, tree, coms, q,
+        ),
+        Some(stretch) => reconstruct_stretch(
+            shape, rows.bits, stretch, iv, challenge, c, opening, com, tree, coms, q,
+        ),
+    }
+}
+
 /// The buffers of commit, open and reconstruct, and the answers of these calls
 /// made one after another up to the first that is refused.
 pub struct Run {
@@ -84,10 +157,10 @@ pub struct Run {
 
 impl Run {
     /// Buffers of the exact lengths; empty ones where there is no exact length.
-    pub fn new(shape: Shape, row_bits: usize) -> Run {
+    pub fn new(shape: Shape, rows: Rows) -> Run {
         let shape = shape.resolve();
         let bytes = |length: fn(&Shape) -> usize| vec![0; shape.as_ref().map_or(0, length)];
-        let b = row_bytes(row_bits).unwrap_or(0);
+        let b = rows.width();
         Run {
             answers: Vec::new(),
             commitment: vec![0; 32],
@@ -109,10 +182,10 @@ impl Run {
         self.answers.iter().all(|answer| answer.number == 0)
     }
 
-    pub fn commit(&mut self, shape: Shape, row_bits: usize, root: &[u8], iv: &[u8]) {
-        self.answers.push(commit(
+    pub fn commit(&mut self, shape: Shape, rows: Rows, root: &[u8], iv: &[u8]) {
+        self.answers.push(call_commit(
             shape,
-            row_bits,
+            rows,
             root,
             iv,
             &mut self.commitment,
@@ -132,11 +205,11 @@ impl Run {
         }
     }
 
-    fn reconstruct(&mut self, shape: Shape, row_bits: usize, iv: &[u8], challenge: &[u8]) {
+    fn reconstruct(&mut self, shape: Shape, rows: Rows, iv: &[u8], challenge: &[u8]) {
         if self.well() {
-            self.answers.push(reconstruct(
+            self.answers.push(call_reconstruct(
                 shape,
-                row_bits,
+                rows,
                 iv,
                 challenge,
                 &self.corrections,
@@ -189,6 +262,15 @@ impl Arguments<'_> {
         })
     }
 
+    fn rows(&mut self, of_stretch: bool) -> Option<Rows> {
+        let bits = self.number()?;
+        let stretch = match of_stretch {
+            true => Some(Stretch::new(self.number()?, self.number()?)),
+            false => None,
+        };
+        Some(Rows { bits, stretch })
+    }
+
     pub fn end(mut self) -> Option<()> {
         self.0.next().is_none().then_some(())
     }
@@ -228,9 +310,9 @@ fn numbers_command(command: &str, mut rest: Arguments) -> Option<Outcome> {
     Some((text.into_bytes(), true))
 }
 
-/// `commit`, `open`, `reconstruct` and `roundtrip`.
-fn bytes_command(command: &str, mut rest: Arguments) -> Option<Outcome> {
-    let (shape, row_bits) = (rest.shape()?, rest.number()?);
+/// `commit`, `open`, `reconstruct` and `roundtrip`, of whole rows or a stretch.
+fn bytes_command(command: &str, of_stretch: bool, mut rest: Arguments) -> Option<Outcome> {
+    let (shape, rows) = (rest.shape()?, rest.rows(of_stretch)?);
     let (root, iv) = (rest.bytes()?, rest.bytes()?);
     let challenge = match command {
         "commit" => Vec::new(),
@@ -242,8 +324,8 @@ fn bytes_command(command: &str, mut rest: Arguments) -> Option<Outcome> {
     };
     rest.end()?;
 
-    let mut run = Run::new(shape, row_bits);
-    run.commit(shape, row_bits, &root, &iv);
+    let mut run = Run::new(shape, rows);
+    run.commit(shape, rows, &root, &iv);
     if command != "commit" {
         run.open(shape, &challenge);
     }
@@ -251,7 +333,7 @@ fn bytes_command(command: &str, mut rest: Arguments) -> Option<Outcome> {
         *byte ^= 1;
     }
     if command == "reconstruct" || command == "roundtrip" {
-        run.reconstruct(shape, row_bits, &iv, &challenge);
+        run.reconstruct(shape, rows, &iv, &challenge);
     }
 
     let text = answer_lines(*run.answers.last()?);
@@ -334,11 +416,14 @@ fn probe_numbers_command(command: &str, mut rest: Arguments) -> Option<Outcome> 
 /// `probe_commit`, `probe_open` and `probe_reconstruct`: one call, on buffers of
 /// which the one numbered WHICH, in the order of the call, is a byte shorter than
 /// the exact length, or longer where MORE is not 0.
-fn probe_command(command: &str, mut rest: Arguments) -> Option<Outcome> {
+fn probe_command(command: &str, of_stretch: bool, mut rest: Arguments) -> Option<Outcome> {
     let shape = rest.shape()?;
-    let row_bits = match command {
-        "probe_open" => 8,
-        _ => rest.number()?,
+    let rows = match command {
+        "probe_open" => Rows {
+            bits: 8,
+            stretch: None,
+        },
+        _ => rest.rows(of_stretch)?,
     };
     let first_byte = match command {
         "probe_commit" => 0,
@@ -351,7 +436,7 @@ fn probe_command(command: &str, mut rest: Arguments) -> Option<Outcome> {
     };
     rest.end()?;
 
-    let exact = Run::new(shape, row_bits);
+    let exact = Run::new(shape, rows);
     let buffer = |place: usize, exact: usize, content: u8| {
         vec![content; probed_length(exact, place == which, more)]
     };
@@ -375,9 +460,9 @@ fn probe_command(command: &str, mut rest: Arguments) -> Option<Outcome> {
             let [commitment, tree, leaf_commitments, u, v, corrections] = &mut outputs[..] else {
                 return None;
             };
-            commit(
+            call_commit(
                 shape,
-                row_bits,
+                rows,
                 &root,
                 &iv,
                 commitment,
@@ -416,9 +501,9 @@ fn probe_command(command: &str, mut rest: Arguments) -> Option<Outcome> {
             let [commitment, tree, leaf_commitments, q] = &mut outputs[..] else {
                 return None;
             };
-            reconstruct(
+            call_reconstruct(
                 shape,
-                row_bits,
+                rows,
                 &iv,
                 &challenge(1),
                 &corrections,
@@ -436,15 +521,21 @@ fn probe_command(command: &str, mut rest: Arguments) -> Option<Outcome> {
 
 /// Carries out a command; nothing where the arguments cannot be read.
 pub fn run(args: &[String], input: &mut impl Read) -> Option<Outcome> {
-    let (command, rest) = args.split_first()?;
+    let (name, rest) = args.split_first()?;
     let rest = Arguments(rest.iter());
-    match command.as_str() {
+    let (command, of_stretch) = match name.strip_suffix("_stretch") {
+        Some(command) => (command, true),
+        None => (name.as_str(), false),
+    };
+    match command {
+        "commit" | "open" | "reconstruct" | "roundtrip" => bytes_command(command, of_stretch, rest),
+        "probe_commit" | "probe_reconstruct" => probe_command(command, of_stretch, rest),
+        _ if of_stretch => None,
         "list" => list_command(rest, input),
         "check" => check_command(rest, input),
         "record" | "prefixes" | "flips" | "pairs" => record_command(command, rest),
         "decode" | "plan" => numbers_command(command, rest),
-        "commit" | "open" | "reconstruct" | "roundtrip" => bytes_command(command, rest),
-        "probe_commit" | "probe_open" | "probe_reconstruct" => probe_command(command, rest),
+        "probe_open" => probe_command(command, false, rest),
         "probe_decode" | "probe_plan" => probe_numbers_command(command, rest),
         _ => None,
     }

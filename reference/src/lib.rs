@@ -17,6 +17,7 @@ pub mod record;
 mod record_commands;
 pub mod shake;
 pub mod shape;
+pub mod stretch;
 pub mod vole;
 
 /// A string of 128 bits: a node, a seed, an IV, a challenge or an AES block.

@@ -4,7 +4,7 @@
 use std::io::Read;
 
 use crate::calls::Answer;
-use crate::cli::{answer_lines, buffer_line, Arguments, Outcome, Run, PATTERN};
+use crate::cli::{answer_lines, buffer_line, Arguments, Outcome, Rows, Run, PATTERN};
 use crate::record::{check_record, record_bytes, work_lengths, write_record, Record};
 use crate::shape::{row_bytes, Shape};
 
@@ -121,8 +121,9 @@ pub fn record_command(command: &str, mut rest: Arguments) -> Option<Outcome> {
     let (root, iv, challenge) = (rest.bytes()?, rest.bytes()?, rest.bytes()?);
     rest.end()?;
 
-    let mut run = Run::new(shape, row_bits);
-    run.commit(shape, row_bits, &root, &iv);
+    let rows = Rows::whole(row_bits);
+    let mut run = Run::new(shape, rows);
+    run.commit(shape, rows, &root, &iv);
     run.open(shape, &challenge);
     let refused = run.answers.iter().find(|answer| answer.number != 0);
     if let Some(answer) = refused.filter(|answer| command == "record" || answer.number != 5) {

@@ -5,7 +5,8 @@ Nothing here comes from src/: SHAKE128 is hashlib's, AES is that of the Python
 package `cryptography`, field elements are Python integers, and what is computed
 follows the definitions of documents 01 and 02 word by word (a node is covered if
 it has a hidden leaf beneath it; column j is the xor of the rows whose entry has
-bit j set) and not the procedures of document 000's figures.
+bit j set; a stretch is made from rows that begin at its first byte) and not the
+procedures of document 000's figures.
 
 usage: python3 tests/derive.py > tests/known_answers.txt
 """
@@ -18,15 +19,16 @@ def shake(message, length):
     return hashlib.shake_128(message).digest(length)
 
 
-def generator(key, iv, tweak, length):
+def generator(key, iv, tweak, length, first=0):
+    """Its output from byte `first` on."""
     words = [int.from_bytes(iv[n : n + 4], "little") for n in (0, 4, 8, 12)]
     words[3] = (words[3] + tweak) % 2**32
     blocks = b""
-    for counter in range((length + 15) // 16):
+    for counter in range(first // 16, (first + length + 15) // 16):
         lower = (words[0] + counter) % 2**32
         blocks += b"".join(w.to_bytes(4, "little") for w in [lower] + words[1:])
     encryptor = Cipher(algorithms.AES(key), modes.ECB()).encryptor()
-    return encryptor.update(blocks)[:length]
+    return encryptor.update(blocks)[first % 16 :][:length]
 
 
 def times(a, b):
@@ -95,26 +97,32 @@ class Signer:
 
     def __init__(self, shape, row_bits, root, iv):
         s, self.shape, self.iv = shape, shape, iv
-        self.b = row_bits // 8
         self.tree = {0: root}
         for a in range(s.leaves - 1):
             both = generator(self.tree[a], iv, a, 32)
             self.tree[2 * a + 1], self.tree[2 * a + 2] = both[:16], both[16:]
         keys = shake(iv + b"\x00", 48 * s.tau)
-        self.coms, self.rows = [], []
+        self.coms, self.seeds = [], []
         for i in range(s.tau):
             key = int.from_bytes(keys[48 * i : 48 * i + 48], "little")
-            coms, rows = [], []
+            coms, seeds = [], []
             for j in range(2 ** s.depths[i]):
                 out = generator(self.tree[s.leaf(i, j)], iv, i + s.leaves - 1, 64)
                 high = times(key, int.from_bytes(out[:16], "little"))
                 coms.append(xor(high.to_bytes(48, "little"), out[16:]))
-                row = generator(out[:16], iv, i + 2**31, self.b)
-                rows.append(int.from_bytes(row, "little"))
+                seeds.append(out[:16])
             self.coms.append(coms)
-            self.rows.append(rows)
+            self.seeds.append(seeds)
         tops = [shake(b"".join(coms) + b"\x01", 32) for coms in self.coms]
         self.commitment = shake(b"".join(tops) + b"\x01", 32)
+        self.take(0, row_bits // 8)
+
+    def take(self, first, width):
+        """From now on rows are these bytes of each row."""
+        self.b, self.rows = width, []
+        for i, seeds in enumerate(self.seeds):
+            made = [generator(sd, self.iv, i + 2**31, width, first) for sd in seeds]
+            self.rows.append([int.from_bytes(row, "little") for row in made])
 
     def sum(self, rows):
         total = 0
@@ -211,29 +219,30 @@ def challenge_for(shape, label):
 
 
 CASES = [
-    # (tau, k, w, T), row length in bits, IV (None: any), label (where it is not the shape)
-    ((1, 1, 127, 1), 8, None),
-    ((1, 12, 116, 12), 136, None),
-    ((2, 2, 124, 4), 128, "ff" * 16),
-    ((3, 1, 125, 2), 1680, None),
-    ((5, 3, 113, 9), 65536, "fdffffff" + "00" * 8 + "f0ffffff"),
-    ((7, 5, 93, 30), 24, "ffffffff" + "00" * 8 + "ffffff7f"),
-    ((9, 7, 65, 40), 264, None),
-    ((32, 4, 0, 512), 1000, None),
-    ((16, 8, 0, 120), 72, None),
-    ((11, 11, 7, 102), 1680, None, "0 0 0 0"),
-    ((10, 12, 8, 110), 8, "ff" * 16),
-    ((2, 1, 125, 4), 128, None),
-    ((3, 1, 123, 6), 24, "ff" * 16),
-    ((32, 3, 1, 512), 72, None),
-    ((16, 7, 8, 110), 1680, None),
-    ((0, 0, 0, 0), 16, None, "default"),
+    # (tau, k, w, T), row length in bits, stretch, IV (None: any), label (where it
+    # is not the shape)
+    ((1, 1, 127, 1), 8, (0, 1), None),
+    ((1, 12, 116, 12), 136, (15, 2), None),
+    ((2, 2, 124, 4), 128, (5, 7), "ff" * 16),
+    ((3, 1, 125, 2), 1680, (13, 37), None),
+    ((5, 3, 113, 9), 65536, (5000, 16), "fdffffff" + "00" * 8 + "f0ffffff"),
+    ((7, 5, 93, 30), 24, (1, 1), "ffffffff" + "00" * 8 + "ffffff7f"),
+    ((9, 7, 65, 40), 264, (16, 17), None),
+    ((32, 4, 0, 512), 1000, (100, 25), None),
+    ((16, 8, 0, 120), 72, (8, 1), None),
+    ((11, 11, 7, 102), 1680, (5, 20), None, "0 0 0 0"),
+    ((10, 12, 8, 110), 8, (0, 1), "ff" * 16),
+    ((2, 1, 125, 4), 128, (15, 1), None),
+    ((3, 1, 123, 6), 24, (0, 2), "ff" * 16),
+    ((32, 3, 1, 512), 72, (4, 3), None),
+    ((16, 7, 8, 110), 1680, (200, 10), None),
+    ((0, 0, 0, 0), 16, (1, 1), None, "default"),
 ]
 
 
 def main():
     print("# Derived by tests/derive.py with hashlib and the package cryptography.")
-    for numbers, row_bits, iv, *labels in CASES:
+    for numbers, row_bits, stretch, iv, *labels in CASES:
         shape = Shape(*numbers)
         label = labels[0] if labels else " ".join(map(str, numbers))
         root = shake(f"root {label}".encode(), 16)
@@ -243,6 +252,7 @@ def main():
         signer = Signer(shape, row_bits, root, iv)
         short = [*numbers, challenge.hex()]
         long = [*numbers, row_bits, root.hex(), iv.hex()]
+        part = [*numbers, row_bits, *stretch, root.hex(), iv.hex()]
         show("decode", short, 0, [("indices", shape.indices(challenge))])
         show("plan", short, len(revealed), [("nodes", revealed)])
         show("commit", long, 0, signer.commit())
@@ -255,6 +265,10 @@ def main():
         lines = [("record", record(numbers, row_bits, fields))]
         lines += signer.reconstruct(challenge)[1:]
         show("record", long, len(revealed), lines)
+        signer.take(*stretch)
+        show("commit_stretch", part, 0, signer.commit())
+        part.append(challenge.hex())
+        show("reconstruct_stretch", part, len(revealed), signer.reconstruct(challenge))
 
 
 main()

@@ -4,7 +4,7 @@ use mathlib.Core.List.{List, []}
 use Prim.Native.Nat.{ℕ, zero, suc, _+_, _-_, _<_}
 use native.Mathlib.Omega.{arith}
 use lib.ListN.{getD}
-use Rattle.spec.specs.Aes.{roundOf, roundKey, rounds, keyExpansion}
+use Rattle.spec.specs.Aes.{subBytes, shiftRows, mixColumns, addRoundKey, roundOf, lastRound, roundKey, rounds, cipher, keyExpansion}
 use Rattle.aes.specs.RoundKeys.{roundKeys}
 use Rattle.laws.proofs.Lists.{getD-tabulate}
 
@@ -21,3 +21,14 @@ rounds-more w s x k y (suc n) h ex ek ey =
     let a : suc n + 1 - 1 ≡ suc n = omega arith in
     let b : suc n - 1 ≡ n = omega arith in
     rw a (ey ∙ ap₂ roundOf (ex ∙ ap (rounds w s) b) ek)
+
+-- a round, from its steps
+pub steps-round : (x k a b d r : List (List ℕ)) → a ≡ subBytes x → b ≡ shiftRows a → d ≡ mixColumns b → r ≡ addRoundKey d k → r ≡ roundOf x k
+unfolding roundOf
+steps-round x k a b d r ea eb ed er = cc
+
+-- the cipher of s in ten rounds, from its first key addition, the state after nine rounds and the last round
+pub cipher-is : (w s x y k l r : List (List ℕ)) → k ≡ roundKey w 0 → l ≡ roundKey w 10 → x ≡ addRoundKey s k → y ≡ rounds w x 9 → r ≡ lastRound y l
+    → r ≡ cipher 10 w s
+unfolding cipher
+cipher-is w s x y k l r ek el ex ey er = cc

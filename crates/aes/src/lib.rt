@@ -1,9 +1,9 @@
 // AES-128, FIPS 197, over the steps of crate aes_steps, of which it re-exports `table`, `pack` and `unpack`. A state or a round key is its four columns of four
 // bytes, by value.
 ghost use mathlib.Core.Path.{_≡_};
-ghost use mathlib.Core.List.{List, [], _∷_};
+ghost use mathlib.Core.List.{List};
 ghost use Prim.Native.Nat.{ℕ};
-ghost use lib.ListN.{length, getD};
+ghost use lib.ListN.{length};
 ghost use Rattle.spec.specs.Gf256.{SboxTable};
 ghost use Rattle.spec.specs.Aes.{stateOf, bytesOf, addRoundKey, roundOf, lastRound, cipher, keyExpansion};
 ghost use Rattle.aes.specs.RoundKeys.{roundKeys, nextRoundKey};
@@ -100,38 +100,40 @@ pub fn encrypt(t: &[u8; 256], keys: &[[[u8; 4]; 4]; 11], s: [[u8; 4]; 4]) -> [[u
     last_round(t, x, keys[ROUNDS])
 }
 
-// A round of two states: neither waits for the other, so a processor can work on both at once. The steps stand here one by one, since a second call of
-// `round` would keep the compiler from inlining it.
-fn round_pair(t: &[u8; 256], a: [[u8; 4]; 4], b: [[u8; 4]; 4], k: [[u8; 4]; 4]) -> [[[u8; 4]; 4]; 2]
-    requires { ⌜ SboxTable (now t) ⌝ }
-    ensures { λ r. ⌜ (getD r 0 [] ≡ roundOf a k) × (getD r 1 [] ≡ roundOf b k) ⌝ }
-{
-    let c = mix_columns(shift_rows(sub_bytes(t, a)));
-    let d = mix_columns(shift_rows(sub_bytes(t, b)));
-    [add_round_key(c, k), add_round_key(d, k)]
+// Two blocks of 16 bytes, each in an array of its own.
+pub struct Blocks {
+    pub first: [u8; 16],
+    pub second: [u8; 16],
 }
 
-// CIPHER of two states, round by round (bench/README.md compares it with one after the other).
+// CIPHER of two states, and the bytes of both. They go round by round: neither waits for the other, so a processor can work on both at once (bench/README.md
+// compares it with one after the other). The steps of a round stand here one by one, since a second call of `round` would keep the compiler from inlining it.
 pub fn encrypt_pair(
     t: &[u8; 256],
     keys: &[[[u8; 4]; 4]; 11],
     a: [[u8; 4]; 4],
     b: [[u8; 4]; 4],
-) -> [[[u8; 4]; 4]; 2]
+) -> Blocks
     requires { ⌜ SboxTable (now t) ⌝ }
-    ensures { λ r. ⌜ ((key : List ℕ) → now (keys .entry) ≡ roundKeys 4 key → r ≡ cipher 10 (keyExpansion 4 key) a ∷ cipher 10 (keyExpansion 4 key) b ∷ []) ⌝ }
+    ensures { λ r. ⌜ ((key : List ℕ) → now (keys .entry) ≡ roundKeys 4 key
+        → (r .first ≡ bytesOf (cipher 10 (keyExpansion 4 key) a)) × (r .second ≡ bytesOf (cipher 10 (keyExpansion 4 key) b))) ⌝ }
 {
-    let mut x = [add_round_key(a, keys[0]), add_round_key(b, keys[0])];
+    let mut x = add_round_key(a, keys[0]);
+    let mut y = add_round_key(b, keys[0]);
     let mut i = 1;
     while i < ROUNDS {
-        let y = round_pair(t, x[0], x[1], keys[i]);
-        x = y;
+        let c = mix_columns(shift_rows(sub_bytes(t, x)));
+        let d = mix_columns(shift_rows(sub_bytes(t, y)));
+        let e = add_round_key(c, keys[i]);
+        let f = add_round_key(d, keys[i]);
+        x = e;
+        y = f;
         i += 1;
     }
-    [
-        last_round(t, x[0], keys[ROUNDS]),
-        last_round(t, x[1], keys[ROUNDS]),
-    ]
+    Blocks {
+        first: bytes_of(last_round(t, x, keys[ROUNDS])),
+        second: bytes_of(last_round(t, y, keys[ROUNDS])),
+    }
 }
 
 // ---- the key schedule

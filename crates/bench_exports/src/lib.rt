@@ -45,18 +45,18 @@ pub extern "C" fn rattle_schedule_and_block(t: &[u8; 256], key: &[u8; 16], out: 
 #[no_mangle]
 pub extern "C" fn rattle_node(t: &[u8; 256], key: &[u8; 16], iv: &[u8; 16], out: &mut [u8; 32])
     requires { ⌜ SboxTable (now t) ⌝ }
-    ensures { λ _. ⌜ now (out .exit) ≡ tabulate (length (now (out .entry))) (generatorByte 4 (now (key .entry)) (now (iv .entry)) 5) ⌝ }
+    ensures { λ _. ⌜ now (out .exit) ≡ tabulate (length (now (out .entry))) (λ p. generatorByte 4 (now (key .entry)) (now (iv .entry)) 5 (0 + p)) ⌝ }
 {
-    generator::fill(t, key, *iv, 5, out);
+    generator::fill(t, key, *iv, 5, 0, out);
 }
 
 // A row of 1,680 bits and some more: 224 bytes of the generator.
 #[no_mangle]
 pub extern "C" fn rattle_row(t: &[u8; 256], key: &[u8; 16], iv: &[u8; 16], out: &mut [u8; 224])
     requires { ⌜ SboxTable (now t) ⌝ }
-    ensures { λ _. ⌜ now (out .exit) ≡ tabulate (length (now (out .entry))) (generatorByte 4 (now (key .entry)) (now (iv .entry)) 5) ⌝ }
+    ensures { λ _. ⌜ now (out .exit) ≡ tabulate (length (now (out .entry))) (λ p. generatorByte 4 (now (key .entry)) (now (iv .entry)) 5 (0 + p)) ⌝ }
 {
-    generator::fill(t, key, *iv, 5, out);
+    generator::fill(t, key, *iv, 5, 0, out);
 }
 
 #[no_mangle]
@@ -118,9 +118,9 @@ pub extern "C" fn rattle_add_row(
 )
     requires { ⌜ SboxTable (now t) ⌝ }
     requires { ⌜ (length (now seed) ≡ 16) × (length (now sum) ≤ 8192) ⌝ }
-    ensures { λ _. ⌜ Xored 0 (length (now (sum .entry))) (generatorByte 4 (now (seed .entry)) (now (iv .entry)) tweak) (now (sum .entry)) (now (sum .exit)) ⌝ }
+    ensures { λ _. ⌜ Xored 0 (length (now (sum .entry))) (λ p. generatorByte 4 (now (seed .entry)) (now (iv .entry)) tweak (0 + p)) (now (sum .entry)) (now (sum .exit)) ⌝ }
 {
-    rows::add_row(t, seed, *iv, tweak, sum);
+    rows::add_row(t, seed, *iv, tweak, 0, sum);
 }
 
 fn count_of(r: Answer) -> usize

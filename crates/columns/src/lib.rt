@@ -36,15 +36,15 @@ fn xor_16(d: &mut [u8], at: usize, block: [u8; 16])
     }
 }
 
-// The same for its first n bytes. A whole block has a function of its own, so that the compiler knows the count.
-pub fn xor_block(d: &mut [u8], at: usize, n: usize, block: [u8; 16])
-    requires { ⌜ (n ≤ 16) × (at + n ≤ length (now d)) ⌝ }
-    ensures { λ _. ⌜ Xored at (at + n) (λ p. getD block (p - at) 0) (now (d .entry)) (now (d .exit)) ⌝ }
+// The same for its n bytes from byte `from` on. A whole block has a function of its own, so that the compiler knows the count.
+pub fn xor_block(d: &mut [u8], at: usize, from: usize, n: usize, block: [u8; 16])
+    requires { ⌜ (from + n ≤ 16) × (at + n ≤ length (now d)) ⌝ }
+    ensures { λ _. ⌜ Xored at (at + n) (λ p. getD block (from + (p - at)) 0) (now (d .entry)) (now (d .exit)) ⌝ }
 {
     if n == 16 {
         xor_16(d, at, block);
     } else {
-        xor_bytes(d, at, 1, &block[0..n]);
+        xor_bytes(d, at, 1, &block[from..from + n]);
     }
 }
 

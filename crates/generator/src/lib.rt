@@ -1,6 +1,6 @@
 // The generator PRG of document 000, section 3.3, figure 3.6, for keys of 128 bits: AES in counter mode, with a tweak.
 ghost use mathlib.Core.Path.{_≡_};
-ghost use mathlib.Core.List.{List, [], _∷_};
+ghost use mathlib.Core.List.{List};
 ghost use Prim.Native.Nat.{ℕ, _+_, _^_, _≤_, _<_};
 ghost use lib.ListN.{length};
 ghost use Rattle.spec.specs.Bytes.{tabulate};
@@ -8,6 +8,7 @@ ghost use Rattle.spec.specs.Gf256.{SboxTable};
 ghost use Rattle.spec.specs.Generator.{addToWord, addToUpperWord, addToLowerWord, generatorBlock, generatorByte};
 ghost use Rattle.aes.specs.RoundKeys.{roundKeys};
 ghost use Rattle.generator.specs.Stored.{Stored};
+use aes::Blocks;
 
 // An IV of 16 lent bytes.
 pub fn load_iv(s: &[u8]) -> [u8; 16]
@@ -50,14 +51,14 @@ pub fn block_pair(
     iv: [u8; 16],
     tweak: u32,
     n: u32,
-) -> [[u8; 16]; 2]
+) -> Blocks
     requires { ⌜ SboxTable (now t) ⌝ }
     requires { ⌜ n + 1 < 2 ^ 32 ⌝ }
-    ensures { λ r. ⌜ ((key : List ℕ) → now (keys .entry) ≡ roundKeys 4 key → r ≡ generatorBlock 4 key iv tweak n ∷ generatorBlock 4 key iv tweak (n + 1) ∷ []) ⌝ }
+    ensures { λ r. ⌜ ((key : List ℕ) → now (keys .entry) ≡ roundKeys 4 key
+        → (r .first ≡ generatorBlock 4 key iv tweak n) × (r .second ≡ generatorBlock 4 key iv tweak (n + 1))) ⌝ }
 {
     let s = aes::load_state(&iv);
-    let pair = aes::encrypt_pair(t, keys, counter(s, tweak, n), counter(s, tweak, n + 1));
-    [aes::bytes_of(pair[0]), aes::bytes_of(pair[1])]
+    aes::encrypt_pair(t, keys, counter(s, tweak, n), counter(s, tweak, n + 1))
 }
 
 // Stores a whole block at place p of out: a copy of 16 bytes, which is quicker where their number is a constant.
@@ -96,17 +97,20 @@ fn store(block: [u8; 16], from: usize, p: usize, out: &mut [u8]) -> usize
     store_part(block, from, p, out)
 }
 
-// Fills out with the first bytes of the output: byte p is byte p % 16 of block p / 16.
-pub fn fill(t: &[u8; 256], key: &[u8], iv: [u8; 16], tweak: u32, out: &mut [u8])
+// Fills out with the output from byte `first` on: byte p of the output is byte p % 16 of block p / 16.
+pub fn fill(t: &[u8; 256], key: &[u8], iv: [u8; 16], tweak: u32, first: usize, out: &mut [u8])
     requires { ⌜ SboxTable (now t) ⌝ }
-    requires { ⌜ (length (now key) ≡ 16) × (length (now out) < 2 ^ 32) ⌝ }
-    ensures { λ _. ⌜ now (out .exit) ≡ tabulate (length (now (out .entry))) (generatorByte 4 (now (key .entry)) iv tweak) ⌝ }
+    requires { ⌜ (length (now key) ≡ 16) × (first + length (now out) < 2 ^ 32) ⌝ }
+    ensures { λ _. ⌜ now (out .exit) ≡ tabulate (length (now (out .entry))) (λ p. generatorByte 4 (now (key .entry)) iv tweak (first + p)) ⌝ }
 {
     let keys = aes::key_schedule(t, key);
     let mut p = 0;
     while p < out.len() {
-        let blocks = block_pair(t, &keys, iv, tweak, (p / 16) as u32);
-        let mid = store(blocks[0], p % 16, p, out);
-        p = store(blocks[1], 0, mid, out);
+        let at = first + p;
+        let pair = block_pair(t, &keys, iv, tweak, (at / 16) as u32);
+        let one = pair.first;
+        let two = pair.second;
+        let mid = store(one, at % 16, p, out);
+        p = store(two, 0, mid, out);
     }
 }

@@ -9,7 +9,7 @@ use native.Mathlib.Decide.{decLt}
 use lib.ListN.{length, getD, take, drop, length-append, length-drop}
 use lib.Seq.{take-append-le, drop-append-le, drop-append-add, take-add, take-all, ext-getD}
 use Rattle.spec.specs.Bytes.{part, tabulate, concat}
-use Rattle.laws.proofs.Stretches.{stretch-before}
+use Rattle.laws.proofs.Segments.{segment-before}
 use Rattle.laws.proofs.Lists.{length-tabulate, getD-tabulate, getD-part}
 
 -- ---- a part of two strings
@@ -31,7 +31,7 @@ module _ (f : ℕ → List ℕ) (at : ℕ → ℕ) (none : at 0 ≡ 0) where
   Laid n = (i : ℕ) → i < n → at (suc i) ≡ at i + length (f i)
 
   before : (n i : ℕ) → Laid n → i < n → at i + length (f i) ≤ at n
-  before n i h l = stretch-before at (λ i. length (f i)) n i h l
+  before n i h l = segment-before at (λ i. length (f i)) n i h l
 
   pub laid-length : (n : ℕ) → Laid n → length (concat n f) ≡ at n
   unfolding concat

@@ -6,7 +6,7 @@ pub mod Tests
 pub mod Lists
 pub mod Front
 pub mod Concat
-pub mod Stretches
+pub mod Segments
 pub mod Numbers
 pub mod Polynomials
 pub mod FieldProduct
@@ -21,3 +21,5 @@ pub mod Digits
 pub mod Running
 pub mod Parts
 pub mod Conjunctions
+pub mod Calls
+pub mod Words

@@ -28,6 +28,10 @@ module _ {A : Type 0} where
       ap₂ (λ (x : A) (l : List A). x ∷ l) (h 0 (omega arith))
       (tabulate-same n (λ i. f (suc i)) (λ i. g (suc i)) (λ i l. h (suc i) (omega arith)))
 
+  -- a rule's elements from element 0 on
+  pub tabulate-from-0 : (n : ℕ) (f : ℕ → A) → tabulate n (λ i. f (0 + i)) ≡ tabulate n f
+  tabulate-from-0 n f = tabulate-same n (λ i. f (0 + i)) f (λ i h. ap f (zero-add i))
+
   -- a list of n elements is the rule's where each element is
   pub is-tabulate : (n : ℕ) (f : ℕ → A) (d : A) (l : List A) → length l ≡ n → ((i : ℕ) → i < n → getD l i d ≡ f i) → l ≡ tabulate n f
   is-tabulate n f d l e h =
@@ -43,8 +47,7 @@ module _ {A : Type 0} where
   -- m elements of a rule, and n more
   pub tabulate-append : (m n : ℕ) (f : ℕ → A) → tabulate (m + n) f ≡ tabulate m f ++ tabulate n (λ i. f (m + i))
   unfolding tabulate
-  tabulate-append zero n f =
-      ap (λ (k : ℕ). tabulate k f) (zero-add n) ∙ tabulate-same n f (λ i. f (zero + i)) (λ i h. ap f (sym (zero-add i)))
+  tabulate-append zero n f = ap (λ (k : ℕ). tabulate k f) (zero-add n) ∙ sym (tabulate-from-0 n f)
   tabulate-append (suc m) n f =
       ap (λ (k : ℕ). tabulate k f) (suc-add m n)
       ∙ ap (λ (l : List A). f 0 ∷ l)
@@ -57,6 +60,23 @@ length-part xs at n h = length-take-le n (drop at xs) (simp length-drop (omega a
 
 pub getD-part : (xs : List ℕ) (at n p : ℕ) → p < n → getD (part xs at n) p 0 ≡ getD xs (at + p) 0
 getD-part xs at n p h = getD-take n (drop at xs) p 0 h ∙ getD-drop at xs p 0
+
+-- a part of a part
+pub part-part : (xs : List ℕ) (at n m l : ℕ) → at + n ≤ length xs → m + l ≤ n → part (part xs at n) m l ≡ part xs (at + m) l
+part-part xs at n m l k h =
+    let whole = length-part xs at n k in
+    let long = length-part (part xs at n) m l (omega arith) in
+    ext-getD 0 (part (part xs at n) m l) (part xs (at + m) l) (long ∙ sym (length-part xs (at + m) l (omega arith)))
+    (λ i e.
+    let lt : i < l = rw long at e in
+    getD-part (part xs at n) m l i lt ∙ getD-part xs at n (m + i) (omega arith)
+    ∙ ap (λ (p : ℕ). getD xs p 0) (let z : at + (m + i) ≡ at + m + i = omega arith in z) ∙ sym (getD-part xs (at + m) l i lt))
+
+-- a part of a list that is given by a rule
+pub part-tabulate : (n : ℕ) (f : ℕ → ℕ) (at l : ℕ) → at + l ≤ n → part (tabulate n f) at l ≡ tabulate l (λ p. f (at + p))
+part-tabulate n f at l h =
+    is-tabulate l (λ p. f (at + p)) 0 (part (tabulate n f) at l) (length-part (tabulate n f) at l (simp length-tabulate (omega arith)))
+    (λ p k. getD-part (tabulate n f) at l p k ∙ getD-tabulate n f (at + p) 0 (omega arith))
 
 pub length-zeros : (n : ℕ) → length (zeros n) ≡ n
 unfolding zeros

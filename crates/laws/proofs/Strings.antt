@@ -36,6 +36,9 @@ drop-zeros zero n = rw sub-zero
 drop-zeros (suc k) zero = rw zero-sub
 drop-zeros (suc k) (suc n) = rw suc-sub-suc (drop-zeros k n)
 
+pub part-zeros : (n at l : ℕ) → at + l ≤ n → part (zeros n) at l ≡ zeros l
+part-zeros n at l h = ap (take l) (drop-zeros at n) ∙ take-zeros l (n - at) (omega arith)
+
 pub getD-append-zeros : (p : List ℕ) (n i : ℕ) → getD (p ++ zeros n) i 0 ≡ getD p i 0
 getD-append-zeros [] n i = getD-zeros n i
 getD-append-zeros (x ∷ p) n zero = refl

@@ -33,7 +33,7 @@ pub fn commit_leaf(
         → (r ≡ leafSeed faest s iv i (now (key .entry))) × (now (out .exit) ≡ leafCommitment faest s iv i (now (key .entry)))) ⌝ }
 {
     let mut stretched = [0u8; 64];
-    generator::fill(t, key, iv, tweak, &mut stretched);
+    generator::fill(t, key, iv, tweak, 0, &mut stretched);
     field::leaf_hash(m, &stretched, out);
     generator::load_iv(&stretched[..16])
 }

@@ -13,7 +13,7 @@ use Rattle.spec.specs.declared.Answer.{Answer}
 use Rattle.spec.specs.Bytes.{zeros}
 use Rattle.spec.specs.Tree.{revealed}
 use Rattle.spec.specs.Shapes.{resolved, shapeOk, challengeBytes, grindingOk, planned, plannedCount}
-use Rattle.spec.specs.Calls.{firstRefusal, fits, nodesOk, countWith, planNumber, Plan}
+use Rattle.spec.specs.Calls.{firstRefusal, fits, nodesOk, countWith, planLengths, planNumber, Plan}
 use Rattle.laws.proofs.Lists.{length-zeros}
 use Rattle.planning_laws.proofs.Revealed.{revealed-below}
 use Rattle.planning_laws.proofs.ShapeFacts.{shape-facts, leaves-max}
@@ -26,9 +26,9 @@ use Rattle.listing.specs.Listing.{planText}
 abbrev first : Bool → Bool → Bool → Bool → ℕ
 first a b c d = firstRefusal ((a, 1) ∷ (b, 3) ∷ (c, 4) ∷ (d, 5) ∷ [])
 
-number-cases : (s : Shape) (ch xs : List ℕ) → (planNumber s ch xs ≤ 5) × (planNumber s ch xs ≡ 0 → (shapeOk s ≡ true) × (nodesOk s ch ≡ true))
+number-cases : (s : Shape) (ch : List ℕ) (lengths : List (ℕ × ℕ)) → (planNumber s ch lengths ≤ 5) × (planNumber s ch lengths ≡ 0 → (shapeOk s ≡ true) × (nodesOk s ch ≡ true))
 unfolding planNumber
-number-cases s ch xs = go (shapeOk s) (fits ((length ch, challengeBytes s) ∷ (length xs, s .t) ∷ [])) (grindingOk s ch) (nodesOk s ch)
+number-cases s ch lengths = go (shapeOk s) (fits lengths) (grindingOk s ch) (nodesOk s ch)
   where
     go : (a b c d : Bool) → (first a b c d ≤ 5) × (first a b c d ≡ 0 → (a ≡ true) × (d ≡ true))
     go false b c d = (omega arith, λ e. absurd (omega arith))
@@ -38,11 +38,11 @@ number-cases s ch xs = go (shapeOk s) (fits ((length ch, challengeBytes s) ∷ (
     go true true true true = (omega arith, λ e. (refl, refl))
 
 -- a list of T numbers, or a shape whose T is too large
-number-same : (s : Shape) (ch xs : List ℕ) → (s .t ≤ 512 → length xs ≡ s .t) → planNumber s ch xs ≡ planNumber s ch (zeros (s .t))
+number-same : (s : Shape) (ch xs : List ℕ) → (s .t ≤ 512 → length xs ≡ s .t) → planNumber s ch (planLengths s ch xs) ≡ planNumber s ch (planLengths s ch (zeros (s .t)))
 unfolding planNumber
 number-same s ch xs size = go (shapeOk s) refl
   where
-    go : (b : Bool) → shapeOk s ≡ b → planNumber s ch xs ≡ planNumber s ch (zeros (s .t))
+    go : (b : Bool) → shapeOk s ≡ b → planNumber s ch (planLengths s ch xs) ≡ planNumber s ch (planLengths s ch (zeros (s .t)))
     go false e = rw e refl
     go true e =
         let l : length xs ≡ length (zeros (s .t)) = size (shape-facts s e .t-max) ∙ sym (length-zeros (s .t)) in
@@ -73,11 +73,11 @@ pub printed : (s : Shape) (ch xs ys : List ℕ) (r : Answer) → Plan s ch xs ys
 unfolding planText countWith nodesOk
 printed s ch xs ys r p size =
     record {
-      small = rw (p .number) (number-cases (resolved s) ch xs .0);
+      small = rw (p .number) (number-cases (resolved s) ch (planLengths (resolved s) ch xs) .0);
       refused = λ h. rw (same, ne-eqb (r .number) 0 h) refl;
       listed =
           λ e.
-          let q = number-cases (resolved s) ch xs .1 (sym (p .number) ∙ e) in
+          let q = number-cases (resolved s) ch (planLengths (resolved s) ch xs) .1 (sym (p .number) ∙ e) in
           let count : r .count ≡ n = rw e at (p .count) in
           let long : length nodes ≡ r .count = planned-length (resolved s) ch ∙ sym count in
           let w : ys ≡ nodes ++ drop n xs = rw e at (p .nodes) in
@@ -96,5 +96,5 @@ printed s ch xs ys r p size =
     n : ℕ
     n = plannedCount (resolved s) ch
 
-    same : planNumber (resolved s) ch (zeros (resolved s .t)) ≡ r .number
+    same : planNumber (resolved s) ch (planLengths (resolved s) ch (zeros (resolved s .t))) ≡ r .number
     same = sym (p .number ∙ number-same (resolved s) ch xs size)

@@ -7,14 +7,14 @@ use lib.Dec.{eqb}
 use Rattle.spec.specs.declared.Shape.{Shape}
 use Rattle.spec.specs.Bytes.{zeros}
 use Rattle.spec.specs.Shapes.{resolved, planned, plannedCount}
-use Rattle.spec.specs.Calls.{planNumber}
+use Rattle.spec.specs.Calls.{planLengths, planNumber}
 use Rattle.listing_line.specs.Line.{challengeOf, behind, lineOk, shapeOf}
 use Rattle.listing_text.specs.Text.{refusedText, nodesText}
 
 -- what plan answers, lent a list of T numbers
 unfoldable pub planText : Shape → List ℕ → List ℕ
 planText s ch =
-    let number = planNumber s ch (zeros (s .t)) in
+    let number = planNumber s ch (planLengths s ch (zeros (s .t))) in
     cond (eqb number 0) (nodesText (planned s ch) (plannedCount s ch)) (refusedText number)
 
 -- 7 is tested before 1

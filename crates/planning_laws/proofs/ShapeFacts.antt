@@ -12,7 +12,7 @@ use borrow.Author.Tests.{leb-true, ltb-true, le-leb, lt-ltb, le-ltb, eq-eqb, ne-
 use Rattle.spec.specs.declared.Shape.{Shape}
 use Rattle.spec.specs.Shapes.{level, deeper, depthOf, entriesOf, firstBit, leaves, shapeOk}
 use Rattle.laws.proofs.Conjunctions.{refuted}
-use Rattle.laws.proofs.Stretches.{stretch-before}
+use Rattle.laws.proofs.Segments.{segment-before}
 use Rattle.planning_laws.proofs.Depths.{depth-range, depth-deep, depth-flat, bit-next, leaves-split}
 
 pub record ShapeFacts (s : Shape) : Type 0 where
@@ -108,7 +108,7 @@ bit-all s f = omega arith
 
 pub vector-bits : (s : Shape) (i : ℕ) → ShapeFacts s → i < s .tau → firstBit s i + depthOf s i ≤ 128
 vector-bits s i f h =
-    let a = stretch-before (firstBit s) (depthOf s) (s .tau) i (λ n l. bit-next s n) h in
+    let a = segment-before (firstBit s) (depthOf s) (s .tau) i (λ n l. bit-next s n) h in
     let b = bit-all s f in
     omega arith
 

@@ -14,7 +14,7 @@ use Rattle.spec.specs.Bytes.{bit, tabulate, allZero}
 use Rattle.spec.specs.Challenge.{bitAt, bitsAt, indexAt, clearAt}
 use Rattle.spec.specs.Shapes.{shapeOk, level, depthOf, entriesOf, firstBit, firstEntry, leaves, leafOf, hiddenIndex, hiddenLeaf, hiddenLeaves, grindingOk}
 use Rattle.laws.proofs.Conjunctions.{both-true}
-use Rattle.laws.proofs.Stretches.{stretch-before}
+use Rattle.laws.proofs.Segments.{segment-before}
 use Rattle.laws.proofs.Lists.{length-tabulate, getD-tabulate}
 use Rattle.planning_laws.proofs.Bits.{bit-lt, index-more}
 use Rattle.planning_laws.proofs.Depths.{bit-none, bit-next, entry-none, entry-next, entry-all, leaf-of-entry, leaf-one}
@@ -105,4 +105,4 @@ hidden-at s ch i h = getD-tabulate (s .tau) (λ i. leafOf s i (hiddenIndex s ch 
 
 -- the entry after those of the vectors before i, and j more, is an entry
 pub entry-in : (s : Shape) → ShapeLaws s → (i j : ℕ) → i < s .tau → j < entriesOf s i → firstEntry s i + j < leaves s
-entry-in s f i j h l = (let a = stretch-before (firstEntry s) (entriesOf s) (s .tau) i (λ n m. f .entry-next n) h in let b = f .entry-all in omega arith)
+entry-in s f i j h l = (let a = segment-before (firstEntry s) (entriesOf s) (s .tau) i (λ n m. f .entry-next n) h in let b = f .entry-all in omega arith)

@@ -1,17 +1,18 @@
 // What reconstruct writes, from hash keys to the commitment; the tests of the call stand in `verifier`.
 ghost use mathlib.Core.Path.{_≡_};
 ghost use mathlib.Core.Bool.{true};
-ghost use Prim.Native.Nat.{_*_, _≤_};
+ghost use Prim.Native.Nat.{_+_, _*_, _≤_};
 ghost use lib.ListN.{length};
 ghost use Rattle.spec.specs.Shapes.{shapeOk, plannedCount, treeBytes, leafCommitmentsBytes, openingBytes, matrixBytes, correctionsBytes};
 ghost use Rattle.spec.specs.Primitives.{faest};
 ghost use Rattle.spec.specs.Calls.{Reconstructed, reconstructed};
 use spec::Shape;
+use spec::Stretch;
 
 // Writes what reconstruct writes; keys and hashes are room for the hash keys and the hashes of the vectors, n is the count of revealed nodes.
 fn write_all(
     s: Shape,
-    b: usize,
+    z: Stretch,
     n: usize,
     iv: &[u8],
     ch: &[u8],
@@ -24,11 +25,11 @@ fn write_all(
     lcs: &mut [u8],
     q: &mut [u8],
 )
-    requires { ⌜ (shapeOk s ≡ true) × (b ≤ 8192) × (n ≡ plannedCount s (now ch)) × (n ≤ s .t) × (length (now keys) ≡ 48 * s .tau) × (length (now hashes) ≡ 32 * s .tau) ⌝ }
-    requires { ⌜ (length (now iv) ≡ 16) × (length (now ch) ≡ 16) × (length (now corrections) ≡ correctionsBytes s b) × (length (now opening) ≡ openingBytes s) ⌝ }
-    requires { ⌜ (length (now commitment) ≡ 32) × (length (now tree) ≡ treeBytes s) × (length (now lcs) ≡ leafCommitmentsBytes s) × (length (now q) ≡ matrixBytes s b) ⌝ }
+    requires { ⌜ (shapeOk s ≡ true) × (z .first + z .width ≤ 8192) × (n ≡ plannedCount s (now ch)) × (n ≤ s .t) × (length (now keys) ≡ 48 * s .tau) × (length (now hashes) ≡ 32 * s .tau) ⌝ }
+    requires { ⌜ (length (now iv) ≡ 16) × (length (now ch) ≡ 16) × (length (now corrections) ≡ correctionsBytes s (z .width)) × (length (now opening) ≡ openingBytes s) ⌝ }
+    requires { ⌜ (length (now commitment) ≡ 32) × (length (now tree) ≡ treeBytes s) × (length (now lcs) ≡ leafCommitmentsBytes s) × (length (now q) ≡ matrixBytes s (z .width)) ⌝ }
     ensures { λ _. ⌜ _≡_ {A = Reconstructed} (record { commitment = now (commitment .exit); tree = now (tree .exit); leafCommitments = now (lcs .exit); q = now (q .exit) })
-        (reconstructed faest s b (now (iv .entry)) (now (ch .entry)) (now (corrections .entry)) (now (opening .entry))) ⌝ }
+        (reconstructed faest s z (now (iv .entry)) (now (ch .entry)) (now (corrections .entry)) (now (opening .entry))) ⌝ }
 {
     let t = aes::table();
     let x = generator::load_iv(iv);
@@ -37,7 +38,7 @@ fn write_all(
     verifier_vectors::write_vectors(
         &t,
         s,
-        b,
+        z,
         x,
         keys,
         ch,
@@ -54,7 +55,7 @@ fn write_all(
 // Writes what reconstruct writes, once every test has been passed.
 pub fn write_reconstruction(
     s: Shape,
-    b: usize,
+    z: Stretch,
     n: usize,
     iv: &[u8],
     ch: &[u8],
@@ -65,18 +66,18 @@ pub fn write_reconstruction(
     lcs: &mut [u8],
     q: &mut [u8],
 )
-    requires { ⌜ (shapeOk s ≡ true) × (b ≤ 8192) × (n ≡ plannedCount s (now ch)) × (n ≤ s .t) ⌝ }
-    requires { ⌜ (length (now iv) ≡ 16) × (length (now ch) ≡ 16) × (length (now corrections) ≡ correctionsBytes s b) × (length (now opening) ≡ openingBytes s) ⌝ }
-    requires { ⌜ (length (now commitment) ≡ 32) × (length (now tree) ≡ treeBytes s) × (length (now lcs) ≡ leafCommitmentsBytes s) × (length (now q) ≡ matrixBytes s b) ⌝ }
+    requires { ⌜ (shapeOk s ≡ true) × (z .first + z .width ≤ 8192) × (n ≡ plannedCount s (now ch)) × (n ≤ s .t) ⌝ }
+    requires { ⌜ (length (now iv) ≡ 16) × (length (now ch) ≡ 16) × (length (now corrections) ≡ correctionsBytes s (z .width)) × (length (now opening) ≡ openingBytes s) ⌝ }
+    requires { ⌜ (length (now commitment) ≡ 32) × (length (now tree) ≡ treeBytes s) × (length (now lcs) ≡ leafCommitmentsBytes s) × (length (now q) ≡ matrixBytes s (z .width)) ⌝ }
     ensures { λ _. ⌜ _≡_ {A = Reconstructed} (record { commitment = now (commitment .exit); tree = now (tree .exit); leafCommitments = now (lcs .exit); q = now (q .exit) })
-        (reconstructed faest s b (now (iv .entry)) (now (ch .entry)) (now (corrections .entry)) (now (opening .entry))) ⌝ }
+        (reconstructed faest s z (now (iv .entry)) (now (ch .entry)) (now (corrections .entry)) (now (opening .entry))) ⌝ }
 {
     let tau = s.tau;
     let mut keys = [0u8; 1536];
     let mut hashes = [0u8; 1024];
     write_all(
         s,
-        b,
+        z,
         n,
         iv,
         ch,

@@ -11,7 +11,7 @@ use Rattle.spec.specs.declared.Answer.{Answer}
 use Rattle.spec.specs.Bytes.{zeros}
 use Rattle.spec.specs.Shapes.{resolved, shapeOk, challengeBytes, hashBytes, ivBytes, treeBytes, leafCommitmentsBytes, openingBytes, matrixBytes, correctionsBytes, plannedCount}
 use Rattle.spec.specs.Primitives.{Primitives}
-use Rattle.spec.specs.Calls.{firstRefusal, fits, rowOk, countWith, written, Reconstructed, reconstructed, reconstructNumber, Reconstruct}
+use Rattle.spec.specs.Calls.{firstRefusal, fits, rowOk, countWith, written, Reconstructed, reconstructed, reconstructNumber, Reconstruct, wholeRow, reconstructLengths}
 use Rattle.record.specs.declared.Lengths.{Lengths}
 use Rattle.record.specs.declared.RecordLength.{RecordLength}
 use Rattle.record.specs.Record.{recordBytes, Contents, contentsOf, headNumber, readNumber, recordOf}
@@ -51,11 +51,13 @@ Reconstructs P c before after r = Reconstruct P (c .shape) (c .row) (c .iv) (c .
 
 -- what it answers of them and its buffers
 unfoldable pub fieldsNumber : Contents → Reconstructed → ℕ
-fieldsNumber c x = reconstructNumber (resolved (c .shape)) (c .row) (c .iv) (c .challenge) (c .corrections) (c .opening) x
+fieldsNumber c x =
+    let s = resolved (c .shape) in
+    reconstructNumber s (c .row) (c .challenge) (c .opening) (reconstructLengths s (c .row / 8) (c .iv) (c .challenge) (c .corrections) (c .opening) x)
 
 -- what it makes of them
 unfoldable pub made : Primitives → Contents → Reconstructed
-made P c = reconstructed P (resolved (c .shape)) (c .row / 8) (c .iv) (c .challenge) (c .corrections) (c .opening)
+made P c = reconstructed P (resolved (c .shape)) (wholeRow (c .row)) (c .iv) (c .challenge) (c .corrections) (c .opening)
 
 unfoldable pub sameBytes : List ℕ → List ℕ → Bool
 sameBytes [] [] = true

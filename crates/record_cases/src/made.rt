@@ -2,6 +2,7 @@
 use spec::Answer;
 use spec::Shape;
 use test_support::lengths::Lengths;
+use test_support::lengths::whole;
 use test_support::parts::front;
 use test_support::parts::front_mut;
 use vectors_calls::numbered;
@@ -21,7 +22,7 @@ fn commit_made(
 ) -> Answer {
     vectors_calls::call_commit(
         s,
-        row_bits,
+        whole(row_bits),
         l,
         root,
         iv,
@@ -83,7 +84,7 @@ pub fn make(
 ) -> Answer {
     let root = numbered(known / 10);
     let iv = numbered(known % 10);
-    let l = test_support::lengths::of(s, row_bits);
+    let l = test_support::lengths::of(s, whole(row_bits));
     let mut commitment = [0u8; 32];
     let mut u = [0u8; 8192];
     let mut corrections = [0u8; 253952];

@@ -5,6 +5,7 @@ use round_trip::Answers;
 use spec::Answer;
 use spec::Shape;
 use test_support::lengths::Lengths;
+use test_support::lengths::Rows;
 use test_support::lengths::at_most;
 use test_support::parts::front;
 use test_support::parts::front_mut;
@@ -13,7 +14,7 @@ use test_support::print::decimal;
 use test_support::print::hex;
 use test_support::print::text;
 
-fn say_shape(s: Shape, row_bits: usize) {
+fn say_shape(s: Shape, rows: Rows) {
     text(b"shape ");
     decimal(s.tau);
     text(b" ");
@@ -23,8 +24,16 @@ fn say_shape(s: Shape, row_bits: usize) {
     text(b" ");
     decimal(s.t);
     text(b", rows of ");
-    decimal(row_bits);
-    text(b" bits\n");
+    decimal(rows.bits);
+    text(b" bits");
+    if !rows.whole {
+        text(b", ");
+        decimal(rows.stretch.width);
+        text(b" bytes from byte ");
+        decimal(rows.stretch.first);
+        text(b" on");
+    }
+    text(b"\n");
 }
 
 fn say_answer(call: &[u8], a: Answer) {
@@ -120,10 +129,10 @@ fn say_nodes(s: Shape, challenge: &[u8; 16]) {
     say_plan(s, challenge, &mut nodes[0..t]);
 }
 
-// The three calls on the front of each buffer, with root and IV that count up.
+// The three calls on the front of each buffer, of whole rows or of a stretch, with root and IV that count up.
 fn call_on_fronts(
     s: Shape,
-    row_bits: usize,
+    rows: Rows,
     l: Lengths,
     challenge: &[u8],
     commitment: &mut [u8],
@@ -140,9 +149,30 @@ fn call_on_fronts(
 ) -> Answers {
     let root = words(0x0706050403020100, 0x0f0e0d0c0b0a0908);
     let iv = words(0x1716151413121110, 0x1f1e1d1c1b1a1918);
-    round_trip::round_trip(
+    if rows.whole {
+        return round_trip::round_trip(
+            s,
+            rows.bits,
+            &root,
+            &iv,
+            challenge,
+            commitment,
+            front_mut(tree, l.tree),
+            front_mut(lcs, l.leaf_commitments),
+            front_mut(u, l.u),
+            front_mut(v, l.v),
+            front_mut(corrections, l.corrections),
+            front_mut(opening, l.opening),
+            commitment2,
+            front_mut(tree2, l.tree),
+            front_mut(lcs2, l.leaf_commitments),
+            front_mut(q, l.v),
+        );
+    }
+    round_trip::round_trip_stretch(
         s,
-        row_bits,
+        rows.bits,
+        rows.stretch,
         &root,
         &iv,
         challenge,
@@ -163,7 +193,7 @@ fn call_on_fronts(
 // The buffers are lent as slices here, where the checker knows of them only how long they are.
 fn lend(
     s: Shape,
-    row_bits: usize,
+    rows: Rows,
     l: Lengths,
     challenge: &[u8; 16],
     commitment: &mut [u8; 32],
@@ -180,7 +210,7 @@ fn lend(
 ) -> Answers {
     call_on_fronts(
         s,
-        row_bits,
+        rows,
         l,
         challenge,
         commitment,
@@ -198,8 +228,8 @@ fn lend(
 }
 
 // Makes the three calls, and writes to standard output what they answered and wrote. There is room for FAEST-128s with rows of 1680 bits.
-pub fn run(s: Shape, row_bits: usize, challenge: [u8; 16]) {
-    let l = test_support::lengths::of(s, row_bits);
+pub fn run(s: Shape, rows: Rows, challenge: [u8; 16]) {
+    let l = test_support::lengths::of(s, rows);
     let mut commitment = [0u8; 32];
     let mut tree = [0u8; 720880];
     let mut lcs = [0u8; 1081344];
@@ -211,10 +241,10 @@ pub fn run(s: Shape, row_bits: usize, challenge: [u8; 16]) {
     let mut tree2 = [0u8; 720880];
     let mut lcs2 = [0u8; 1081344];
     let mut q = [0u8; 26880];
-    say_shape(s, row_bits);
+    say_shape(s, rows);
     let r = lend(
         s,
-        row_bits,
+        rows,
         l,
         &challenge,
         &mut commitment,

@@ -4,9 +4,10 @@ ghost use mathlib.Core.Bool.{true};
 ghost use Prim.Native.Nat.{_+_, _-_, _*_, _^_, _<_, _≤_};
 ghost use Rattle.spec.specs.Shapes.{resolved, shapeOk, deeper, depthOf, entriesOf, firstBit, firstEntry, leaves, leafOf};
 ghost use mathlib.Core.List.{[], _∷_};
-ghost use Rattle.spec.specs.Calls.{rowOk, fits};
+ghost use Rattle.spec.specs.Calls.{rowOk, stretchOk, fits};
 use spec::Answer;
 use spec::Shape;
+use spec::Stretch;
 
 // A number and a count, as an answer.
 pub fn answer(number: usize, count: usize) -> Answer
@@ -80,6 +81,18 @@ pub fn is_row_length(n: usize) -> bool
     ensures { λ r. ⌜ r ≡ rowOk n ⌝ }
 {
     (n % 8 == 0) & ((8 <= n) & (n <= 65536))
+}
+
+// Whether the stretch has a byte at least and lies within a row of b bytes. Nothing is added, so no numbers overflow.
+pub fn is_stretch(b: usize, z: Stretch) -> bool
+    ensures { λ r. ⌜ r ≡ stretchOk b z ⌝ }
+{
+    let f = z.first;
+    let g = z.width;
+    if b < g {
+        return false;
+    }
+    (1 <= g) & (f <= b - g)
 }
 
 // Whether two buffers have their lengths: a must be x, b must be y.

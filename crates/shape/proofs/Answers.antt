@@ -13,7 +13,7 @@ use Rattle.spec.specs.declared.Answer.{Answer}
 use Rattle.spec.specs.Shapes.{resolved, level, challengeBytes, shapeOk, hiddenIndices, grindingOk, planned, plannedCount}
 use Rattle.planning.proofs.Planned.{planned-front}
 use Rattle.laws.proofs.Lengths.{fits-sized}
-use Rattle.spec.specs.Calls.{fits, countWith, nodesOk, decodeNumber, Decode, planNumber, Plan}
+use Rattle.spec.specs.Calls.{fits, countWith, nodesOk, decodeLengths, decodeNumber, Decode, planLengths, planNumber, Plan}
 
 -- two lengths that fit
 pub fit-both : (a x b y : ℕ) → fits ((a, x) ∷ (b, y) ∷ []) ≡ true → (a ≡ x) × (b ≡ y)
@@ -26,7 +26,7 @@ module _ (s t : Shape) (e : t ≡ resolved s) (ch xs : List ℕ) (r : Answer) wh
 
   -- ---- decode
 
-  decode-refused : (n : ℕ) → decodeNumber (resolved s) ch xs ≡ n → eqb n 0 ≡ false → (r .number ≡ n) × (r .count ≡ 0) → Decode s ch xs xs r
+  decode-refused : (n : ℕ) → decodeNumber (resolved s) ch (decodeLengths (resolved s) ch xs) ≡ n → eqb n 0 ≡ false → (r .number ≡ n) × (r .count ≡ 0) → Decode s ch xs xs r
   decode-refused n d z a = record { number = a .0 ∙ sym d; count = a .1; indices = rw (a .0, z) refl }
 
   pub decode-1 : shapeOk t ≡ false → (r .number ≡ 1) × (r .count ≡ 0) → Decode s ch xs xs r
@@ -49,7 +49,7 @@ module _ (s t : Shape) (e : t ≡ resolved s) (ch xs : List ℕ) (r : Answer) wh
 
   -- ---- plan
 
-  plan-refused : (n m : ℕ) → planNumber (resolved s) ch xs ≡ n → eqb n 0 ≡ false → countWith n (plannedCount (resolved s) ch) ≡ m
+  plan-refused : (n m : ℕ) → planNumber (resolved s) ch (planLengths (resolved s) ch xs) ≡ n → eqb n 0 ≡ false → countWith n (plannedCount (resolved s) ch) ≡ m
       → (r .number ≡ n) × (r .count ≡ m) → Plan s ch xs xs r
   plan-refused n m d z k a = record { number = a .0 ∙ sym d; count = a .1 ∙ sym (rw (a .0) k); nodes = rw (a .0, z) refl }
 

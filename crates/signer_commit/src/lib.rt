@@ -1,14 +1,15 @@
-// The signing half's public call commit.
+// The signing half's public calls commit and commit_stretch.
 ghost use mathlib.Core.Path.{_≡_};
 ghost use mathlib.Core.Bool.{true};
 ghost use mathlib.Core.List.{[], _∷_};
-ghost use Prim.Native.Nat.{_*_, _≤_};
+ghost use Prim.Native.Nat.{_+_, _*_, _≤_};
 ghost use lib.ListN.{length};
 ghost use Rattle.spec.specs.Shapes.{shapeOk, treeBytes, leafCommitmentsBytes, matrixBytes, correctionsBytes};
 ghost use Rattle.spec.specs.Primitives.{faest};
-ghost use Rattle.spec.specs.Calls.{fits, Committed, committed, Commit};
+ghost use Rattle.spec.specs.Calls.{fits, Committed, committed, Commit, CommitStretch};
 use spec::Answer;
 use spec::Shape;
+use spec::Stretch;
 
 // Whether the buffers of commit have their lengths.
 fn commit_lengths(
@@ -50,7 +51,7 @@ fn commit_lengths(
 // Writes what commit writes; keys and hashes are room for the hash keys and the hashes of the vectors.
 fn write_all(
     s: Shape,
-    b: usize,
+    z: Stretch,
     root: &[u8],
     iv: &[u8],
     keys: &mut [u8],
@@ -62,23 +63,23 @@ fn write_all(
     v: &mut [u8],
     corrections: &mut [u8],
 )
-    requires { ⌜ (shapeOk s ≡ true) × (b ≤ 8192) × (length (now root) ≡ 16) × (length (now iv) ≡ 16) × (length (now keys) ≡ 48 * s .tau) × (length (now hashes) ≡ 32 * s .tau) ⌝ }
-    requires { ⌜ (length (now commitment) ≡ 32) × (length (now tree) ≡ treeBytes s) × (length (now lcs) ≡ leafCommitmentsBytes s) × (length (now u) ≡ b) × (length (now v) ≡ matrixBytes s b) × (length (now corrections) ≡ correctionsBytes s b) ⌝ }
+    requires { ⌜ (shapeOk s ≡ true) × (z .first + z .width ≤ 8192) × (length (now root) ≡ 16) × (length (now iv) ≡ 16) × (length (now keys) ≡ 48 * s .tau) × (length (now hashes) ≡ 32 * s .tau) ⌝ }
+    requires { ⌜ (length (now commitment) ≡ 32) × (length (now tree) ≡ treeBytes s) × (length (now lcs) ≡ leafCommitmentsBytes s) × (length (now u) ≡ z .width) × (length (now v) ≡ matrixBytes s (z .width)) × (length (now corrections) ≡ correctionsBytes s (z .width)) ⌝ }
     ensures { λ _. ⌜ _≡_ {A = Committed} (record { commitment = now (commitment .exit); tree = now (tree .exit); leafCommitments = now (lcs .exit); u = now (u .exit); v = now (v .exit); corrections = now (corrections .exit) })
-        (committed faest s b (now (root .entry)) (now (iv .entry))) ⌝ }
+        (committed faest s z (now (root .entry)) (now (iv .entry))) ⌝ }
 {
     let t = aes::table();
     let x = generator::load_iv(iv);
     shake::h0(iv, keys);
     signer_tree::grow(&t, root, x, rules::leaf_count(s), tree);
-    signer_vectors::write_vectors(&t, s, b, x, keys, tree, lcs, u, v, corrections, hashes);
+    signer_vectors::write_vectors(&t, s, z, x, keys, tree, lcs, u, v, corrections, hashes);
     shake::h1(hashes, commitment);
 }
 
 // Writes what commit writes, once every test has been passed.
 fn write_commitment(
     s: Shape,
-    b: usize,
+    z: Stretch,
     root: &[u8],
     iv: &[u8],
     commitment: &mut [u8],
@@ -88,17 +89,17 @@ fn write_commitment(
     v: &mut [u8],
     corrections: &mut [u8],
 )
-    requires { ⌜ (shapeOk s ≡ true) × (b ≤ 8192) × (length (now root) ≡ 16) × (length (now iv) ≡ 16) ⌝ }
-    requires { ⌜ (length (now commitment) ≡ 32) × (length (now tree) ≡ treeBytes s) × (length (now lcs) ≡ leafCommitmentsBytes s) × (length (now u) ≡ b) × (length (now v) ≡ matrixBytes s b) × (length (now corrections) ≡ correctionsBytes s b) ⌝ }
+    requires { ⌜ (shapeOk s ≡ true) × (z .first + z .width ≤ 8192) × (length (now root) ≡ 16) × (length (now iv) ≡ 16) ⌝ }
+    requires { ⌜ (length (now commitment) ≡ 32) × (length (now tree) ≡ treeBytes s) × (length (now lcs) ≡ leafCommitmentsBytes s) × (length (now u) ≡ z .width) × (length (now v) ≡ matrixBytes s (z .width)) × (length (now corrections) ≡ correctionsBytes s (z .width)) ⌝ }
     ensures { λ _. ⌜ _≡_ {A = Committed} (record { commitment = now (commitment .exit); tree = now (tree .exit); leafCommitments = now (lcs .exit); u = now (u .exit); v = now (v .exit); corrections = now (corrections .exit) })
-        (committed faest s b (now (root .entry)) (now (iv .entry))) ⌝ }
+        (committed faest s z (now (root .entry)) (now (iv .entry))) ⌝ }
 {
     let tau = s.tau;
     let mut keys = [0u8; 1536];
     let mut hashes = [0u8; 1024];
     write_all(
         s,
-        b,
+        z,
         root,
         iv,
         &mut keys[0..48 * tau],
@@ -112,7 +113,67 @@ fn write_commitment(
     );
 }
 
-// COMMIT: the commitment to the tree of a root, with rows of row_bits bits. What the buffers held before does not matter.
+// COMMIT, of a stretch: the commitment to the tree of a root, with rows of row_bits bits of which u, V and the corrections have the stretch alone. What the buffers
+// held before does not matter.
+pub fn commit_stretch(
+    shape: Shape,
+    row_bits: usize,
+    stretch: Stretch,
+    root: &[u8],
+    iv: &[u8],
+    commitment: &mut [u8],
+    tree: &mut [u8],
+    leaf_commitments: &mut [u8],
+    u: &mut [u8],
+    v: &mut [u8],
+    corrections: &mut [u8],
+) -> Answer
+    ensures { λ r. ⌜ CommitStretch faest shape «row_bits» stretch (now (root .entry)) (now (iv .entry))
+        (record { commitment = now (commitment .entry); tree = now (tree .entry); leafCommitments = now («leaf_commitments» .entry); u = now (u .entry); v = now (v .entry); corrections = now (corrections .entry) })
+        (record { commitment = now (commitment .exit); tree = now (tree .exit); leafCommitments = now («leaf_commitments» .exit); u = now (u .exit); v = now (v .exit); corrections = now (corrections .exit) })
+        r ⌝ }
+{
+    let s = rules::resolve(shape);
+    if !rules::is_shape(s) {
+        return rules::answer(1, 0);
+    }
+    if !rules::is_row_length(row_bits) {
+        return rules::answer(2, 0);
+    }
+    if !rules::is_stretch(row_bits / 8, stretch) {
+        return rules::answer(8, 0);
+    }
+    let b = stretch.width;
+    if !commit_lengths(
+        s,
+        b,
+        root.len(),
+        iv.len(),
+        commitment.len(),
+        tree.len(),
+        leaf_commitments.len(),
+        u.len(),
+        v.len(),
+        corrections.len(),
+    ) {
+        return rules::answer(3, 0);
+    }
+    write_commitment(
+        s,
+        stretch,
+        root,
+        iv,
+        commitment,
+        tree,
+        leaf_commitments,
+        u,
+        v,
+        corrections,
+    );
+    rules::answer(0, 0)
+}
+
+// COMMIT: the same of the whole row.
 pub fn commit(
     shape: Shape,
     row_bits: usize,
@@ -130,31 +191,14 @@ pub fn commit(
         (record { commitment = now (commitment .exit); tree = now (tree .exit); leafCommitments = now («leaf_commitments» .exit); u = now (u .exit); v = now (v .exit); corrections = now (corrections .exit) })
         r ⌝ }
 {
-    let s = rules::resolve(shape);
-    if !rules::is_shape(s) {
-        return rules::answer(1, 0);
-    }
-    if !rules::is_row_length(row_bits) {
-        return rules::answer(2, 0);
-    }
-    let b = row_bits / 8;
-    if !commit_lengths(
-        s,
-        b,
-        root.len(),
-        iv.len(),
-        commitment.len(),
-        tree.len(),
-        leaf_commitments.len(),
-        u.len(),
-        v.len(),
-        corrections.len(),
-    ) {
-        return rules::answer(3, 0);
-    }
-    write_commitment(
-        s,
-        b,
+    let whole = Stretch {
+        first: 0,
+        width: row_bits / 8,
+    };
+    commit_stretch(
+        shape,
+        row_bits,
+        whole,
         root,
         iv,
         commitment,
@@ -163,6 +207,5 @@ pub fn commit(
         u,
         v,
         corrections,
-    );
-    rules::answer(0, 0)
+    )
 }

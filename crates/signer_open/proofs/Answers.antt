@@ -12,7 +12,7 @@ use Rattle.spec.specs.declared.Answer.{Answer}
 use Rattle.spec.specs.Shapes.{resolved, level, challengeBytes, shapeOk, grindingOk, plannedCount, treeBytes, leafCommitmentsBytes, openingBytes}
 use Rattle.spec.specs.Signer.{openingOf}
 use Rattle.laws.proofs.Lengths.{fits-sized}
-use Rattle.spec.specs.Calls.{fits, countWith, nodesOk, openNumber, Open}
+use Rattle.spec.specs.Calls.{fits, countWith, nodesOk, planNumber, openLengths, Open}
 
 -- the lengths that open compares
 abbrev pub Fit : Shape → List ℕ → List ℕ → List ℕ → List ℕ → Bool
@@ -25,32 +25,32 @@ fit-open t ch tree lcs xs h =
     (q .0, q .1 .0, q .1 .1 .0, q .1 .1 .1 .0)
 
 module _ (s t : Shape) (e : t ≡ resolved s) (ch tree lcs xs : List ℕ) (r : Answer) where
-  open-refused : (n m : ℕ) → openNumber (resolved s) ch tree lcs xs ≡ n → eqb n 0 ≡ false → countWith n (plannedCount (resolved s) ch) ≡ m
+  open-refused : (n m : ℕ) → planNumber (resolved s) ch (openLengths (resolved s) ch tree lcs xs) ≡ n → eqb n 0 ≡ false → countWith n (plannedCount (resolved s) ch) ≡ m
       → (r .number ≡ n) × (r .count ≡ m) → Open s ch tree lcs xs xs r
   open-refused n m d z k a = record { number = a .0 ∙ sym d; count = a .1 ∙ sym (rw (a .0) k); opening = rw (a .0, z) refl }
 
   pub open-1 : shapeOk t ≡ false → (r .number ≡ 1) × (r .count ≡ 0) → Open s ch tree lcs xs xs r
-  unfolding openNumber countWith
+  unfolding planNumber countWith
   open-1 a = open-refused 1 0 (rw (rw e at a) refl) refl refl
 
   pub open-3 : shapeOk t ≡ true → Fit t ch tree lcs xs ≡ false → (r .number ≡ 3) × (r .count ≡ 0) → Open s ch tree lcs xs xs r
-  unfolding openNumber countWith challengeBytes level
+  unfolding planNumber countWith challengeBytes level
   open-3 a b = open-refused 3 0 (rw (rw e at a, rw e at b) refl) refl refl
 
   pub open-4 : shapeOk t ≡ true → Fit t ch tree lcs xs ≡ true → grindingOk t ch ≡ false → (r .number ≡ 4) × (r .count ≡ 0) → Open s ch tree lcs xs xs r
-  unfolding openNumber countWith challengeBytes level
+  unfolding planNumber countWith challengeBytes level
   open-4 a b d = open-refused 4 0 (rw (rw e at a, rw e at b, rw e at d) refl) refl refl
 
   pub open-5 : (n : ℕ) → shapeOk t ≡ true → Fit t ch tree lcs xs ≡ true → grindingOk t ch ≡ true → n ≡ plannedCount t ch → t .t < n
       → (r .number ≡ 5) × (r .count ≡ n) → Open s ch tree lcs xs xs r
-  unfolding openNumber countWith nodesOk challengeBytes level
+  unfolding planNumber countWith nodesOk challengeBytes level
   open-5 n a b d c h =
       let over : t .t < plannedCount t ch = rw c at h in
       open-refused 5 n (rw (rw e at a, rw e at b, rw e at d, rw e at (lt-leb (plannedCount t ch) (t .t) over)) refl) refl (sym (rw e at c))
 
   pub open-0 : (n : ℕ) (ys : List ℕ) → shapeOk t ≡ true → Fit t ch tree lcs xs ≡ true → grindingOk t ch ≡ true → n ≡ plannedCount t ch → n ≤ t .t
       → ys ≡ openingOf t ch tree lcs → (r .number ≡ 0) × (r .count ≡ n) → Open s ch tree lcs xs ys r
-  unfolding openNumber countWith nodesOk challengeBytes level
+  unfolding planNumber countWith nodesOk challengeBytes level
   open-0 n ys a b d c h w q =
       let within : plannedCount t ch ≤ t .t = rw c at h in
       record {

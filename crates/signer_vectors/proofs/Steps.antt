@@ -10,13 +10,14 @@ use lib.Pow.{pow-pos}
 use lib.ListN.{length, getD, take, drop, drop-of-length-le}
 use lib.Seq.{take-length, take-at}
 use Rattle.spec.specs.declared.Shape.{Shape}
+use Rattle.spec.specs.declared.Stretch.{Stretch}
 use Rattle.spec.specs.Bytes.{bit, tabulate, concat, zeros}
 use Rattle.spec.specs.Sponge.{sponge, shake}
 use Rattle.spec.specs.Hashes.{hash1}
 use Rattle.spec.specs.Shapes.{level, nodeBytes, leafCommitmentBytes, hashBytes, rate, depthOf, entriesOf, firstBit, firstEntry}
 use Rattle.spec.specs.Primitives.{faest}
 use Rattle.spec.specs.Leaves.{leafKey, leafCommitment, vectorCommitments, vectorHash}
-use Rattle.spec.specs.Rows.{rowByte, uByte, columnByte}
+use Rattle.spec.specs.Rows.{stretchByte, uByte, columnByte}
 use Rattle.spec.specs.Signer.{signerLeafCommitment, signerU, signerColumn, correction}
 use Rattle.laws.proofs.Lists.{length-tabulate, getD-tabulate, tabulate-same, is-tabulate}
 use Rattle.laws.proofs.Sums.{xor-same}
@@ -36,40 +37,46 @@ sum-of b f old new e r =
     (λ p l. let z : b * 0 + p ≡ p = (let m = mul-zero b in omega arith) in
     ap (λ (q : ℕ). getD new q 0) (sym z) ∙ r .known 0 p (omega arith) l ∙ ap (λ (q : ℕ). bitXor (getD old q 0) (f p)) z)
 
-module _ (s : Shape) (b : ℕ) (iv tree : List ℕ) where
+module _ (s : Shape) (z : Stretch) (iv tree : List ℕ) where
+  abbrev row : ℕ → ℕ → ℕ → ℕ
+  row = stretchByte faest s z iv tree
+
+  abbrev b : ℕ
+  b = z .width
+
   pub converted : (i : ℕ) (total total′ old lcs cols before hash : List ℕ) → length total ≡ b → length old ≡ 48 * entriesOf s i → length before ≡ 32
-      → Written (λ e. leafCommitment faest s iv i (leafKey s tree i e)) 0 0 (entriesOf s i) old lcs → Added b 1 (λ j p. uByte faest s iv tree i p) total total′
-      → cols ≡ concat (depthOf s i) (λ j. tabulate b (columnByte faest s iv tree (λ e. bitXor e 0) i j)) → hash ≡ hash1 168 lcs (length before)
-      → Converted s b iv tree i total total′ lcs cols hash
+      → Written (λ e. leafCommitment faest s iv i (leafKey s tree i e)) 0 0 (entriesOf s i) old lcs → Added b 1 (λ j p. uByte s row i p) total total′
+      → cols ≡ concat (depthOf s i) (λ j. tabulate b (columnByte s row (λ e. bitXor e 0) i j)) → hash ≡ hash1 168 lcs (length before)
+      → Converted s z iv tree i total total′ lcs cols hash
   unfolding level nodeBytes hashBytes rate faest entriesOf vectorCommitments vectorHash columnByte signerLeafCommitment signerColumn
   converted i total total′ old lcs cols before hash et el eh l t c h =
       let own : ℕ → List ℕ = λ e. leafCommitment faest s iv i (leafKey s tree i e) in
       let leaves = written-all own 0 (depthOf s i) 0 own old lcs (pow-pos (depthOf s i)) el (λ x k. refl) (λ x k. absurd (omega arith)) l in
       record {
         leaves = leaves;
-        sum = sum-of b (uByte faest s iv tree i) total total′ et t;
+        sum = sum-of b (uByte s row i) total total′ et t;
         columns =
-            c ∙ concat-same (λ j. tabulate b (columnByte faest s iv tree (λ e. bitXor e 0) i j)) (λ j. tabulate b (columnByte faest s iv tree (λ e. e) i j)) (depthOf s i)
-            (λ j hj. tabulate-same b (columnByte faest s iv tree (λ e. bitXor e 0) i j) (columnByte faest s iv tree (λ e. e) i j)
-            (λ p hp. xor-same (2 ^ depthOf s i) (λ e. bit j (bitXor e 0) * rowByte faest s iv tree i e p) (λ e. bit j e * rowByte faest s iv tree i e p)
-            (λ e k. ap (λ (x : ℕ). bit j x * rowByte faest s iv tree i e p) (xor-zero-r e))));
+            c ∙ concat-same (λ j. tabulate b (columnByte s row (λ e. bitXor e 0) i j)) (λ j. tabulate b (columnByte s row (λ e. e) i j)) (depthOf s i)
+            (λ j hj. tabulate-same b (columnByte s row (λ e. bitXor e 0) i j) (columnByte s row (λ e. e) i j)
+            (λ p hp. xor-same (2 ^ depthOf s i) (λ e. bit j (bitXor e 0) * row i e p) (λ e. bit j e * row i e p)
+            (λ e k. ap (λ (x : ℕ). bit j x * row i e p) (xor-zero-r e))));
         digest = h ∙ ap₂ (λ (x : List ℕ) (y : ℕ). hash1 168 x y) leaves eh;
       }
 
   -- the u of vector 0, from a total that was zeros
-  pub u-of : (u lcs cols hash : List ℕ) → Converted s b iv tree 0 (zeros b) u lcs cols hash → u ≡ signerU faest s b iv tree
+  pub u-of : (u lcs cols hash : List ℕ) → Converted s z iv tree 0 (zeros b) u lcs cols hash → u ≡ signerU s b row
   unfolding signerU
   u-of u lcs cols hash r =
-      r .sum ∙ tabulate-same b (λ p. bitXor (getD (zeros b) p 0) (uByte faest s iv tree 0 p)) (uByte faest s iv tree 0)
-      (λ p h. ap (λ (x : ℕ). bitXor x (uByte faest s iv tree 0 p)) (getD-zeros b p) ∙ xor-zero-l (uByte faest s iv tree 0 p))
+      r .sum ∙ tabulate-same b (λ p. bitXor (getD (zeros b) p 0) (uByte s row 0 p)) (uByte s row 0)
+      (λ p h. ap (λ (x : ℕ). bitXor x (uByte s row 0 p)) (getD-zeros b p) ∙ xor-zero-l (uByte s row 0 p))
 
   -- a correction, from a total that was u
-  correction-of : (i : ℕ) (u sum : List ℕ) → u ≡ signerU faest s b iv tree → sum ≡ tabulate b (λ p. bitXor (getD u p 0) (uByte faest s iv tree i p))
-      → sum ≡ correction faest s b iv tree i
+  correction-of : (i : ℕ) (u sum : List ℕ) → u ≡ signerU s b row → sum ≡ tabulate b (λ p. bitXor (getD u p 0) (uByte s row i p))
+      → sum ≡ correction s b row i
   unfolding signerU correction
   correction-of i u sum eu e =
-      e ∙ tabulate-same b (λ p. bitXor (getD u p 0) (uByte faest s iv tree i p)) (λ p. bitXor (uByte faest s iv tree 0 p) (uByte faest s iv tree i p))
-      (λ p h. ap (λ (x : ℕ). bitXor x (uByte faest s iv tree i p)) (ap (λ (l : List ℕ). getD l p 0) eu ∙ getD-tabulate b (uByte faest s iv tree 0) p 0 h))
+      e ∙ tabulate-same b (λ p. bitXor (getD u p 0) (uByte s row i p)) (λ p. bitXor (uByte s row 0 p) (uByte s row i p))
+      (λ p h. ap (λ (x : ℕ). bitXor x (uByte s row i p)) (ap (λ (l : List ℕ). getD l p 0) eu ∙ getD-tabulate b (uByte s row 0) p 0 h))
 
   -- ---- lengths
 
@@ -77,9 +84,9 @@ module _ (s : Shape) (b : ℕ) (iv tree : List ℕ) where
   unfolding level nodeBytes leafCommitmentBytes leafCommitment vectorCommitments signerLeafCommitment
   leaves-length i = even-length (signerLeafCommitment faest s iv tree i) 48 (entriesOf s i) (λ j h. rw length-tabulate)
 
-  columns-length : (i : ℕ) → length (concat (depthOf s i) (signerColumn faest s b iv tree i)) ≡ b * depthOf s i
+  columns-length : (i : ℕ) → length (concat (depthOf s i) (signerColumn s b row i)) ≡ b * depthOf s i
   unfolding signerColumn
-  columns-length i = even-length (signerColumn faest s b iv tree i) b (depthOf s i) (λ j h. rw length-tabulate)
+  columns-length i = even-length (signerColumn s b row i) b (depthOf s i) (λ j h. rw length-tabulate)
 
   digest-length : (i : ℕ) → length (vectorHash faest s (signerLeafCommitment faest s iv tree) i) ≡ 32
   unfolding level nodeBytes hashBytes faest hash1 shake sponge vectorHash
@@ -96,17 +103,17 @@ module _ (s : Shape) (b : ℕ) (iv tree : List ℕ) where
   Leaves = vectorCommitments s (signerLeafCommitment faest s iv tree)
 
   abbrev Columns : ℕ → List ℕ
-  Columns i = concat (depthOf s i) (signerColumn faest s b iv tree i)
+  Columns i = concat (depthOf s i) (signerColumn s b row i)
 
   abbrev Digest : ℕ → List ℕ
   Digest = vectorHash faest s (signerLeafCommitment faest s iv tree)
 
   abbrev Correction : ℕ → List ℕ
-  Correction i = correction faest s b iv tree (i + 1)
+  Correction i = correction s b row (i + 1)
 
   -- the parts lent, as the fronts of their buffers
-  pub fronts : (i : ℕ) (total sum d e f ls cols hash zl zv zh : List ℕ) → Converted s b iv tree i total sum ls cols hash
-      → Converted s b iv tree i total sum (take (48 * entriesOf s i) (take 0 d ++ (ls ++ zl))) (take (b * depthOf s i) (take 0 e ++ (cols ++ zv))) (take 32 (take 0 f ++ (hash ++ zh)))
+  pub fronts : (i : ℕ) (total sum d e f ls cols hash zl zv zh : List ℕ) → Converted s z iv tree i total sum ls cols hash
+      → Converted s z iv tree i total sum (take (48 * entriesOf s i) (take 0 d ++ (ls ++ zl))) (take (b * depthOf s i) (take 0 e ++ (cols ++ zv))) (take 32 (take 0 f ++ (hash ++ zh)))
   fronts i total sum d e f ls cols hash zl zv zh r =
       record {
         leaves = take-at ls zl (48 * entriesOf s i) (ap length (r .leaves) ∙ leaves-length i) ∙ r .leaves;
@@ -115,7 +122,7 @@ module _ (s : Shape) (b : ℕ) (iv tree : List ℕ) where
         digest = take-at hash zh 32 (ap length (r .digest) ∙ digest-length i) ∙ r .digest;
       }
 
-  pub up-start : (total sum lcs cs v hs : List ℕ) → Converted s b iv tree 0 total sum (take (48 * entriesOf s 0) lcs) (take (b * depthOf s 0) v) (take 32 hs) → UpTo s b iv tree 0 lcs cs v hs
+  pub up-start : (total sum lcs cs v hs : List ℕ) → Converted s z iv tree 0 total sum (take (48 * entriesOf s 0) lcs) (take (b * depthOf s 0) v) (take 32 hs) → UpTo s z iv tree 0 lcs cs v hs
   unfolding concat
   up-start total sum lcs cs v hs r =
       record {
@@ -125,13 +132,13 @@ module _ (s : Shape) (b : ℕ) (iv tree : List ℕ) where
         digests = start Digest 32 0 (32 * (0 + 1)) hs refl refl (r .digest);
       }
 
-  pub up-more : (j l c : ℕ) (u sum lcs cs v hs ls cols hash zl zc zv zh : List ℕ) → l ≡ 48 * firstEntry s (j + 1) → c ≡ b * firstBit s (j + 1) → u ≡ signerU faest s b iv tree
+  pub up-more : (j l c : ℕ) (u sum lcs cs v hs ls cols hash zl zc zv zh : List ℕ) → l ≡ 48 * firstEntry s (j + 1) → c ≡ b * firstBit s (j + 1) → u ≡ signerU s b row
       → 48 * firstEntry s (j + 1 + 1) ≤ length lcs → b * j + b ≤ length cs → b * firstBit s (j + 1 + 1) ≤ length v → 32 * (j + 1) + 32 ≤ length hs
-      → Converted s b iv tree (j + 1) u sum ls cols hash → UpTo s b iv tree j lcs cs v hs
-      → UpTo s b iv tree (j + 1) (take l lcs ++ (ls ++ zl)) (take (b * j) cs ++ (sum ++ zc)) (take c v ++ (cols ++ zv)) (take (32 * (j + 1)) hs ++ (hash ++ zh))
+      → Converted s z iv tree (j + 1) u sum ls cols hash → UpTo s z iv tree j lcs cs v hs
+      → UpTo s z iv tree (j + 1) (take l lcs ++ (ls ++ zl)) (take (b * j) cs ++ (sum ++ zc)) (take c v ++ (cols ++ zv)) (take (32 * (j + 1)) hs ++ (hash ++ zh))
   up-more j l c u sum lcs cs v hs ls cols hash zl zc zv zh el ec eu hl hc hv hh x r =
       let same = correction-of (j + 1) u sum eu (x .sum) in
-      let long = ap length (x .sum) ∙ length-tabulate b (λ p. bitXor (getD u p 0) (uByte faest s iv tree (j + 1) p)) in
+      let long = ap length (x .sum) ∙ length-tabulate b (λ p. bitXor (getD u p 0) (uByte s row (j + 1) p)) in
       record {
         leaves = put-behind Leaves l (48 * firstEntry s (j + 1)) (48 * entriesOf s (j + 1)) (48 * firstEntry s (j + 1 + 1)) (j + 1) lcs ls zl el (commitments-next s (j + 1)) hl (ap length (x .leaves) ∙ leaves-length (j + 1)) (x .leaves) (r .leaves);
         sums = put-block Correction b j cs sum zc hc long same (r .sums);

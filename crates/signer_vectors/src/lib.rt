@@ -8,18 +8,19 @@ ghost use Rattle.spec.specs.Gf256.{SboxTable};
 ghost use Rattle.spec.specs.Shapes.{shapeOk, depthOf, entriesOf, treeBytes, leafCommitmentsBytes, matrixBytes, correctionsBytes};
 ghost use Rattle.spec.specs.Primitives.{faest};
 ghost use Rattle.spec.specs.Leaves.{leafCommitments, vectorHash};
-ghost use Rattle.spec.specs.Rows.{matrixOf};
+ghost use Rattle.spec.specs.Rows.{stretchByte, matrixOf};
 ghost use Rattle.spec.specs.Signer.{signerLeafCommitment, signerU, signerColumn};
 ghost use Rattle.spec.specs.Signer as signer;
 ghost use Rattle.signer_vectors.specs.Vectors.{Converted, UpTo};
 use spec::Shape;
+use spec::Stretch;
 
 // Vector i: writes its leaf commitments, its columns and its hash, and adds the xor of its rows to `total`.
 fn convert(
     t: &[u8; 256],
     s: Shape,
     i: usize,
-    b: usize,
+    z: Stretch,
     iv: [u8; 16],
     keys: &[u8],
     tree: &[u8],
@@ -29,12 +30,12 @@ fn convert(
     hash: &mut [u8],
 )
     requires { ⌜ SboxTable (now t) ⌝ }
-    requires { ⌜ (shapeOk s ≡ true) × (i < s .tau) × (b ≤ 8192) × (now keys ≡ faest .h0 s iv (48 * s .tau)) × (length (now tree) ≡ treeBytes s) ⌝ }
-    requires { ⌜ (length (now lcs) ≡ 48 * entriesOf s i) × (length (now total) ≡ b) × (length (now cols) ≡ b * depthOf s i) × (length (now hash) ≡ 32) ⌝ }
-    ensures { λ _. ⌜ Converted s b iv (now (tree .entry)) i (now (total .entry)) (now (total .exit)) (now (lcs .exit)) (now (cols .exit)) (now (hash .exit)) ⌝ }
+    requires { ⌜ (shapeOk s ≡ true) × (i < s .tau) × (z .first + z .width ≤ 8192) × (now keys ≡ faest .h0 s iv (48 * s .tau)) × (length (now tree) ≡ treeBytes s) ⌝ }
+    requires { ⌜ (length (now lcs) ≡ 48 * entriesOf s i) × (length (now total) ≡ z .width) × (length (now cols) ≡ z .width * depthOf s i) × (length (now hash) ≡ 32) ⌝ }
+    ensures { λ _. ⌜ Converted s z iv (now (tree .entry)) i (now (total .entry)) (now (total .exit)) (now (lcs .exit)) (now (cols .exit)) (now (hash .exit)) ⌝ }
 {
     let m = field::multiples(&keys[48 * i..48 * i + 48]);
-    vector::add_entries(t, &m, s, i, 0, 0, b, iv, tree, lcs, total, cols);
+    vector::add_entries(t, &m, s, i, 0, 0, z, iv, tree, lcs, total, cols);
     shake::h1(lcs, hash);
 }
 
@@ -43,7 +44,7 @@ fn vector_of_u(
     t: &[u8; 256],
     s: Shape,
     i: usize,
-    b: usize,
+    z: Stretch,
     iv: [u8; 16],
     keys: &[u8],
     tree: &[u8],
@@ -53,10 +54,11 @@ fn vector_of_u(
     hashes: &mut [u8],
 )
     requires { ⌜ SboxTable (now t) ⌝ }
-    requires { ⌜ (shapeOk s ≡ true) × (i < s .tau) × (b ≤ 8192) × (now keys ≡ faest .h0 s iv (48 * s .tau)) × (length (now tree) ≡ treeBytes s) ⌝ }
-    requires { ⌜ (48 * entriesOf s i ≤ length (now lcs)) × (length (now u) ≡ b) × (b * depthOf s i ≤ length (now v)) × (32 ≤ length (now hashes)) ⌝ }
-    ensures { λ _. ⌜ Converted s b iv (now (tree .entry)) i (zeros b) (now (u .exit)) (take (48 * entriesOf s i) (now (lcs .exit))) (take (b * depthOf s i) (now (v .exit))) (take 32 (now (hashes .exit))) ⌝ }
+    requires { ⌜ (shapeOk s ≡ true) × (i < s .tau) × (z .first + z .width ≤ 8192) × (now keys ≡ faest .h0 s iv (48 * s .tau)) × (length (now tree) ≡ treeBytes s) ⌝ }
+    requires { ⌜ (48 * entriesOf s i ≤ length (now lcs)) × (length (now u) ≡ z .width) × (z .width * depthOf s i ≤ length (now v)) × (32 ≤ length (now hashes)) ⌝ }
+    ensures { λ _. ⌜ Converted s z iv (now (tree .entry)) i (zeros (z .width)) (now (u .exit)) (take (48 * entriesOf s i) (now (lcs .exit))) (take (z .width * depthOf s i) (now (v .exit))) (take 32 (now (hashes .exit))) ⌝ }
 {
+    let b = z.width;
     let w = 48 * rules::entry_count(s, i);
     let c = b * rules::depth_of(s, i);
     buffers::clear_from(u, 0);
@@ -64,7 +66,7 @@ fn vector_of_u(
         t,
         s,
         i,
-        b,
+        z,
         iv,
         keys,
         tree,
@@ -80,7 +82,7 @@ fn correct(
     t: &[u8; 256],
     s: Shape,
     i: usize,
-    b: usize,
+    z: Stretch,
     iv: [u8; 16],
     keys: &[u8],
     tree: &[u8],
@@ -91,12 +93,12 @@ fn correct(
     hash: &mut [u8],
 )
     requires { ⌜ SboxTable (now t) ⌝ }
-    requires { ⌜ (shapeOk s ≡ true) × (i < s .tau) × (b ≤ 8192) × (now keys ≡ faest .h0 s iv (48 * s .tau)) × (length (now tree) ≡ treeBytes s) ⌝ }
-    requires { ⌜ (length (now u) ≡ b) × (length (now lcs) ≡ 48 * entriesOf s i) × (length (now correction) ≡ b) × (length (now cols) ≡ b * depthOf s i) × (length (now hash) ≡ 32) ⌝ }
-    ensures { λ _. ⌜ Converted s b iv (now (tree .entry)) i (now (u .entry)) (now (correction .exit)) (now (lcs .exit)) (now (cols .exit)) (now (hash .exit)) ⌝ }
+    requires { ⌜ (shapeOk s ≡ true) × (i < s .tau) × (z .first + z .width ≤ 8192) × (now keys ≡ faest .h0 s iv (48 * s .tau)) × (length (now tree) ≡ treeBytes s) ⌝ }
+    requires { ⌜ (length (now u) ≡ z .width) × (length (now lcs) ≡ 48 * entriesOf s i) × (length (now correction) ≡ z .width) × (length (now cols) ≡ z .width * depthOf s i) × (length (now hash) ≡ 32) ⌝ }
+    ensures { λ _. ⌜ Converted s z iv (now (tree .entry)) i (now (u .entry)) (now (correction .exit)) (now (lcs .exit)) (now (cols .exit)) (now (hash .exit)) ⌝ }
 {
     bytes::copy(u, correction);
-    convert(t, s, i, b, iv, keys, tree, lcs, correction, cols, hash);
+    convert(t, s, i, z, iv, keys, tree, lcs, correction, cols, hash);
 }
 
 // Vector j + 1, in its parts of the buffers.
@@ -104,7 +106,7 @@ fn other_vector(
     t: &[u8; 256],
     s: Shape,
     j: usize,
-    b: usize,
+    z: Stretch,
     iv: [u8; 16],
     keys: &[u8],
     tree: &[u8],
@@ -115,11 +117,12 @@ fn other_vector(
     hashes: &mut [u8],
 )
     requires { ⌜ SboxTable (now t) ⌝ }
-    requires { ⌜ (shapeOk s ≡ true) × (j + 1 < s .tau) × (b ≤ 8192) × (now keys ≡ faest .h0 s iv (48 * s .tau)) × (length (now tree) ≡ treeBytes s) × (now u ≡ signerU faest s b iv (now tree)) ⌝ }
-    requires { ⌜ (length (now lcs) ≡ leafCommitmentsBytes s) × (length (now corrections) ≡ correctionsBytes s b) × (length (now v) ≡ matrixBytes s b) × (length (now hashes) ≡ 32 * s .tau) ⌝ }
-    ensures { λ _. ⌜ (UpTo s b iv (now (tree .entry)) j (now (lcs .entry)) (now (corrections .entry)) (now (v .entry)) (now (hashes .entry))
-        → UpTo s b iv (now (tree .entry)) (j + 1) (now (lcs .exit)) (now (corrections .exit)) (now (v .exit)) (now (hashes .exit))) ⌝ }
+    requires { ⌜ (shapeOk s ≡ true) × (j + 1 < s .tau) × (z .first + z .width ≤ 8192) × (now keys ≡ faest .h0 s iv (48 * s .tau)) × (length (now tree) ≡ treeBytes s) × (now u ≡ signerU s (z .width) (stretchByte faest s z iv (now tree))) ⌝ }
+    requires { ⌜ (length (now lcs) ≡ leafCommitmentsBytes s) × (length (now corrections) ≡ correctionsBytes s (z .width)) × (length (now v) ≡ matrixBytes s (z .width)) × (length (now hashes) ≡ 32 * s .tau) ⌝ }
+    ensures { λ _. ⌜ (UpTo s z iv (now (tree .entry)) j (now (lcs .entry)) (now (corrections .entry)) (now (v .entry)) (now (hashes .entry))
+        → UpTo s z iv (now (tree .entry)) (j + 1) (now (lcs .exit)) (now (corrections .exit)) (now (v .exit)) (now (hashes .exit))) ⌝ }
 {
+    let b = z.width;
     let next = j + 1;
     let lcs_from = vector::commitments_from(s, next);
     let lcs_to = vector::commitments_from(s, next + 1);
@@ -129,7 +132,7 @@ fn other_vector(
         t,
         s,
         next,
-        b,
+        z,
         iv,
         keys,
         tree,
@@ -146,7 +149,7 @@ fn other_vectors(
     t: &[u8; 256],
     s: Shape,
     last: usize,
-    b: usize,
+    z: Stretch,
     iv: [u8; 16],
     keys: &[u8],
     tree: &[u8],
@@ -157,13 +160,13 @@ fn other_vectors(
     hashes: &mut [u8],
 )
     requires { ⌜ SboxTable (now t) ⌝ }
-    requires { ⌜ (shapeOk s ≡ true) × (last < s .tau) × (b ≤ 8192) × (now keys ≡ faest .h0 s iv (48 * s .tau)) × (length (now tree) ≡ treeBytes s) × (now u ≡ signerU faest s b iv (now tree)) ⌝ }
-    requires { ⌜ (length (now lcs) ≡ leafCommitmentsBytes s) × (length (now corrections) ≡ correctionsBytes s b) × (length (now v) ≡ matrixBytes s b) × (length (now hashes) ≡ 32 * s .tau) ⌝ }
-    ensures { λ _. ⌜ (UpTo s b iv (now (tree .entry)) 0 (now (lcs .entry)) (now (corrections .entry)) (now (v .entry)) (now (hashes .entry))
-        → UpTo s b iv (now (tree .entry)) last (now (lcs .exit)) (now (corrections .exit)) (now (v .exit)) (now (hashes .exit))) ⌝ }
+    requires { ⌜ (shapeOk s ≡ true) × (last < s .tau) × (z .first + z .width ≤ 8192) × (now keys ≡ faest .h0 s iv (48 * s .tau)) × (length (now tree) ≡ treeBytes s) × (now u ≡ signerU s (z .width) (stretchByte faest s z iv (now tree))) ⌝ }
+    requires { ⌜ (length (now lcs) ≡ leafCommitmentsBytes s) × (length (now corrections) ≡ correctionsBytes s (z .width)) × (length (now v) ≡ matrixBytes s (z .width)) × (length (now hashes) ≡ 32 * s .tau) ⌝ }
+    ensures { λ _. ⌜ (UpTo s z iv (now (tree .entry)) 0 (now (lcs .entry)) (now (corrections .entry)) (now (v .entry)) (now (hashes .entry))
+        → UpTo s z iv (now (tree .entry)) last (now (lcs .exit)) (now (corrections .exit)) (now (v .exit)) (now (hashes .exit))) ⌝ }
 {
     for j in 0..last {
-        other_vector(t, s, j, b, iv, keys, tree, u, lcs, corrections, v, hashes);
+        other_vector(t, s, j, z, iv, keys, tree, u, lcs, corrections, v, hashes);
     }
 }
 
@@ -171,7 +174,7 @@ fn other_vectors(
 pub fn write_vectors(
     t: &[u8; 256],
     s: Shape,
-    b: usize,
+    z: Stretch,
     iv: [u8; 16],
     keys: &[u8],
     tree: &[u8],
@@ -182,22 +185,22 @@ pub fn write_vectors(
     hashes: &mut [u8],
 )
     requires { ⌜ SboxTable (now t) ⌝ }
-    requires { ⌜ (shapeOk s ≡ true) × (b ≤ 8192) × (now keys ≡ faest .h0 s iv (48 * s .tau)) × (length (now tree) ≡ treeBytes s) ⌝ }
-    requires { ⌜ (length (now lcs) ≡ leafCommitmentsBytes s) × (length (now u) ≡ b) × (length (now v) ≡ matrixBytes s b) × (length (now corrections) ≡ correctionsBytes s b) × (length (now hashes) ≡ 32 * s .tau) ⌝ }
+    requires { ⌜ (shapeOk s ≡ true) × (z .first + z .width ≤ 8192) × (now keys ≡ faest .h0 s iv (48 * s .tau)) × (length (now tree) ≡ treeBytes s) ⌝ }
+    requires { ⌜ (length (now lcs) ≡ leafCommitmentsBytes s) × (length (now u) ≡ z .width) × (length (now v) ≡ matrixBytes s (z .width)) × (length (now corrections) ≡ correctionsBytes s (z .width)) × (length (now hashes) ≡ 32 * s .tau) ⌝ }
     ensures { λ _. ⌜ now (lcs .exit) ≡ leafCommitments s (signerLeafCommitment faest s iv (now (tree .entry))) ⌝ }
-    ensures { λ _. ⌜ now (u .exit) ≡ signerU faest s b iv (now (tree .entry)) ⌝ }
-    ensures { λ _. ⌜ now (v .exit) ≡ matrixOf s b (signerColumn faest s b iv (now (tree .entry))) ⌝ }
-    ensures { λ _. ⌜ now (corrections .exit) ≡ signer.corrections faest s b iv (now (tree .entry)) ⌝ }
+    ensures { λ _. ⌜ now (u .exit) ≡ signerU s (z .width) (stretchByte faest s z iv (now (tree .entry))) ⌝ }
+    ensures { λ _. ⌜ now (v .exit) ≡ matrixOf s (z .width) (signerColumn s (z .width) (stretchByte faest s z iv (now (tree .entry)))) ⌝ }
+    ensures { λ _. ⌜ now (corrections .exit) ≡ signer.corrections s (z .width) (stretchByte faest s z iv (now (tree .entry))) ⌝ }
     ensures { λ _. ⌜ now (hashes .exit) ≡ concat (s .tau) (vectorHash faest s (signerLeafCommitment faest s iv (now (tree .entry)))) ⌝ }
 {
     let first = 0;
     let last = s.tau - 1;
-    vector_of_u(t, s, first, b, iv, keys, tree, lcs, u, v, hashes);
+    vector_of_u(t, s, first, z, iv, keys, tree, lcs, u, v, hashes);
     other_vectors(
         t,
         s,
         last,
-        b,
+        z,
         iv,
         keys,
         tree,
@@ -208,6 +211,6 @@ pub fn write_vectors(
         hashes,
     );
     let n = s.tau;
-    let used = vector::columns_from(s, n, b);
+    let used = vector::columns_from(s, n, z.width);
     buffers::clear_from(v, used);
 }

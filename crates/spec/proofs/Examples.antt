@@ -9,7 +9,7 @@ use Rattle.spec.specs.Bytes.{tabulate, zeros, allZero, number}
 use Rattle.spec.specs.Tree.{parent, isAncestorWithin, isAncestor, some, covered, siblingToReveal, revealedFrom, revealed, nodeCount}
 use Rattle.spec.specs.Challenge.{bitAt, bitsAt, indexAt, clearAt}
 use Rattle.spec.specs.Shapes.{faest128s, faest128f, resolved, level, challengeBytes, deeper, depthOf, firstBit, firstEntry, leaves, leafOf, shapeOk, hiddenIndex, hiddenIndices, hiddenLeaf, hiddenLeaves, grindingOk, planned, plannedCount}
-use Rattle.spec.specs.Calls.{written, countWith, nodesOk, planNumber}
+use Rattle.spec.specs.Calls.{written, countWith, nodesOk, planLengths, planNumber}
 
 -- a call of plan with a challenge of one byte and fifteen zeros and a list of t zeros: its number, its count and the list after it
 pub record Row : Type 0 where
@@ -26,7 +26,7 @@ pub Planned : Row → Type 0
 Planned r =
     let s = resolved (r .shape) in
     let ch = challengeOf r in
-    let n = planNumber s ch (zeros (s .t)) in
+    let n = planNumber s ch (planLengths s ch (zeros (s .t))) in
     (n ≡ r .number)
     × (countWith n (plannedCount s ch) ≡ r .count)
     × (written n (planned s ch ++ drop (plannedCount s ch) (zeros (s .t))) (zeros (s .t)) ≡ r .nodes)

@@ -13,11 +13,11 @@ use Rattle.spec.specs.Challenge.{bitAt, bitsAt, indexAt, clearAt}
 use Rattle.spec.specs.Shapes.{level, nodeBytes, challengeBytes, leafCommitmentBytes, deeper, depthOf, entriesOf, firstBit, firstEntry, leaves, leafOf, shapeOk, hiddenIndex, hiddenLeaf, hiddenLeaves, grindingOk, planned, plannedCount, treeBytes, leafCommitmentsBytes, openingBytes}
 use Rattle.spec.specs.Primitives.{prg}
 use Rattle.spec.specs.Leaves.{nodeAt, leafKey, stretched, leafSeed}
-use Rattle.spec.specs.Rows.{rowByte, uByte}
+use Rattle.spec.specs.Rows.{rowByte, stretchByte, uByte}
 use Rattle.spec.specs.Signer.{signerU, correction, corrections, leafCommitmentAt, openingOf}
-use Rattle.spec.specs.Calls.{written, nodesOk, planNumber, openNumber}
+use Rattle.spec.specs.Calls.{written, nodesOk, planLengths, planNumber, openLengths}
 use Rattle.spec.proofs.StandIns.{standIn}
-use Rattle.spec.proofs.WorkedExample.{shape, challenge, iv, signer-tree, signer-leaf-commitments}
+use Rattle.spec.proofs.WorkedExample.{shape, whole, rows, challenge, signer-tree, signer-leaf-commitments}
 
 -- two lists that differ at place i are not equal
 apart : (xs ys : List ℕ) (i : ℕ) → T (not (eqb (getD xs i 0) (getD ys i 0))) → xs ≡ ys → ⊥
@@ -66,18 +66,18 @@ coveredBelow hidden (suc a) = cond (covered hidden a) 1 0 + coveredBelow hidden 
 pub coveredNumber : Shape → List ℕ → ℕ
 coveredNumber s ch = cond (leb (coveredBelow (hiddenLeaves s ch) (2 * leaves s - 1)) (s .t)) 0 5
 
-pub not-covered-nodes : coveredNumber shape challenge ∷ [] ≡ planNumber shape challenge (zeros 7) ∷ [] → ⊥
+pub not-covered-nodes : coveredNumber shape challenge ∷ [] ≡ planNumber shape challenge (planLengths shape challenge (zeros 7)) ∷ [] → ⊥
 unfolding coveredBelow coveredNumber tabulate zeros allZero number parent isAncestorWithin isAncestor some covered siblingToReveal revealedFrom revealed nodeCount bitAt bitsAt indexAt clearAt level challengeBytes depthOf firstBit leaves leafOf shapeOk hiddenIndex hiddenLeaf hiddenLeaves grindingOk plannedCount nodesOk planNumber deeper
-not-covered-nodes = apart (coveredNumber shape challenge ∷ []) (planNumber shape challenge (zeros 7) ∷ []) 0 tt
+not-covered-nodes = apart (coveredNumber shape challenge ∷ []) (planNumber shape challenge (planLengths shape challenge (zeros 7)) ∷ []) 0 tt
 
 -- ---- the correction of vector 0 taken as u instead of nothing
 
 pub withVector0 : List ℕ
-withVector0 = signerU standIn shape 2 iv signer-tree ++ corrections standIn shape 2 iv signer-tree
+withVector0 = signerU shape 2 (rows whole signer-tree) ++ corrections shape 2 (rows whole signer-tree)
 
-pub not-vector-0 : withVector0 ≡ corrections standIn shape 2 iv signer-tree → ⊥
-unfolding withVector0 tabulate concat xorBelow level nodeBytes leafCommitmentBytes depthOf entriesOf leaves leafOf prg nodeAt leafKey stretched leafSeed rowByte uByte signerU correction corrections deeper
-not-vector-0 = apart withVector0 (corrections standIn shape 2 iv signer-tree) 1 tt
+pub not-vector-0 : withVector0 ≡ corrections shape 2 (rows whole signer-tree) → ⊥
+unfolding withVector0 tabulate concat xorBelow level nodeBytes leafCommitmentBytes depthOf entriesOf leaves leafOf prg nodeAt leafKey stretched leafSeed rowByte stretchByte uByte signerU correction corrections deeper
+not-vector-0 = apart withVector0 (corrections shape 2 (rows whole signer-tree)) 1 tt
 
 -- ---- the opening filled first and the count compared later
 
@@ -86,9 +86,9 @@ filledFirst before = take (length before) (openingOf tight challenge signer-tree
 
 pub ours : List ℕ → List ℕ
 ours before =
-    written (openNumber tight challenge signer-tree signer-leaf-commitments before)
+    written (planNumber tight challenge (openLengths tight challenge signer-tree signer-leaf-commitments before))
     (openingOf tight challenge signer-tree signer-leaf-commitments) before
 
 pub not-filled-first : filledFirst (zeros 208) ≡ ours (zeros 208) → ⊥
-unfolding filledFirst ours tabulate concat zeros allZero number parent isAncestorWithin isAncestor some covered siblingToReveal revealedFrom revealed nodeCount bitAt bitsAt indexAt clearAt level nodeBytes challengeBytes leafCommitmentBytes depthOf firstBit firstEntry leaves leafOf shapeOk hiddenIndex hiddenLeaf hiddenLeaves grindingOk planned plannedCount treeBytes leafCommitmentsBytes openingBytes nodeAt leafCommitmentAt openingOf nodesOk openNumber deeper
+unfolding filledFirst ours tabulate concat zeros allZero number parent isAncestorWithin isAncestor some covered siblingToReveal revealedFrom revealed nodeCount bitAt bitsAt indexAt clearAt level nodeBytes challengeBytes leafCommitmentBytes depthOf firstBit firstEntry leaves leafOf shapeOk hiddenIndex hiddenLeaf hiddenLeaves grindingOk planned plannedCount treeBytes leafCommitmentsBytes openingBytes nodeAt leafCommitmentAt openingOf nodesOk planNumber deeper
 not-filled-first = apart (filledFirst (zeros 208)) (ours (zeros 208)) 0 tt

@@ -1,18 +1,19 @@
 -- Document 01's refusals and limits, computed: each number where its condition holds alone and where a later one holds too, the counts that go with
 -- them, the borders of shapes and row lengths.
-use Prim.Native.Nat.{ℕ, _+_, _*_}
+use Prim.Native.Nat.{ℕ, _+_, _*_, _/_}
 use mathlib.Core.Path.{_≡_, refl}
 use mathlib.Core.Bool.{true, false, cond}
 use mathlib.Core.List.{List, [], _∷_, _++_}
 use lib.Dec.{eqb}
 use lib.ListN.{set, replicate}
 use Rattle.spec.specs.declared.Shape.{Shape}
+use Rattle.spec.specs.declared.Stretch.{Stretch}
 use Rattle.spec.specs.Bytes.{tabulate, zeros, allZero, number}
 use Rattle.spec.specs.Tree.{parent, isAncestorWithin, isAncestor, some, covered, siblingToReveal, revealedFrom, revealed, nodeCount}
 use Rattle.spec.specs.Challenge.{bitAt, bitsAt, indexAt, clearAt}
 use Rattle.spec.specs.Shapes.{faest128s, faest128f, resolved, level, nodeBytes, challengeBytes, leafCommitmentBytes, hashBytes, deeper, depthOf, firstBit, leaves, leafOf, shapeOk, hiddenIndex, hiddenLeaf, hiddenLeaves, grindingOk, planned, plannedCount, treeBytes, leafCommitmentsBytes, openingBytes, matrixBytes, correctionsBytes}
 use Rattle.spec.specs.Verifier.{slotsOk}
-use Rattle.spec.specs.Calls.{rowOk, nodesOk, countWith, decodeNumber, planNumber, commitNumber, openNumber, reconstructNumber}
+use Rattle.spec.specs.Calls.{rowOk, stretchOk, nodesOk, countWith, decodeLengths, decodeNumber, planLengths, planNumber, Committed, commitLengths, commitNumber, commitStretchNumber, openLengths, Reconstructed, reconstructLengths, reconstructNumber, reconstructStretchNumber}
 
 abbrev pub shape : ℕ → ℕ → ℕ → ℕ → Shape
 shape tau k w t = record { tau = tau; k = k; w = w; t = t }
@@ -88,38 +89,60 @@ ch first = first ∷ zeros 15
 
 -- decode with a list of n numbers
 abbrev pub decoding : Shape → ℕ → ℕ → ℕ
-decoding s first n = decodeNumber s (ch first) (zeros n)
+decoding s first n = decodeNumber s (ch first) (decodeLengths s (ch first) (zeros n))
 
 -- plan with a list of n numbers
 abbrev pub planning : Shape → ℕ → ℕ → ℕ
-planning s first n = planNumber s (ch first) (zeros n)
+planning s first n = planNumber s (ch first) (planLengths s (ch first) (zeros n))
 
--- commit with rows of n bits and buffers for `small` and 8 bits, u being of `long` bytes
+-- commit's buffers for `small` and rows or stretches of a byte, u being of `long` bytes
+abbrev pub signerBuffers : ℕ → Committed
+signerBuffers long = record { commitment = zeros 32; tree = zeros 48; leafCommitments = zeros 96; u = zeros long; v = zeros 128; corrections = [] }
+
+-- commit with rows of n bits
 abbrev pub committing : Shape → ℕ → ℕ → ℕ
-committing s n long =
-    commitNumber s n (zeros 16) (zeros 16)
-    (record { commitment = zeros 32; tree = zeros 48; leafCommitments = zeros 96; u = zeros long; v = zeros 128; corrections = [] })
+committing s n long = commitNumber s n (commitLengths s (n / 8) (zeros 16) (zeros 16) (signerBuffers long))
+
+abbrev pub stretch : ℕ → ℕ → Stretch
+stretch first width = record { first = first; width = width }
+
+-- commit with rows of n bits, of the stretch
+abbrev pub committingStretch : Shape → ℕ → ℕ → ℕ → ℕ → ℕ
+committingStretch s n first width long =
+    commitStretchNumber s n (stretch first width) (commitLengths s width (zeros 16) (zeros 16) (signerBuffers long))
 
 -- open with an opening of `long` bytes
 abbrev pub opening : Shape → ℕ → ℕ → ℕ
-opening s first long = openNumber s (ch first) (zeros 48) (zeros 96) (zeros long)
+opening s first long = planNumber s (ch first) (openLengths s (ch first) (zeros 48) (zeros 96) (zeros long))
 
--- reconstruct with an opening whose last byte is `last`, all buffers for `small` and 8 bits
+-- reconstruct's buffers for `small` and rows or stretches of a byte
+abbrev pub verifierBuffers : Reconstructed
+verifierBuffers = record { commitment = zeros 32; tree = zeros 48; leafCommitments = zeros 96; q = zeros 128 }
+
+-- reconstruct of all that it is lent, with rows of n bits
+abbrev pub reconstructNumberOf : Shape → ℕ → List ℕ → List ℕ → List ℕ → List ℕ → Reconstructed → ℕ
+reconstructNumberOf s n iv ch corrections opening x = reconstructNumber s n ch opening (reconstructLengths s (n / 8) iv ch corrections opening x)
+
+-- reconstruct with an opening whose last byte is `last`
 abbrev pub reconstructing : Shape → ℕ → ℕ → ℕ → ℕ
-reconstructing s n first last =
-    reconstructNumber s n (zeros 16) (ch first) [] (zeros 63 ++ (last ∷ []))
-    (record { commitment = zeros 32; tree = zeros 48; leafCommitments = zeros 96; q = zeros 128 })
+reconstructing s n first last = reconstructNumberOf s n (zeros 16) (ch first) [] (zeros 63 ++ (last ∷ [])) verifierBuffers
+
+-- the same of a stretch
+abbrev pub reconstructingStretch : Shape → ℕ → ℕ → ℕ → ℕ → ℕ → ℕ
+reconstructingStretch s n from width first last =
+    let opening = zeros 63 ++ (last ∷ []) in
+    reconstructStretchNumber s n (stretch from width) (ch first) opening (reconstructLengths s width (zeros 16) (ch first) [] opening verifierBuffers)
 
 -- the same at 2, 2, 124, 5 and the challenge 0c, which reveals four nodes: the opening is zeros but for byte i
 abbrev pub reconstructingAt : ℕ → ℕ
 reconstructingAt i =
-    reconstructNumber (shape 2 2 124 5) 8 (zeros 16) (ch 12) (zeros 1) (set (zeros 176) i 1)
+    reconstructNumberOf (shape 2 2 124 5) 8 (zeros 16) (ch 12) (zeros 1) (set (zeros 176) i 1)
     (record { commitment = zeros 32; tree = zeros 240; leafCommitments = zeros 384; q = zeros 128 })
 
 -- at 2, 2, 124, t: with t 5 the challenge 0c leaves one slot unused, with t 3 it needs a node too many
 abbrev pub reconstructing2 : ℕ → ℕ → ℕ → ℕ
 reconstructing2 t first last =
-    reconstructNumber (shape 2 2 124 t) 8 (zeros 16) (ch first) (zeros 1) (zeros (95 + 16 * t) ++ (last ∷ []))
+    reconstructNumberOf (shape 2 2 124 t) 8 (zeros 16) (ch first) (zeros 1) (zeros (95 + 16 * t) ++ (last ∷ []))
     (record { commitment = zeros 32; tree = zeros 240; leafCommitments = zeros 384; q = zeros 128 })
 
 abbrev pub Numbers : Type 0
@@ -155,9 +178,47 @@ Numbers =
     × (reconstructingAt 160 ≡ 6)
 
 pub numbers : Numbers
-unfolding tabulate zeros allZero number parent isAncestorWithin isAncestor some covered siblingToReveal revealedFrom revealed nodeCount bitAt bitsAt indexAt clearAt level nodeBytes challengeBytes leafCommitmentBytes hashBytes depthOf firstBit leaves leafOf shapeOk hiddenIndex hiddenLeaf hiddenLeaves grindingOk planned plannedCount treeBytes leafCommitmentsBytes openingBytes matrixBytes correctionsBytes slotsOk rowOk nodesOk decodeNumber planNumber commitNumber openNumber reconstructNumber deeper
+unfolding tabulate zeros allZero number parent isAncestorWithin isAncestor some covered siblingToReveal revealedFrom revealed nodeCount bitAt bitsAt indexAt clearAt level nodeBytes challengeBytes leafCommitmentBytes hashBytes depthOf firstBit leaves leafOf shapeOk hiddenIndex hiddenLeaf hiddenLeaves grindingOk planned plannedCount treeBytes leafCommitmentsBytes openingBytes matrixBytes correctionsBytes slotsOk rowOk nodesOk decodeNumber planNumber commitNumber reconstructNumber deeper
 numbers =
     (refl, refl, refl, refl, refl, refl, refl, refl, refl, refl, refl, refl, refl, refl, refl, refl, refl, refl, refl, refl, refl, refl, refl, refl, refl, refl, refl, refl, refl)
+
+-- ---- stretches
+
+-- within a row of two bytes; of no bytes, and past the end by one
+abbrev pub Stretches : Type 0
+Stretches =
+    (stretchOk 2 (stretch 0 2) ≡ true)
+    × (stretchOk 2 (stretch 1 1) ≡ true)
+    × (stretchOk 2 (stretch 0 0) ≡ false)
+    × (stretchOk 2 (stretch 2 0) ≡ false)
+    × (stretchOk 2 (stretch 1 2) ≡ false)
+    × (stretchOk 2 (stretch 2 1) ≡ false)
+    × (stretchOk 2 (stretch 18446744073709551615 1) ≡ false)
+    × (stretchOk 2 (stretch 1 18446744073709551615) ≡ false)
+
+pub stretches : Stretches
+unfolding stretchOk
+stretches = (refl, refl, refl, refl, refl, refl, refl, refl)
+
+-- 8 is tested after 2 and before 3
+abbrev pub StretchNumbers : Type 0
+StretchNumbers =
+    (committingStretch small 16 1 1 1 ≡ 0)
+    × (committingStretch (shape 1 1 126 1) 12 1 0 2 ≡ 1)
+    × (committingStretch small 12 1 0 2 ≡ 2)
+    × (committingStretch small 16 1 0 2 ≡ 8)
+    × (committingStretch small 16 1 2 1 ≡ 8)
+    × (committingStretch small 16 1 1 2 ≡ 3)
+    × (reconstructingStretch small 16 1 1 0 0 ≡ 0)
+    × (reconstructingStretch (shape 1 1 126 1) 12 1 0 2 1 ≡ 1)
+    × (reconstructingStretch small 12 1 0 2 1 ≡ 2)
+    × (reconstructingStretch small 16 2 1 2 1 ≡ 8)
+    × (reconstructingStretch small 24 1 2 2 1 ≡ 3)
+    × (reconstructingStretch small 16 1 1 2 1 ≡ 4)
+
+pub stretch-numbers : StretchNumbers
+unfolding tabulate zeros allZero number parent isAncestorWithin isAncestor some covered siblingToReveal revealedFrom revealed nodeCount bitAt bitsAt indexAt clearAt level nodeBytes challengeBytes leafCommitmentBytes hashBytes depthOf firstBit leaves leafOf shapeOk hiddenIndex hiddenLeaf hiddenLeaves grindingOk planned plannedCount treeBytes leafCommitmentsBytes openingBytes matrixBytes correctionsBytes slotsOk rowOk nodesOk decodeNumber planNumber commitNumber reconstructNumber deeper stretchOk commitStretchNumber reconstructStretchNumber
+stretch-numbers = (refl, refl, refl, refl, refl, refl, refl, refl, refl, refl, refl, refl)
 
 -- ---- lengths: of the buffers of a call, in its order, buffer i alone is a byte longer, or none where i is past the last; at `small` with 8 bits
 
@@ -166,10 +227,11 @@ more i buffer = cond (eqb i buffer) 1 0
 
 abbrev pub Lengths : Type 0
 Lengths =
-    (tabulate 3 (λ i. decodeNumber small (zeros (16 + more i 0)) (zeros (1 + more i 1))) ≡ 3 ∷ 3 ∷ 0 ∷ [])
-    × (tabulate 3 (λ i. planNumber small (zeros (16 + more i 0)) (zeros (1 + more i 1))) ≡ 3 ∷ 3 ∷ 0 ∷ [])
+    (tabulate 3 (λ i. decodeNumber small (zeros 16) (decodeLengths small (zeros (16 + more i 0)) (zeros (1 + more i 1)))) ≡ 3 ∷ 3 ∷ 0 ∷ [])
+    × (tabulate 3 (λ i. planNumber small (zeros 16) (planLengths small (zeros (16 + more i 0)) (zeros (1 + more i 1)))) ≡ 3 ∷ 3 ∷ 0 ∷ [])
     × (tabulate 9 (λ i.
-    commitNumber small 8 (zeros (16 + more i 0)) (zeros (16 + more i 1))
+    commitNumber small 8
+    (commitLengths small 1 (zeros (16 + more i 0)) (zeros (16 + more i 1))
     (record {
       commitment = zeros (32 + more i 2);
       tree = zeros (48 + more i 3);
@@ -177,24 +239,24 @@ Lengths =
       u = zeros (1 + more i 5);
       v = zeros (128 + more i 6);
       corrections = zeros (more i 7);
-    }))
+    })))
     ≡ replicate 8 3 ++ (0 ∷ []))
-    × (tabulate 5 (λ i. openNumber small (zeros (16 + more i 0)) (zeros (48 + more i 1)) (zeros (96 + more i 2)) (zeros (64 + more i 3)))
+    × (tabulate 5 (λ i. planNumber small (zeros 16) (openLengths small (zeros (16 + more i 0)) (zeros (48 + more i 1)) (zeros (96 + more i 2)) (zeros (64 + more i 3))))
     ≡ replicate 4 3 ++ (0 ∷ []))
     × (tabulate 9 (λ i.
-    reconstructNumber small 8 (zeros (16 + more i 0)) (zeros (16 + more i 1)) (zeros (more i 2)) (zeros (64 + more i 3))
+    reconstructNumberOf small 8 (zeros (16 + more i 0)) (zeros (16 + more i 1)) (zeros (more i 2)) (zeros (64 + more i 3))
     (record { commitment = zeros (32 + more i 4); tree = zeros (48 + more i 5); leafCommitments = zeros (96 + more i 6); q = zeros (128 + more i 7) }))
     ≡ replicate 8 3 ++ (0 ∷ []))
 
 pub lengths : Lengths
-unfolding tabulate zeros allZero number parent isAncestorWithin isAncestor some covered siblingToReveal revealedFrom revealed nodeCount bitAt bitsAt indexAt clearAt level nodeBytes challengeBytes leafCommitmentBytes hashBytes depthOf firstBit leaves leafOf shapeOk hiddenIndex hiddenLeaf hiddenLeaves grindingOk planned plannedCount treeBytes leafCommitmentsBytes openingBytes matrixBytes correctionsBytes slotsOk rowOk nodesOk decodeNumber planNumber commitNumber openNumber reconstructNumber deeper
+unfolding tabulate zeros allZero number parent isAncestorWithin isAncestor some covered siblingToReveal revealedFrom revealed nodeCount bitAt bitsAt indexAt clearAt level nodeBytes challengeBytes leafCommitmentBytes hashBytes depthOf firstBit leaves leafOf shapeOk hiddenIndex hiddenLeaf hiddenLeaves grindingOk planned plannedCount treeBytes leafCommitmentsBytes openingBytes matrixBytes correctionsBytes slotsOk rowOk nodesOk decodeNumber planNumber commitNumber reconstructNumber deeper
 lengths = (refl, refl, refl, refl, refl)
 
 -- the count with each number, where 7 nodes are planned
 abbrev pub Counts : Type 0
 Counts =
-    (countWith 0 7 ≡ 7) × (countWith 1 7 ≡ 0) × (countWith 2 7 ≡ 0) × (countWith 3 7 ≡ 0) × (countWith 4 7 ≡ 0) × (countWith 5 7 ≡ 7) × (countWith 6 7 ≡ 7)
+    (countWith 0 7 ≡ 7) × (countWith 1 7 ≡ 0) × (countWith 2 7 ≡ 0) × (countWith 3 7 ≡ 0) × (countWith 4 7 ≡ 0) × (countWith 5 7 ≡ 7) × (countWith 6 7 ≡ 7) × (countWith 8 7 ≡ 0)
 
 pub counts : Counts
 unfolding countWith
-counts = (refl, refl, refl, refl, refl, refl, refl)
+counts = (refl, refl, refl, refl, refl, refl, refl, refl)

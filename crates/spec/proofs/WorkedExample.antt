@@ -1,16 +1,17 @@
 -- Commit, open and reconstruct of three vectors in a tree of four levels, with rows of two bytes and two slots unused, over the stand-in primitives: every
--- byte of every buffer. The lists are those that reference/worked_example.py derives. By computing, each buffer from the tree as it is listed.
+-- byte of every buffer; and of the calls with the last byte of each row what differs. The lists are those that reference/worked_example.py derives. By computing, each buffer from the tree as it is listed.
 use Prim.Native.Nat.{ℕ, _*_}
 use mathlib.Core.Path.{_≡_, refl, ap, _∙_}
 use mathlib.Core.List.{List, [], _∷_, _++_}
 use Rattle.spec.specs.declared.Shape.{Shape}
+use Rattle.spec.specs.declared.Stretch.{Stretch}
 use Rattle.spec.specs.Bytes.{tabulate, concat, zeros, xorBelow, number, indexOf}
 use Rattle.spec.specs.Tree.{parent, isAncestorWithin, isAncestor, some, covered, siblingToReveal, revealedFrom, revealed, nodeCount, expandTree}
 use Rattle.spec.specs.Challenge.{bitAt, bitsAt, indexAt}
 use Rattle.spec.specs.Shapes.{level, nodeBytes, leafCommitmentBytes, deeper, depthOf, entriesOf, firstBit, firstEntry, leaves, leafOf, hiddenIndex, hiddenLeaf, hiddenLeaves, planned, plannedCount}
 use Rattle.spec.specs.Primitives.{prg}
 use Rattle.spec.specs.Leaves.{nodeAt, leafKey, children, hashKey, stretched, leafSeed, leafCommitment, vectorCommitments, leafCommitments, vectorHash, commitmentOf}
-use Rattle.spec.specs.Rows.{rowByte, uByte, columnByte, matrixOf}
+use Rattle.spec.specs.Rows.{rowByte, stretchByte, uByte, columnByte, matrixOf}
 use Rattle.spec.specs.Signer.{signerTree, signerLeafCommitment, signerU, signerColumn, correction, corrections, leafCommitmentAt, openingOf}
 use Rattle.spec.specs.Verifier.{hiddenLeafCommitment, slot, givenNode, reconstructedChildren, reconstructedTree, verifierLeafCommitment, correctionByte, verifierColumn}
 use Rattle.spec.specs.Calls.{committed, reconstructed}
@@ -18,6 +19,13 @@ use Rattle.spec.proofs.StandIns.{standIn}
 
 abbrev pub shape : Shape
 shape = record { tau = 3; k = 2; w = 122; t = 7 }
+
+abbrev pub whole : Stretch
+whole = record { first = 0; width = 2 }
+
+-- the last byte of each row
+abbrev pub last-byte : Stretch
+last-byte = record { first = 1; width = 1 }
 
 abbrev pub root : List ℕ
 root = 1 ∷ 8 ∷ 15 ∷ 22 ∷ 29 ∷ 36 ∷ 43 ∷ 50 ∷ 57 ∷ 64 ∷ 71 ∷ 78 ∷ 85 ∷ 92 ∷ 99 ∷ 106 ∷ []
@@ -55,6 +63,23 @@ verifier-tree = 0 ∷ 0 ∷ 0 ∷ 0 ∷ 0 ∷ 0 ∷ 0 ∷ 0 ∷ 0 ∷ 0 ∷ 0 �
 abbrev pub verifier-q : List ℕ
 verifier-q = 88 ∷ 204 ∷ 159 ∷ 237 ∷ 223 ∷ 77 ∷ 254 ∷ 81 ∷ 39 ∷ 108 ∷ 139 ∷ 129 ∷ []
 
+-- of u, V, the corrections and Q the last byte of each string of two
+abbrev pub last-u : List ℕ
+last-u = 228 ∷ []
+
+abbrev pub last-v : List ℕ
+last-v = 204 ∷ 9 ∷ 169 ∷ 181 ∷ 136 ∷ 129 ∷ []
+
+abbrev pub last-corrections : List ℕ
+last-corrections = 30 ∷ 137 ∷ []
+
+abbrev pub last-q : List ℕ
+last-q = 204 ∷ 237 ∷ 77 ∷ 81 ∷ 108 ∷ 129 ∷ []
+
+-- the stretch z of the rows of a tree
+abbrev pub rows : Stretch → List ℕ → ℕ → ℕ → ℕ → ℕ
+rows z tree = stretchByte standIn shape z iv tree
+
 -- ---- commit
 
 tree-of-root : signerTree standIn shape root iv ≡ signer-tree
@@ -69,20 +94,20 @@ hash-of-tree : commitmentOf standIn shape (signerLeafCommitment standIn shape iv
 unfolding tabulate level nodeBytes leafCommitmentBytes leaves leafOf prg nodeAt leafKey stretched leafSeed concat depthOf entriesOf hashKey leafCommitment vectorCommitments vectorHash commitmentOf signerLeafCommitment deeper
 hash-of-tree = refl
 
-u-of-tree : signerU standIn shape 2 iv signer-tree ≡ signer-u
-unfolding tabulate level nodeBytes leafCommitmentBytes leaves leafOf prg nodeAt leafKey stretched leafSeed xorBelow depthOf entriesOf rowByte uByte signerU deeper
+u-of-tree : signerU shape 2 (rows whole signer-tree) ≡ signer-u
+unfolding tabulate level nodeBytes leafCommitmentBytes leaves leafOf prg nodeAt leafKey stretched leafSeed xorBelow depthOf entriesOf rowByte stretchByte uByte signerU deeper
 u-of-tree = refl
 
-v-of-tree : matrixOf shape 2 (signerColumn standIn shape 2 iv signer-tree) ≡ signer-v ++ zeros (2 * 122)
-unfolding tabulate level nodeBytes leafCommitmentBytes leaves leafOf prg nodeAt leafKey stretched leafSeed xorBelow depthOf entriesOf rowByte concat zeros columnByte matrixOf signerColumn deeper
+v-of-tree : matrixOf shape 2 (signerColumn shape 2 (rows whole signer-tree)) ≡ signer-v ++ zeros (2 * 122)
+unfolding tabulate level nodeBytes leafCommitmentBytes leaves leafOf prg nodeAt leafKey stretched leafSeed xorBelow depthOf entriesOf rowByte stretchByte concat zeros columnByte matrixOf signerColumn deeper
 v-of-tree = refl
 
-corrections-of-tree : corrections standIn shape 2 iv signer-tree ≡ signer-corrections
-unfolding tabulate level nodeBytes leafCommitmentBytes leaves leafOf prg nodeAt leafKey stretched leafSeed xorBelow depthOf entriesOf rowByte concat uByte correction corrections deeper
+corrections-of-tree : corrections shape 2 (rows whole signer-tree) ≡ signer-corrections
+unfolding tabulate level nodeBytes leafCommitmentBytes leaves leafOf prg nodeAt leafKey stretched leafSeed xorBelow depthOf entriesOf rowByte stretchByte concat uByte correction corrections deeper
 corrections-of-tree = refl
 
 pub commits :
-    let x = committed standIn shape 2 root iv in
+    let x = committed standIn shape whole root iv in
     (x .commitment ≡ signer-commitment)
     × (x .tree ≡ signer-tree)
     × (x .leafCommitments ≡ signer-leaf-commitments)
@@ -94,9 +119,9 @@ commits = (
   ap (λ (tree : List ℕ). commitmentOf standIn shape (signerLeafCommitment standIn shape iv tree)) tree-of-root ∙ hash-of-tree,
   tree-of-root,
   ap (λ (tree : List ℕ). leafCommitments shape (signerLeafCommitment standIn shape iv tree)) tree-of-root ∙ commitments-of-tree,
-  ap (signerU standIn shape 2 iv) tree-of-root ∙ u-of-tree,
-  ap (λ (tree : List ℕ). matrixOf shape 2 (signerColumn standIn shape 2 iv tree)) tree-of-root ∙ v-of-tree,
-  ap (corrections standIn shape 2 iv) tree-of-root ∙ corrections-of-tree,
+  ap (λ (tree : List ℕ). signerU shape 2 (rows whole tree)) tree-of-root ∙ u-of-tree,
+  ap (λ (tree : List ℕ). matrixOf shape 2 (signerColumn shape 2 (rows whole tree))) tree-of-root ∙ v-of-tree,
+  ap (λ (tree : List ℕ). corrections shape 2 (rows whole tree)) tree-of-root ∙ corrections-of-tree,
 )
 
 -- ---- open
@@ -119,12 +144,12 @@ hash-again : commitmentOf standIn shape (verifierLeafCommitment standIn shape iv
 unfolding tabulate level nodeBytes leafCommitmentBytes leaves leafOf prg nodeAt leafKey stretched leafSeed concat depthOf entriesOf hashKey leafCommitment number bitAt bitsAt indexAt firstBit hiddenIndex hiddenLeafCommitment verifierLeafCommitment vectorCommitments vectorHash commitmentOf deeper
 hash-again = refl
 
-q-of-tree : matrixOf shape 2 (verifierColumn standIn shape 2 iv challenge signer-corrections verifier-tree) ≡ verifier-q ++ zeros (2 * 122)
-unfolding tabulate level nodeBytes leafCommitmentBytes leaves leafOf prg nodeAt leafKey stretched leafSeed xorBelow depthOf entriesOf rowByte number bitAt bitsAt indexAt firstBit hiddenIndex concat zeros columnByte matrixOf correctionByte verifierColumn deeper
+q-of-tree : matrixOf shape 2 (verifierColumn shape 2 (rows whole verifier-tree) challenge signer-corrections) ≡ verifier-q ++ zeros (2 * 122)
+unfolding tabulate level nodeBytes leafCommitmentBytes leaves leafOf prg nodeAt leafKey stretched leafSeed xorBelow depthOf entriesOf rowByte stretchByte number bitAt bitsAt indexAt firstBit hiddenIndex concat zeros columnByte matrixOf correctionByte verifierColumn deeper
 q-of-tree = refl
 
 pub reconstructs :
-    let x = reconstructed standIn shape 2 iv challenge signer-corrections opening in
+    let x = reconstructed standIn shape whole iv challenge signer-corrections opening in
     (x .commitment ≡ signer-commitment)
     × (x .tree ≡ verifier-tree)
     × (x .leafCommitments ≡ signer-leaf-commitments)
@@ -134,5 +159,38 @@ reconstructs = (
   ap (λ (tree : List ℕ). commitmentOf standIn shape (verifierLeafCommitment standIn shape iv challenge opening tree)) tree-of-opening ∙ hash-again,
   tree-of-opening,
   ap (λ (tree : List ℕ). leafCommitments shape (verifierLeafCommitment standIn shape iv challenge opening tree)) tree-of-opening ∙ commitments-again,
-  ap (λ (tree : List ℕ). matrixOf shape 2 (verifierColumn standIn shape 2 iv challenge signer-corrections tree)) tree-of-opening ∙ q-of-tree,
+  ap (λ (tree : List ℕ). matrixOf shape 2 (verifierColumn shape 2 (rows whole tree) challenge signer-corrections)) tree-of-opening ∙ q-of-tree,
+)
+
+-- ---- of a stretch: the last byte of each row
+
+last-u-of-tree : signerU shape 1 (rows last-byte signer-tree) ≡ last-u
+unfolding tabulate level nodeBytes leafCommitmentBytes leaves leafOf prg nodeAt leafKey stretched leafSeed xorBelow depthOf entriesOf rowByte stretchByte uByte signerU deeper
+last-u-of-tree = refl
+
+last-v-of-tree : matrixOf shape 1 (signerColumn shape 1 (rows last-byte signer-tree)) ≡ last-v ++ zeros (1 * 122)
+unfolding tabulate level nodeBytes leafCommitmentBytes leaves leafOf prg nodeAt leafKey stretched leafSeed xorBelow depthOf entriesOf rowByte stretchByte concat zeros columnByte matrixOf signerColumn deeper
+last-v-of-tree = refl
+
+last-corrections-of-tree : corrections shape 1 (rows last-byte signer-tree) ≡ last-corrections
+unfolding tabulate level nodeBytes leafCommitmentBytes leaves leafOf prg nodeAt leafKey stretched leafSeed xorBelow depthOf entriesOf rowByte stretchByte concat uByte correction corrections deeper
+last-corrections-of-tree = refl
+
+last-q-of-tree : matrixOf shape 1 (verifierColumn shape 1 (rows last-byte verifier-tree) challenge last-corrections) ≡ last-q ++ zeros (1 * 122)
+unfolding tabulate level nodeBytes leafCommitmentBytes leaves leafOf prg nodeAt leafKey stretched leafSeed xorBelow depthOf entriesOf rowByte stretchByte number bitAt bitsAt indexAt firstBit hiddenIndex concat zeros columnByte matrixOf correctionByte verifierColumn deeper
+last-q-of-tree = refl
+
+pub last-byte-of-rows :
+    let x = committed standIn shape last-byte root iv in
+    let y = reconstructed standIn shape last-byte iv challenge last-corrections opening in
+    (x .u ≡ last-u)
+    × (x .v ≡ last-v ++ zeros (1 * 122))
+    × (x .corrections ≡ last-corrections)
+    × (y .q ≡ last-q ++ zeros (1 * 122))
+unfolding committed reconstructed
+last-byte-of-rows = (
+  ap (λ (tree : List ℕ). signerU shape 1 (rows last-byte tree)) tree-of-root ∙ last-u-of-tree,
+  ap (λ (tree : List ℕ). matrixOf shape 1 (signerColumn shape 1 (rows last-byte tree))) tree-of-root ∙ last-v-of-tree,
+  ap (λ (tree : List ℕ). corrections shape 1 (rows last-byte tree)) tree-of-root ∙ last-corrections-of-tree,
+  ap (λ (tree : List ℕ). matrixOf shape 1 (verifierColumn shape 1 (rows last-byte tree) challenge last-corrections)) tree-of-opening ∙ last-q-of-tree,
 )

@@ -27,3 +27,5 @@ pub mod Signer
 pub mod Verifier
 -- the five calls of document 01
 pub mod Calls
+-- document 02, E4: the calls for a C host
+pub mod HostCalls

@@ -1,4 +1,4 @@
--- Document 000, figure 5.4 and section 5.5.2: what the signing half computes. b is the length of a row in bytes.
+-- Document 000, figure 5.4 and section 5.5.2: what the signing half computes.
 use Prim.Native.Nat.{ℕ, _+_, _-_, _*_}
 use mathlib.Core.List.{List, _++_}
 use lib.Bits.{bitXor}
@@ -20,22 +20,22 @@ signerTree P s root iv = expandTree (nodeBytes s) root (children P s iv) (leaves
 unfoldable pub signerLeafCommitment : Primitives → Shape → List ℕ → List ℕ → ℕ → ℕ → List ℕ
 signerLeafCommitment P s iv tree i j = leafCommitment P s iv i (leafKey s tree i j)
 
--- ---- VOLECommit, section 5.5.2, from the tree's bytes
+-- ---- VOLECommit, section 5.5.2, from rows of b bytes: `row i e p` is byte p of the row of entry e of vector i
 
 -- the signer's u is that of vector 0
-unfoldable pub signerU : Primitives → Shape → ℕ → List ℕ → List ℕ → List ℕ
-signerU P s b iv tree = tabulate b (uByte P s iv tree 0)
+unfoldable pub signerU : Shape → ℕ → (ℕ → ℕ → ℕ → ℕ) → List ℕ
+signerU s b row = tabulate b (uByte s row 0)
 
 -- column j of vector i of V
-unfoldable pub signerColumn : Primitives → Shape → ℕ → List ℕ → List ℕ → ℕ → ℕ → List ℕ
-signerColumn P s b iv tree i j = tabulate b (columnByte P s iv tree (λ e. e) i j)
+unfoldable pub signerColumn : Shape → ℕ → (ℕ → ℕ → ℕ → ℕ) → ℕ → ℕ → List ℕ
+signerColumn s b row i j = tabulate b (columnByte s row (λ e. e) i j)
 
 -- correction i, for i from 1: the xor of the u of vectors 0 and i
-unfoldable pub correction : Primitives → Shape → ℕ → List ℕ → List ℕ → ℕ → List ℕ
-correction P s b iv tree i = tabulate b (λ p. bitXor (uByte P s iv tree 0 p) (uByte P s iv tree i p))
+unfoldable pub correction : Shape → ℕ → (ℕ → ℕ → ℕ → ℕ) → ℕ → List ℕ
+correction s b row i = tabulate b (λ p. bitXor (uByte s row 0 p) (uByte s row i p))
 
-unfoldable pub corrections : Primitives → Shape → ℕ → List ℕ → List ℕ → List ℕ
-corrections P s b iv tree = concat (s .tau - 1) (λ i. correction P s b iv tree (i + 1))
+unfoldable pub corrections : Shape → ℕ → (ℕ → ℕ → ℕ → ℕ) → List ℕ
+corrections s b row = concat (s .tau - 1) (λ i. correction s b row (i + 1))
 
 -- ---- BAVC.Open, figure 5.4, from a tree and leaf commitments as lent
 

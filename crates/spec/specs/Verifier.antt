@@ -1,4 +1,4 @@
--- Document 000, figures 5.5 and 5.9: what the checking half computes from an opening. b is the length of a row in bytes.
+-- Document 000, figures 5.5 and 5.9: what the checking half computes from an opening.
 use Prim.Native.Nat.{ℕ, zero, suc, _+_, _-_, _*_}
 use mathlib.Core.Bool.{Bool, cond}
 use mathlib.Core.List.{List, _++_}
@@ -50,7 +50,7 @@ unfoldable pub verifierLeafCommitment : Primitives → Shape → List ℕ → Li
 verifierLeafCommitment P s iv ch opening tree i j =
     cond (eqb j (hiddenIndex s ch i)) (hiddenLeafCommitment s opening i) (leafCommitment P s iv i (leafKey s tree i j))
 
--- ---- VOLEReconstruct, figure 5.9
+-- ---- VOLEReconstruct, figure 5.9, from rows and corrections of b bytes: `row i e p` is byte p of the row of entry e of vector i
 
 -- what the correction adds to byte p of column j of vector i: nothing in vector 0, or where the challenge bit is 0
 unfoldable pub correctionByte : Shape → ℕ → List ℕ → List ℕ → ℕ → ℕ → ℕ → ℕ
@@ -58,6 +58,6 @@ correctionByte s b ch corrections zero j p = 0
 correctionByte s b ch corrections (suc i) j p = bitAt ch (firstBit s (suc i) + j) * getD corrections (b * i + p) 0
 
 -- column j of vector i of Q: entry e goes under the number e xor the hidden index, so the hidden entry has number 0 and enters no column
-unfoldable pub verifierColumn : Primitives → Shape → ℕ → List ℕ → List ℕ → List ℕ → List ℕ → ℕ → ℕ → List ℕ
-verifierColumn P s b iv ch corrections tree i j =
-    tabulate b (λ p. bitXor (columnByte P s iv tree (λ e. bitXor e (hiddenIndex s ch i)) i j p) (correctionByte s b ch corrections i j p))
+unfoldable pub verifierColumn : Shape → ℕ → (ℕ → ℕ → ℕ → ℕ) → List ℕ → List ℕ → ℕ → ℕ → List ℕ
+verifierColumn s b row ch corrections i j =
+    tabulate b (λ p. bitXor (columnByte s row (λ e. bitXor e (hiddenIndex s ch i)) i j p) (correctionByte s b ch corrections i j p))

@@ -9,7 +9,13 @@ pub struct Shape {
     pub t: usize,
 }
 
-// What each of the five calls answers: 0 or the number of the refusal, and the node count.
+// A stretch of every row: `width` bytes from byte `first` on (document 02, E1: g and f). The whole row of b bytes is the stretch 0, b.
+pub struct Stretch {
+    pub first: usize,
+    pub width: usize,
+}
+
+// What each call answers: 0 or the number of the refusal, and the node count.
 pub struct Answer {
     pub number: usize,
     pub count: usize,

@@ -5,13 +5,14 @@ use Prim.Native.Nat.{ℕ, _*_}
 use mathlib.Core.Path.{_≡_, refl, ap, _∙_}
 use mathlib.Core.List.{List, [], _∷_, _++_}
 use Rattle.spec.specs.declared.Shape.{Shape}
+use Rattle.spec.specs.declared.Stretch.{Stretch}
 use Rattle.spec.specs.Bytes.{tabulate, concat, zeros, xorBelow, number, indexOf}
 use Rattle.spec.specs.Tree.{parent, isAncestorWithin, isAncestor, some, covered, siblingToReveal, revealedFrom, revealed, nodeCount, expandTree}
 use Rattle.spec.specs.Challenge.{bitAt, bitsAt, indexAt}
 use Rattle.spec.specs.Shapes.{level, nodeBytes, leafCommitmentBytes, deeper, depthOf, entriesOf, firstBit, firstEntry, leaves, leafOf, hiddenIndex, hiddenLeaf, hiddenLeaves, planned, plannedCount}
 use Rattle.spec.specs.Primitives.{prg}
 use Rattle.spec.specs.Leaves.{nodeAt, leafKey, children, hashKey, stretched, leafSeed, leafCommitment, vectorCommitments, leafCommitments, vectorHash, commitmentOf}
-use Rattle.spec.specs.Rows.{rowByte, uByte, columnByte, matrixOf}
+use Rattle.spec.specs.Rows.{rowByte, stretchByte, uByte, columnByte, matrixOf}
 use Rattle.spec.specs.Signer.{signerTree, signerLeafCommitment, signerU, signerColumn, correction, corrections, leafCommitmentAt, openingOf}
 use Rattle.spec.specs.Verifier.{hiddenLeafCommitment, slot, givenNode, reconstructedChildren, reconstructedTree, verifierLeafCommitment, correctionByte, verifierColumn}
 use Rattle.spec.specs.Calls.{committed, reconstructed}
@@ -19,6 +20,9 @@ use Rattle.spec.proofs.StandIns.{standIn}
 
 abbrev shape : Shape
 shape = record { tau = 3; k = 3; w = 119; t = 9 }
+
+abbrev whole : Stretch
+whole = record { first = 0; width = 18 }
 
 abbrev root : List ℕ
 root = 1 ∷ 8 ∷ 15 ∷ 22 ∷ 29 ∷ 36 ∷ 43 ∷ 50 ∷ 57 ∷ 64 ∷ 71 ∷ 78 ∷ 85 ∷ 92 ∷ 99 ∷ 106 ∷ []
@@ -56,6 +60,10 @@ verifier-tree = 0 ∷ 0 ∷ 0 ∷ 0 ∷ 0 ∷ 0 ∷ 0 ∷ 0 ∷ 0 ∷ 0 ∷ 0 �
 abbrev verifier-q : List ℕ
 verifier-q = 32 ∷ 218 ∷ 40 ∷ 94 ∷ 192 ∷ 250 ∷ 216 ∷ 150 ∷ 224 ∷ 10 ∷ 24 ∷ 46 ∷ 128 ∷ 170 ∷ 232 ∷ 214 ∷ 32 ∷ 186 ∷ 95 ∷ 69 ∷ 75 ∷ 37 ∷ 55 ∷ 45 ∷ 251 ∷ 205 ∷ 207 ∷ 5 ∷ 123 ∷ 229 ∷ 23 ∷ 157 ∷ 203 ∷ 253 ∷ 191 ∷ 69 ∷ 159 ∷ 186 ∷ 135 ∷ 102 ∷ 135 ∷ 162 ∷ 31 ∷ 6 ∷ 47 ∷ 218 ∷ 7 ∷ 54 ∷ 7 ∷ 18 ∷ 79 ∷ 246 ∷ 191 ∷ 122 ∷ 200 ∷ 108 ∷ 104 ∷ 140 ∷ 56 ∷ 20 ∷ 152 ∷ 36 ∷ 152 ∷ 92 ∷ 120 ∷ 252 ∷ 200 ∷ 20 ∷ 232 ∷ 100 ∷ 8 ∷ 108 ∷ 168 ∷ 33 ∷ 156 ∷ 33 ∷ 232 ∷ 9 ∷ 228 ∷ 185 ∷ 24 ∷ 81 ∷ 44 ∷ 241 ∷ 24 ∷ 233 ∷ 68 ∷ 89 ∷ 40 ∷ 65 ∷ 209 ∷ 204 ∷ 197 ∷ 60 ∷ 65 ∷ 140 ∷ 253 ∷ 28 ∷ 17 ∷ 140 ∷ 69 ∷ 188 ∷ 193 ∷ 108 ∷ 173 ∷ 124 ∷ 177 ∷ 236 ∷ 24 ∷ 60 ∷ 120 ∷ 172 ∷ 168 ∷ 180 ∷ 88 ∷ 116 ∷ 104 ∷ 44 ∷ 8 ∷ 60 ∷ 248 ∷ 20 ∷ 168 ∷ 148 ∷ 120 ∷ 92 ∷ 128 ∷ 244 ∷ 64 ∷ 60 ∷ 32 ∷ 252 ∷ 0 ∷ 84 ∷ 0 ∷ 244 ∷ 224 ∷ 12 ∷ 64 ∷ 76 ∷ 192 ∷ 52 ∷ 0 ∷ 20 ∷ 211 ∷ 123 ∷ 175 ∷ 103 ∷ 3 ∷ 27 ∷ 103 ∷ 207 ∷ 179 ∷ 75 ∷ 255 ∷ 7 ∷ 163 ∷ 139 ∷ 231 ∷ 255 ∷ 179 ∷ 91 ∷ []
 
+-- the stretch z of the rows of a tree
+abbrev rows : Stretch → List ℕ → ℕ → ℕ → ℕ → ℕ
+rows z tree = stretchByte standIn shape z iv tree
+
 -- ---- commit
 
 tree-of-root : signerTree standIn shape root iv ≡ signer-tree
@@ -70,20 +78,20 @@ hash-of-tree : commitmentOf standIn shape (signerLeafCommitment standIn shape iv
 unfolding tabulate level nodeBytes leafCommitmentBytes leaves leafOf prg nodeAt leafKey stretched leafSeed concat depthOf entriesOf hashKey leafCommitment vectorCommitments vectorHash commitmentOf signerLeafCommitment deeper
 hash-of-tree = refl
 
-u-of-tree : signerU standIn shape 18 iv signer-tree ≡ signer-u
-unfolding tabulate level nodeBytes leafCommitmentBytes leaves leafOf prg nodeAt leafKey stretched leafSeed xorBelow depthOf entriesOf rowByte uByte signerU deeper
+u-of-tree : signerU shape 18 (rows whole signer-tree) ≡ signer-u
+unfolding tabulate level nodeBytes leafCommitmentBytes leaves leafOf prg nodeAt leafKey stretched leafSeed xorBelow depthOf entriesOf rowByte stretchByte uByte signerU deeper
 u-of-tree = refl
 
-v-of-tree : matrixOf shape 18 (signerColumn standIn shape 18 iv signer-tree) ≡ signer-v ++ zeros (18 * 119)
-unfolding tabulate level nodeBytes leafCommitmentBytes leaves leafOf prg nodeAt leafKey stretched leafSeed xorBelow depthOf entriesOf rowByte concat zeros columnByte matrixOf signerColumn deeper
+v-of-tree : matrixOf shape 18 (signerColumn shape 18 (rows whole signer-tree)) ≡ signer-v ++ zeros (18 * 119)
+unfolding tabulate level nodeBytes leafCommitmentBytes leaves leafOf prg nodeAt leafKey stretched leafSeed xorBelow depthOf entriesOf rowByte stretchByte concat zeros columnByte matrixOf signerColumn deeper
 v-of-tree = refl
 
-corrections-of-tree : corrections standIn shape 18 iv signer-tree ≡ signer-corrections
-unfolding tabulate level nodeBytes leafCommitmentBytes leaves leafOf prg nodeAt leafKey stretched leafSeed xorBelow depthOf entriesOf rowByte concat uByte correction corrections deeper
+corrections-of-tree : corrections shape 18 (rows whole signer-tree) ≡ signer-corrections
+unfolding tabulate level nodeBytes leafCommitmentBytes leaves leafOf prg nodeAt leafKey stretched leafSeed xorBelow depthOf entriesOf rowByte stretchByte concat uByte correction corrections deeper
 corrections-of-tree = refl
 
 pub commits :
-    let x = committed standIn shape 18 root iv in
+    let x = committed standIn shape whole root iv in
     (x .commitment ≡ signer-commitment)
     × (x .tree ≡ signer-tree)
     × (x .leafCommitments ≡ signer-leaf-commitments)
@@ -95,9 +103,9 @@ commits = (
   ap (λ (tree : List ℕ). commitmentOf standIn shape (signerLeafCommitment standIn shape iv tree)) tree-of-root ∙ hash-of-tree,
   tree-of-root,
   ap (λ (tree : List ℕ). leafCommitments shape (signerLeafCommitment standIn shape iv tree)) tree-of-root ∙ commitments-of-tree,
-  ap (signerU standIn shape 18 iv) tree-of-root ∙ u-of-tree,
-  ap (λ (tree : List ℕ). matrixOf shape 18 (signerColumn standIn shape 18 iv tree)) tree-of-root ∙ v-of-tree,
-  ap (corrections standIn shape 18 iv) tree-of-root ∙ corrections-of-tree,
+  ap (λ (tree : List ℕ). signerU shape 18 (rows whole tree)) tree-of-root ∙ u-of-tree,
+  ap (λ (tree : List ℕ). matrixOf shape 18 (signerColumn shape 18 (rows whole tree))) tree-of-root ∙ v-of-tree,
+  ap (λ (tree : List ℕ). corrections shape 18 (rows whole tree)) tree-of-root ∙ corrections-of-tree,
 )
 
 -- ---- open
@@ -120,12 +128,12 @@ hash-again : commitmentOf standIn shape (verifierLeafCommitment standIn shape iv
 unfolding tabulate level nodeBytes leafCommitmentBytes leaves leafOf prg nodeAt leafKey stretched leafSeed concat depthOf entriesOf hashKey leafCommitment number bitAt bitsAt indexAt firstBit hiddenIndex hiddenLeafCommitment verifierLeafCommitment vectorCommitments vectorHash commitmentOf deeper
 hash-again = refl
 
-q-of-tree : matrixOf shape 18 (verifierColumn standIn shape 18 iv challenge signer-corrections verifier-tree) ≡ verifier-q ++ zeros (18 * 119)
-unfolding tabulate level nodeBytes leafCommitmentBytes leaves leafOf prg nodeAt leafKey stretched leafSeed xorBelow depthOf entriesOf rowByte number bitAt bitsAt indexAt firstBit hiddenIndex concat zeros columnByte matrixOf correctionByte verifierColumn deeper
+q-of-tree : matrixOf shape 18 (verifierColumn shape 18 (rows whole verifier-tree) challenge signer-corrections) ≡ verifier-q ++ zeros (18 * 119)
+unfolding tabulate level nodeBytes leafCommitmentBytes leaves leafOf prg nodeAt leafKey stretched leafSeed xorBelow depthOf entriesOf rowByte stretchByte number bitAt bitsAt indexAt firstBit hiddenIndex concat zeros columnByte matrixOf correctionByte verifierColumn deeper
 q-of-tree = refl
 
 pub reconstructs :
-    let x = reconstructed standIn shape 18 iv challenge signer-corrections opening in
+    let x = reconstructed standIn shape whole iv challenge signer-corrections opening in
     (x .commitment ≡ signer-commitment)
     × (x .tree ≡ verifier-tree)
     × (x .leafCommitments ≡ signer-leaf-commitments)
@@ -135,5 +143,5 @@ reconstructs = (
   ap (λ (tree : List ℕ). commitmentOf standIn shape (verifierLeafCommitment standIn shape iv challenge opening tree)) tree-of-opening ∙ hash-again,
   tree-of-opening,
   ap (λ (tree : List ℕ). leafCommitments shape (verifierLeafCommitment standIn shape iv challenge opening tree)) tree-of-opening ∙ commitments-again,
-  ap (λ (tree : List ℕ). matrixOf shape 18 (verifierColumn standIn shape 18 iv challenge signer-corrections tree)) tree-of-opening ∙ q-of-tree,
+  ap (λ (tree : List ℕ). matrixOf shape 18 (verifierColumn shape 18 (rows whole tree) challenge signer-corrections)) tree-of-opening ∙ q-of-tree,
 )

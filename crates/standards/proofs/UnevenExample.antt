@@ -5,13 +5,14 @@ use Prim.Native.Nat.{ℕ, _*_}
 use mathlib.Core.Path.{_≡_, refl, ap, _∙_}
 use mathlib.Core.List.{List, [], _∷_, _++_}
 use Rattle.spec.specs.declared.Shape.{Shape}
+use Rattle.spec.specs.declared.Stretch.{Stretch}
 use Rattle.spec.specs.Bytes.{tabulate, concat, zeros, xorBelow, number, indexOf}
 use Rattle.spec.specs.Tree.{parent, isAncestorWithin, isAncestor, some, covered, siblingToReveal, revealedFrom, revealed, nodeCount, expandTree}
 use Rattle.spec.specs.Challenge.{bitAt, bitsAt, indexAt}
 use Rattle.spec.specs.Shapes.{level, nodeBytes, leafCommitmentBytes, deeper, depthOf, entriesOf, firstBit, firstEntry, leaves, leafOf, hiddenIndex, hiddenLeaf, hiddenLeaves, planned, plannedCount}
 use Rattle.spec.specs.Primitives.{prg}
 use Rattle.spec.specs.Leaves.{nodeAt, leafKey, children, hashKey, stretched, leafSeed, leafCommitment, vectorCommitments, leafCommitments, vectorHash, commitmentOf}
-use Rattle.spec.specs.Rows.{rowByte, uByte, columnByte, matrixOf}
+use Rattle.spec.specs.Rows.{rowByte, stretchByte, uByte, columnByte, matrixOf}
 use Rattle.spec.specs.Signer.{signerTree, signerLeafCommitment, signerU, signerColumn, correction, corrections, leafCommitmentAt, openingOf}
 use Rattle.spec.specs.Verifier.{hiddenLeafCommitment, slot, givenNode, reconstructedChildren, reconstructedTree, verifierLeafCommitment, correctionByte, verifierColumn}
 use Rattle.spec.specs.Calls.{committed, reconstructed}
@@ -19,6 +20,9 @@ use Rattle.spec.proofs.StandIns.{standIn}
 
 abbrev shape : Shape
 shape = record { tau = 3; k = 1; w = 123; t = 6 }
+
+abbrev whole : Stretch
+whole = record { first = 0; width = 2 }
 
 abbrev root : List ℕ
 root = 1 ∷ 8 ∷ 15 ∷ 22 ∷ 29 ∷ 36 ∷ 43 ∷ 50 ∷ 57 ∷ 64 ∷ 71 ∷ 78 ∷ 85 ∷ 92 ∷ 99 ∷ 106 ∷ []
@@ -56,6 +60,10 @@ verifier-tree = 0 ∷ 0 ∷ 0 ∷ 0 ∷ 0 ∷ 0 ∷ 0 ∷ 0 ∷ 0 ∷ 0 ∷ 0 �
 abbrev verifier-q : List ℕ
 verifier-q = 200 ∷ 76 ∷ 159 ∷ 248 ∷ 135 ∷ 97 ∷ 184 ∷ 57 ∷ 214 ∷ 81 ∷ []
 
+-- the stretch z of the rows of a tree
+abbrev rows : Stretch → List ℕ → ℕ → ℕ → ℕ → ℕ
+rows z tree = stretchByte standIn shape z iv tree
+
 -- ---- commit
 
 tree-of-root : signerTree standIn shape root iv ≡ signer-tree
@@ -70,20 +78,20 @@ hash-of-tree : commitmentOf standIn shape (signerLeafCommitment standIn shape iv
 unfolding tabulate level nodeBytes leafCommitmentBytes leaves leafOf prg nodeAt leafKey stretched leafSeed concat depthOf entriesOf hashKey leafCommitment vectorCommitments vectorHash commitmentOf signerLeafCommitment deeper
 hash-of-tree = refl
 
-u-of-tree : signerU standIn shape 2 iv signer-tree ≡ signer-u
-unfolding tabulate level nodeBytes leafCommitmentBytes leaves leafOf prg nodeAt leafKey stretched leafSeed xorBelow depthOf entriesOf rowByte uByte signerU deeper
+u-of-tree : signerU shape 2 (rows whole signer-tree) ≡ signer-u
+unfolding tabulate level nodeBytes leafCommitmentBytes leaves leafOf prg nodeAt leafKey stretched leafSeed xorBelow depthOf entriesOf rowByte stretchByte uByte signerU deeper
 u-of-tree = refl
 
-v-of-tree : matrixOf shape 2 (signerColumn standIn shape 2 iv signer-tree) ≡ signer-v ++ zeros (2 * 123)
-unfolding tabulate level nodeBytes leafCommitmentBytes leaves leafOf prg nodeAt leafKey stretched leafSeed xorBelow depthOf entriesOf rowByte concat zeros columnByte matrixOf signerColumn deeper
+v-of-tree : matrixOf shape 2 (signerColumn shape 2 (rows whole signer-tree)) ≡ signer-v ++ zeros (2 * 123)
+unfolding tabulate level nodeBytes leafCommitmentBytes leaves leafOf prg nodeAt leafKey stretched leafSeed xorBelow depthOf entriesOf rowByte stretchByte concat zeros columnByte matrixOf signerColumn deeper
 v-of-tree = refl
 
-corrections-of-tree : corrections standIn shape 2 iv signer-tree ≡ signer-corrections
-unfolding tabulate level nodeBytes leafCommitmentBytes leaves leafOf prg nodeAt leafKey stretched leafSeed xorBelow depthOf entriesOf rowByte concat uByte correction corrections deeper
+corrections-of-tree : corrections shape 2 (rows whole signer-tree) ≡ signer-corrections
+unfolding tabulate level nodeBytes leafCommitmentBytes leaves leafOf prg nodeAt leafKey stretched leafSeed xorBelow depthOf entriesOf rowByte stretchByte concat uByte correction corrections deeper
 corrections-of-tree = refl
 
 pub commits :
-    let x = committed standIn shape 2 root iv in
+    let x = committed standIn shape whole root iv in
     (x .commitment ≡ signer-commitment)
     × (x .tree ≡ signer-tree)
     × (x .leafCommitments ≡ signer-leaf-commitments)
@@ -95,9 +103,9 @@ commits = (
   ap (λ (tree : List ℕ). commitmentOf standIn shape (signerLeafCommitment standIn shape iv tree)) tree-of-root ∙ hash-of-tree,
   tree-of-root,
   ap (λ (tree : List ℕ). leafCommitments shape (signerLeafCommitment standIn shape iv tree)) tree-of-root ∙ commitments-of-tree,
-  ap (signerU standIn shape 2 iv) tree-of-root ∙ u-of-tree,
-  ap (λ (tree : List ℕ). matrixOf shape 2 (signerColumn standIn shape 2 iv tree)) tree-of-root ∙ v-of-tree,
-  ap (corrections standIn shape 2 iv) tree-of-root ∙ corrections-of-tree,
+  ap (λ (tree : List ℕ). signerU shape 2 (rows whole tree)) tree-of-root ∙ u-of-tree,
+  ap (λ (tree : List ℕ). matrixOf shape 2 (signerColumn shape 2 (rows whole tree))) tree-of-root ∙ v-of-tree,
+  ap (λ (tree : List ℕ). corrections shape 2 (rows whole tree)) tree-of-root ∙ corrections-of-tree,
 )
 
 -- ---- open
@@ -120,12 +128,12 @@ hash-again : commitmentOf standIn shape (verifierLeafCommitment standIn shape iv
 unfolding tabulate level nodeBytes leafCommitmentBytes leaves leafOf prg nodeAt leafKey stretched leafSeed concat depthOf entriesOf hashKey leafCommitment number bitAt bitsAt indexAt firstBit hiddenIndex hiddenLeafCommitment verifierLeafCommitment vectorCommitments vectorHash commitmentOf deeper
 hash-again = refl
 
-q-of-tree : matrixOf shape 2 (verifierColumn standIn shape 2 iv challenge signer-corrections verifier-tree) ≡ verifier-q ++ zeros (2 * 123)
-unfolding tabulate level nodeBytes leafCommitmentBytes leaves leafOf prg nodeAt leafKey stretched leafSeed xorBelow depthOf entriesOf rowByte number bitAt bitsAt indexAt firstBit hiddenIndex concat zeros columnByte matrixOf correctionByte verifierColumn deeper
+q-of-tree : matrixOf shape 2 (verifierColumn shape 2 (rows whole verifier-tree) challenge signer-corrections) ≡ verifier-q ++ zeros (2 * 123)
+unfolding tabulate level nodeBytes leafCommitmentBytes leaves leafOf prg nodeAt leafKey stretched leafSeed xorBelow depthOf entriesOf rowByte stretchByte number bitAt bitsAt indexAt firstBit hiddenIndex concat zeros columnByte matrixOf correctionByte verifierColumn deeper
 q-of-tree = refl
 
 pub reconstructs :
-    let x = reconstructed standIn shape 2 iv challenge signer-corrections opening in
+    let x = reconstructed standIn shape whole iv challenge signer-corrections opening in
     (x .commitment ≡ signer-commitment)
     × (x .tree ≡ verifier-tree)
     × (x .leafCommitments ≡ signer-leaf-commitments)
@@ -135,5 +143,5 @@ reconstructs = (
   ap (λ (tree : List ℕ). commitmentOf standIn shape (verifierLeafCommitment standIn shape iv challenge opening tree)) tree-of-opening ∙ hash-again,
   tree-of-opening,
   ap (λ (tree : List ℕ). leafCommitments shape (verifierLeafCommitment standIn shape iv challenge opening tree)) tree-of-opening ∙ commitments-again,
-  ap (λ (tree : List ℕ). matrixOf shape 2 (verifierColumn standIn shape 2 iv challenge signer-corrections tree)) tree-of-opening ∙ q-of-tree,
+  ap (λ (tree : List ℕ). matrixOf shape 2 (verifierColumn shape 2 (rows whole tree) challenge signer-corrections)) tree-of-opening ∙ q-of-tree,
 )

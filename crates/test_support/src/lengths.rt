@@ -1,6 +1,37 @@
 // The exact lengths of the buffers of a shape. Of a shape that is refused any lengths will do.
 ghost use Prim.Native.Nat.{_≤_};
 use spec::Shape;
+use spec::Stretch;
+
+// The rows of a case: their length in bits, and the stretch that is asked for. Where `whole` is true the calls are those of whole rows, and the stretch is the row.
+pub struct Rows {
+    pub bits: usize,
+    pub whole: bool,
+    pub stretch: Stretch,
+}
+
+// Whole rows of so many bits.
+pub fn whole(bits: usize) -> Rows {
+    let stretch = Stretch {
+        first: 0,
+        width: bits / 8,
+    };
+    Rows {
+        bits,
+        whole: true,
+        stretch,
+    }
+}
+
+// Of rows of so many bits, `width` bytes from byte `first` on.
+pub fn part(bits: usize, first: usize, width: usize) -> Rows {
+    let stretch = Stretch { first, width };
+    Rows {
+        bits,
+        whole: false,
+        stretch,
+    }
+}
 
 pub struct Lengths {
     pub commitment: usize,
@@ -50,10 +81,10 @@ fn opening(s: Shape) -> usize {
     48 * at_most(s.tau, 32) + 16 * at_most(s.t, 512)
 }
 
-// The lengths for a shape and a row length.
-pub fn of(shape: Shape, row_bits: usize) -> Lengths {
+// The lengths for a shape and rows.
+pub fn of(shape: Shape, rows: Rows) -> Lengths {
     let s = rules::resolve(shape);
-    let b = at_most(row_bits / 8, 8192);
+    let b = at_most(rows.stretch.width, 8192);
     let n = leaves(s);
     Lengths {
         commitment: 32,

@@ -12,12 +12,12 @@ use lib.Seq.{drop-at}
 use Rattle.spec.specs.declared.Shape.{Shape}
 use Rattle.spec.specs.Bytes.{part, concat, zeros, allZero}
 use Rattle.spec.specs.Tree.{revealed}
-use Rattle.spec.specs.Shapes.{nodeBytes, leafCommitmentBytes, depthOf, entriesOf, firstBit, firstEntry, leaves, hiddenIndex, hiddenLeaves, planned, plannedCount, treeBytes, leafCommitmentsBytes, openingBytes}
+use Rattle.spec.specs.Shapes.{level, nodeBytes, leafCommitmentBytes, depthOf, entriesOf, firstBit, firstEntry, leaves, hiddenIndex, hiddenLeaves, planned, plannedCount, treeBytes, leafCommitmentsBytes, openingBytes}
 use Rattle.spec.specs.Leaves.{nodeAt, vectorCommitments, leafCommitments}
 use Rattle.spec.specs.Rows.{matrixOf}
 use Rattle.spec.specs.Signer.{leafCommitmentAt, openingOf}
 use Rattle.spec.specs.Verifier.{hiddenLeafCommitment, slot, slotsOk}
-use Rattle.laws.proofs.Stretches.{stretch-before}
+use Rattle.laws.proofs.Segments.{segment-before}
 use Rattle.laws.proofs.Lists.{length-part, length-zeros}
 use Rattle.laws.proofs.Concat.{part-front, part-after, laid-length, laid-part, even-length, even-part, concat-same, mul-within}
 use Rattle.planning_laws.proofs.Revealed.{revealed-low}
@@ -144,34 +144,43 @@ opening-same s ch tree tree₂ lcs lcs₂ f g =
 -- ---- a matrix
 
 module _ (s : Shape) (f : ShapeLaws s) (b : ℕ) (column : ℕ → ℕ → List ℕ) (long : (i j : ℕ) → length (column i j) ≡ b) where
-  abbrev Stretch : ℕ → List ℕ
-  Stretch i = concat (depthOf s i) (column i)
+  abbrev Segment : ℕ → List ℕ
+  Segment i = concat (depthOf s i) (column i)
 
-  stretch-length : (i : ℕ) → length (Stretch i) ≡ b * depthOf s i
-  stretch-length i = even-length (column i) b (depthOf s i) (λ j l. long i j)
+  segment-length : (i : ℕ) → length (Segment i) ≡ b * depthOf s i
+  segment-length i = even-length (column i) b (depthOf s i) (λ j l. long i j)
 
-  m-laid : (i : ℕ) → i < s .tau → b * firstBit s (suc i) ≡ b * firstBit s i + length (Stretch i)
+  m-laid : (i : ℕ) → i < s .tau → b * firstBit s (suc i) ≡ b * firstBit s i + length (Segment i)
   m-laid i h =
-      ap (λ (n : ℕ). b * n) (f .bit-next i) ∙ mul-add b (firstBit s i) (depthOf s i) ∙ ap (λ (n : ℕ). b * firstBit s i + n) (sym (stretch-length i))
+      ap (λ (n : ℕ). b * n) (f .bit-next i) ∙ mul-add b (firstBit s i) (depthOf s i) ∙ ap (λ (n : ℕ). b * firstBit s i + n) (sym (segment-length i))
 
   m-none : b * firstBit s 0 ≡ 0
   m-none = ap (λ (n : ℕ). b * n) (f .bit-none) ∙ mul-zero b
 
-  m-length : length (concat (s .tau) Stretch) ≡ b * firstBit s (s .tau)
-  m-length = laid-length Stretch (λ i. b * firstBit s i) m-none (s .tau) m-laid
+  m-length : length (concat (s .tau) Segment) ≡ b * firstBit s (s .tau)
+  m-length = laid-length Segment (λ i. b * firstBit s i) m-none (s .tau) m-laid
 
   pub matrix-column : (i j : ℕ) → i < s .tau → j < depthOf s i → part (matrixOf s b column) (b * (firstBit s i + j)) b ≡ column i j
   unfolding matrixOf
   matrix-column i j h l =
       let a = m-length in
-      let c = stretch-before (firstBit s) (depthOf s) (s .tau) i (λ n m. f .bit-next n) h in
+      let c = segment-before (firstBit s) (depthOf s) (s .tau) i (λ n m. f .bit-next n) h in
       let d = mul-within b (firstBit s i + j) (firstBit s (s .tau)) (omega arith) in
-      let e = stretch-length i in
+      let e = segment-length i in
       let g = mul-within b j (depthOf s i) l in
-      part-front (concat (s .tau) Stretch) (zeros (b * s .w)) (b * (firstBit s i + j)) b (omega arith)
-      ∙ ap (λ (n : ℕ). part (concat (s .tau) Stretch) n b) (mul-add b (firstBit s i) j)
-      ∙ laid-part Stretch (λ i. b * firstBit s i) m-none (s .tau) i (b * j) b m-laid h (omega arith)
+      part-front (concat (s .tau) Segment) (zeros (b * s .w)) (b * (firstBit s i + j)) b (omega arith)
+      ∙ ap (λ (n : ℕ). part (concat (s .tau) Segment) n b) (mul-add b (firstBit s i) j)
+      ∙ laid-part Segment (λ i. b * firstBit s i) m-none (s .tau) i (b * j) b m-laid h (omega arith)
       ∙ even-part (column i) b (depthOf s i) j (λ j l. long i j) l
+
+  pub matrix-length : length (matrixOf s b column) ≡ b * level s
+  unfolding matrixOf
+  matrix-length =
+      let a = m-length in
+      let z = length-zeros (b * s .w) in
+      let d = mul-add b (firstBit s (s .tau)) (s .w) in
+      let e : b * (firstBit s (s .tau) + s .w) ≡ b * level s = ap (λ (n : ℕ). b * n) (f .bit-all) in
+      simp length-append (omega arith)
 
   -- the columns of the grinding bits
   pub matrix-rest : (c : ℕ) → part (matrixOf s b column) (b * (firstBit s (s .tau) + c)) b ≡ part (zeros (b * s .w)) (b * c) b
@@ -179,7 +188,7 @@ module _ (s : Shape) (f : ShapeLaws s) (b : ℕ) (column : ℕ → ℕ → List 
   matrix-rest c =
       let a = m-length in
       let d = mul-add b (firstBit s (s .tau)) c in
-      part-after (concat (s .tau) Stretch) (zeros (b * s .w)) (b * (firstBit s (s .tau) + c)) (b * c) b (omega arith)
+      part-after (concat (s .tau) Segment) (zeros (b * s .w)) (b * (firstBit s (s .tau) + c)) (b * c) b (omega arith)
 
 -- a column before the grinding bits is column j of some vector i
 pub record At (s : Shape) (n c : ℕ) : Type 0 where

@@ -9,27 +9,32 @@ use lib.Dec.{eqb, leb}
 use lib.ListN.{length}
 use borrow.Author.Tests.{eq-eqb, le-leb, lt-leb, leb-false}
 use Rattle.spec.specs.declared.Shape.{Shape}
+use Rattle.spec.specs.declared.Stretch.{Stretch}
 use Rattle.spec.specs.declared.Answer.{Answer}
 use Rattle.spec.specs.Shapes.{resolved, shapeOk, challengeBytes, hashBytes, grindingOk, plannedCount, treeBytes, leafCommitmentsBytes, openingBytes, matrixBytes}
 use Rattle.spec.specs.Primitives.{Primitives}
 use Rattle.spec.specs.Leaves.{leafCommitments}
+use Rattle.spec.specs.Rows.{stretchByte}
 use Rattle.spec.specs.Signer.{signerTree, signerLeafCommitment, corrections, openingOf}
-use Rattle.spec.specs.Verifier.{slotsOk}
-use Rattle.spec.specs.Calls.{firstRefusal, fits, countWith, written, rowOk, nodesOk, Committed, committed, commitLengths, commitNumber, openLengths, openNumber, Open, Reconstructed, reconstructed, reconstructLengths, reconstructNumber, Reconstruct}
+use Rattle.spec.specs.Verifier.{slotsOk, reconstructedTree}
+use Rattle.spec.specs.Calls.{firstRefusal, fits, countWith, written, rowOk, wholeRow, stretchOk, nodesOk, Committed, committed, commitLengths, commitStretchNumber, CommitStretch, planNumber, openLengths, Open, Reconstructed, reconstructed, reconstructLengths, reconstructStretchNumber, ReconstructStretch}
 use Rattle.planning_laws.proofs.ShapeLaws.{shape-laws}
 use Rattle.laws.specs.Lengths.{Sized}
 use Rattle.laws.proofs.Lengths.{sized-fits, fits-sized}
+use Rattle.laws.proofs.Calls.{written-zero, whole-ok, whole-commit, whole-reconstruct}
 use Rattle.theorems.specs.Demands.{Accepted, Five, Demand3, OpeningDepends}
 use Rattle.theorems.proofs.Buffers.{opening-length, opening-rest, opening-same}
-use Rattle.theorems.proofs.Reconstruction.{tree-length, signer-commitments-length, corrections-length, node-same, node-zero, commitment-same, leaf-commitments-same, column-rule}
+use Rattle.theorems.proofs.Reconstruction.{tree-length, signer-commitments-length, node-same, node-zero, commitment-same, leaf-commitments-same, row-same}
+use Rattle.theorems.proofs.ColumnRule.{corrections-length, column-rule}
 
 -- ---- tests
 
-all3 : (a b c : Bool) → firstRefusal ((a, 1) ∷ (b, 2) ∷ (c, 3) ∷ []) ≡ 0 → (a ≡ true) × (b ≡ true) × (c ≡ true)
-all3 false b c h = absurd (omega arith)
-all3 true false c h = absurd (omega arith)
-all3 true true false h = absurd (omega arith)
-all3 true true true h = (refl, refl, refl)
+all4 : (a b c d : Bool) → firstRefusal ((a, 1) ∷ (b, 2) ∷ (c, 8) ∷ (d, 3) ∷ []) ≡ 0 → (a ≡ true) × (b ≡ true) × (c ≡ true) × (d ≡ true)
+all4 false b c d h = absurd (omega arith)
+all4 true false c d h = absurd (omega arith)
+all4 true true false d h = absurd (omega arith)
+all4 true true true false h = absurd (omega arith)
+all4 true true true true h = (refl, refl, refl, refl)
 
 -- ---- the number 5
 
@@ -54,16 +59,16 @@ five-of s ch r m ne e k =
 
 open-five : (s : Shape) (ch tree lcs opening opening′ : List ℕ) (r : Answer) → Open s ch tree lcs opening opening′ r
     → shapeOk (resolved s) ≡ true → Sized (openLengths (resolved s) ch tree lcs opening) → Five (resolved s) ch r
-unfolding openNumber nodesOk
+unfolding planNumber nodesOk
 open-five s ch tree lcs opening opening′ r o sh z =
     five-of (resolved s) ch r 0 refl (o .number ∙ rw (sh, sized-fits (openLengths (resolved s) ch tree lcs opening) z) refl) (o .count)
 
-check-five : (P : Primitives) (s : Shape) (n : ℕ) (iv ch corrections opening : List ℕ) (x x′ : Reconstructed) (r : Answer) → Reconstruct P s n iv ch corrections opening x x′ r
-    → shapeOk (resolved s) ≡ true → rowOk n ≡ true → Sized (reconstructLengths (resolved s) (n / 8) iv ch corrections opening x) → Five (resolved s) ch r
-unfolding reconstructNumber nodesOk
-check-five P s n iv ch corrections opening x x′ r o sh ro z =
+check-five : (P : Primitives) (s : Shape) (n : ℕ) (z : Stretch) (iv ch corrections opening : List ℕ) (x x′ : Reconstructed) (r : Answer) → ReconstructStretch P s n z iv ch corrections opening x x′ r
+    → shapeOk (resolved s) ≡ true → rowOk n ≡ true → stretchOk (n / 8) z ≡ true → Sized (reconstructLengths (resolved s) (z .width) iv ch corrections opening x) → Five (resolved s) ch r
+unfolding reconstructStretchNumber nodesOk
+check-five P s n z iv ch corrections opening x x′ r o sh ro st l =
     five-of (resolved s) ch r (cond (slotsOk (resolved s) ch opening) 0 6) (no-five (slotsOk (resolved s) ch opening))
-    (o .number ∙ rw (sh, ro, sized-fits (reconstructLengths (resolved s) (n / 8) iv ch corrections opening x) z) refl) (o .count)
+    (o .number ∙ rw (sh, ro, st, sized-fits (reconstructLengths (resolved s) (z .width) iv ch corrections opening x) l) refl) (o .count)
   where
     no-five : (b : Bool) → eqb (cond b 0 6) 5 ≡ false
     no-five true = refl
@@ -72,58 +77,54 @@ check-five P s n iv ch corrections opening x x′ r o sh ro z =
 -- ---- the three calls after one another
 
 open-zero : (s : Shape) (ch tree lcs opening : List ℕ) → shapeOk s ≡ true → Sized (openLengths s ch tree lcs opening) → grindingOk s ch ≡ true → plannedCount s ch ≤ s .t
-    → openNumber s ch tree lcs opening ≡ 0
-unfolding openNumber nodesOk
+    → planNumber s ch (openLengths s ch tree lcs opening) ≡ 0
+unfolding planNumber nodesOk
 open-zero s ch tree lcs opening a b c d = rw (a, sized-fits (openLengths s ch tree lcs opening) b, c, le-leb (plannedCount s ch) (s .t) d) refl
 
-check-zero : (s : Shape) (n : ℕ) (iv ch corrections opening : List ℕ) (x : Reconstructed) → shapeOk s ≡ true → rowOk n ≡ true
-    → Sized (reconstructLengths s (n / 8) iv ch corrections opening x) → grindingOk s ch ≡ true → plannedCount s ch ≤ s .t → slotsOk s ch opening ≡ true
-    → reconstructNumber s n iv ch corrections opening x ≡ 0
-unfolding reconstructNumber nodesOk
-check-zero s n iv ch corrections opening x a b c d e g =
-    rw (a, b, sized-fits (reconstructLengths s (n / 8) iv ch corrections opening x) c, d, le-leb (plannedCount s ch) (s .t) e, g) refl
+check-zero : (s : Shape) (n : ℕ) (z : Stretch) (ch opening : List ℕ) (lengths : List (ℕ × ℕ)) → shapeOk s ≡ true → rowOk n ≡ true → stretchOk (n / 8) z ≡ true
+    → Sized lengths → grindingOk s ch ≡ true → plannedCount s ch ≤ s .t → slotsOk s ch opening ≡ true → reconstructStretchNumber s n z ch opening lengths ≡ 0
+unfolding reconstructStretchNumber nodesOk
+check-zero s n z ch opening lengths a b k c d e g = rw (a, b, k, sized-fits lengths c, d, le-leb (plannedCount s ch) (s .t) e, g) refl
 
 count-zero : (m n : ℕ) → m ≡ 0 → countWith m n ≡ n
 unfolding countWith
 count-zero m n e = rw e refl
 
-written-zero : {A : Type 0} (m : ℕ) (new old : A) → m ≡ 0 → written m new old ≡ new
-written-zero m new old e = rw e refl
-
 module _ (P : Primitives) where
   -- with the resolved shape s and the signer's bytes written out
-  told : (s : Shape) (n : ℕ) (root iv ch opening opening′ : List ℕ) (signer : Committed) (verifier verifier′ : Reconstructed) (opened checked : Answer)
-      → shapeOk s ≡ true → rowOk n ≡ true → Sized (commitLengths s (n / 8) root iv signer)
-      → opened .number ≡ openNumber s ch (committed P s (n / 8) root iv .tree) (committed P s (n / 8) root iv .leafCommitments) opening
+  told : (s : Shape) (n : ℕ) (z : Stretch) (root iv ch opening opening′ : List ℕ) (signer : Committed) (verifier verifier′ : Reconstructed) (opened checked : Answer)
+      → shapeOk s ≡ true → rowOk n ≡ true → stretchOk (n / 8) z ≡ true → Sized (commitLengths s (z .width) root iv signer)
+      → opened .number ≡ planNumber s ch (openLengths s ch (committed P s z root iv .tree) (committed P s z root iv .leafCommitments) opening)
       → opened .count ≡ countWith (opened .number) (plannedCount s ch)
-      → opening′ ≡ written (opened .number) (openingOf s ch (committed P s (n / 8) root iv .tree) (committed P s (n / 8) root iv .leafCommitments)) opening
-      → checked .number ≡ reconstructNumber s n iv ch (committed P s (n / 8) root iv .corrections) opening′ verifier
+      → opening′ ≡ written (opened .number) (openingOf s ch (committed P s z root iv .tree) (committed P s z root iv .leafCommitments)) opening
+      → checked .number ≡ reconstructStretchNumber s n z ch opening′ (reconstructLengths s (z .width) iv ch (committed P s z root iv .corrections) opening′ verifier)
       → checked .count ≡ countWith (checked .number) (plannedCount s ch)
-      → verifier′ ≡ written (checked .number) (reconstructed P s (n / 8) iv ch (committed P s (n / 8) root iv .corrections) opening′) verifier
+      → verifier′ ≡ written (checked .number) (reconstructed P s z iv ch (committed P s z root iv .corrections) opening′) verifier
       → Sized ((length ch, challengeBytes s) ∷ (length opening, openingBytes s) ∷ (length (verifier .commitment), hashBytes s)
-      ∷ (length (verifier .tree), treeBytes s) ∷ (length (verifier .leafCommitments), leafCommitmentsBytes s) ∷ (length (verifier .q), matrixBytes s (n / 8)) ∷ [])
+      ∷ (length (verifier .tree), treeBytes s) ∷ (length (verifier .leafCommitments), leafCommitmentsBytes s) ∷ (length (verifier .q), matrixBytes s (z .width)) ∷ [])
       → grindingOk s ch ≡ true → plannedCount s ch ≤ s .t
-      → Accepted s (n / 8) ch (committed P s (n / 8) root iv) opening′ verifier′ opened checked
+      → Accepted s (z .width) ch (committed P s z root iv) opening′ verifier′ opened checked
   unfolding committed reconstructed
-  told s n root iv ch opening opening′ signer verifier verifier′ opened checked sh ro cl on oc ob cn cc₂ cb z g t =
+  told s n z root iv ch opening opening′ signer verifier verifier′ opened checked sh ro st cl on oc ob cn cc₂ cb l g t =
       let f = shape-laws s sh in
-      let b = n / 8 in
+      let b = z .width in
       let root-long = cl .0 in
       let tree = signerTree P s root iv in
       let lcs = leafCommitments s (signerLeafCommitment P s iv (signerTree P s root iv)) in
+      let row = stretchByte P s z iv tree in
+      let cs = corrections s b row in
       let tl = tree-length P s f root iv root-long in
       let ml = signer-commitments-length P s f root iv root-long in
-      let o0 : opened .number ≡ 0 = on ∙ open-zero s ch tree lcs opening sh (z .0, (tl, (ml, (z .1 .0, tt)))) g t in
+      let o0 : opened .number ≡ 0 = on ∙ open-zero s ch tree lcs opening sh (l .0, (tl, (ml, (l .1 .0, tt)))) g t in
       let oo : opening′ ≡ openingOf s ch tree lcs = ob ∙ written-zero (opened .number) (openingOf s ch tree lcs) opening o0 in
       let ol = opening-length s f ch tree lcs tl ml t in
       let c0 : checked .number ≡ 0 =
-      cn ∙ check-zero s n iv ch (corrections P s b iv tree) opening′ verifier sh ro
-      (cl .1 .0, (z .0, (corrections-length P s f root iv root-long b, (ap length oo ∙ ol, (z .1 .1 .0, (z .1 .1 .1 .0, (z .1 .1 .1 .1 .0, (z .1 .1 .1 .1 .1 .0, tt)))))))) g t
+      cn ∙ check-zero s n z ch opening′ (reconstructLengths s b iv ch cs opening′ verifier) sh ro st
+      (cl .1 .0, (l .0, (corrections-length s b row, (ap length oo ∙ ol, (l .1 .1 .0, (l .1 .1 .1 .0, (l .1 .1 .1 .1 .0, (l .1 .1 .1 .1 .1 .0, tt)))))))) g t
       (ap (slotsOk s ch) oo ∙ opening-rest s f ch tree lcs tl ml) in
-      let cc₃ : verifier′ ≡ reconstructed P s b iv ch (corrections P s b iv tree) (openingOf s ch tree lcs) =
-      cb ∙ written-zero (checked .number) (reconstructed P s b iv ch (corrections P s b iv tree) opening′) verifier c0
-      ∙ ap (reconstructed P s b iv ch (corrections P s b iv tree)) oo in
-      subst (λ (x : Reconstructed). Accepted s b ch (committed P s b root iv) opening′ x opened checked) (sym cc₃)
+      let cc₃ : verifier′ ≡ reconstructed P s z iv ch cs (openingOf s ch tree lcs) =
+      cb ∙ written-zero (checked .number) (reconstructed P s z iv ch cs opening′) verifier c0 ∙ ap (reconstructed P s z iv ch cs) oo in
+      subst (λ (x : Reconstructed). Accepted s b ch (committed P s z root iv) opening′ x opened checked) (sym cc₃)
       record {
         open-number = o0;
         open-count = oc ∙ count-zero (opened .number) (plannedCount s ch) o0;
@@ -134,30 +135,46 @@ module _ (P : Primitives) where
         leafCommitments = leaf-commitments-same P s f root iv root-long ch;
         nodes = node-same P s f root iv root-long ch;
         hidden = node-zero P s f root iv root-long ch;
-        columns = column-rule P s f root iv root-long ch b g;
+        columns = column-rule s f ch b row (stretchByte P s z iv (reconstructedTree P s iv ch (openingOf s ch tree lcs))) (row-same P s f root iv root-long ch z) g;
       }
 
+  accepted-stretch :
+      (s : Shape) (n : ℕ) (z : Stretch) (root iv ch opening opening′ : List ℕ) (signer signer′ : Committed) (verifier verifier′ : Reconstructed) (made opened checked : Answer)
+      → CommitStretch P s n z root iv signer signer′ made → made .number ≡ 0 → Open s ch (signer′ .tree) (signer′ .leafCommitments) opening opening′ opened
+      → ReconstructStretch P s n z iv ch (signer′ .corrections) opening′ verifier verifier′ checked
+      → Sized ((length ch, challengeBytes (resolved s)) ∷ (length opening, openingBytes (resolved s)) ∷ (length (verifier .commitment), hashBytes (resolved s))
+      ∷ (length (verifier .tree), treeBytes (resolved s)) ∷ (length (verifier .leafCommitments), leafCommitmentsBytes (resolved s)) ∷ (length (verifier .q), matrixBytes (resolved s) (z .width)) ∷ [])
+      → grindingOk (resolved s) ch ≡ true → plannedCount (resolved s) ch ≤ resolved s .t
+      → Accepted (resolved s) (z .width) ch signer′ opening′ verifier′ opened checked
+  unfolding commitStretchNumber
+  accepted-stretch s n z root iv ch opening opening′ signer signer′ verifier verifier′ made opened checked c m o r l g t =
+      let lengths = commitLengths (resolved s) (z .width) root iv signer in
+      let q = all4 (shapeOk (resolved s)) (rowOk n) (stretchOk (n / 8) z) (fits lengths) (sym (c .number) ∙ m) in
+      let e : signer′ ≡ committed P (resolved s) z root iv = c .buffers ∙ written-zero (made .number) (committed P (resolved s) z root iv) signer m in
+      subst (λ (x : Committed). Open s ch (x .tree) (x .leafCommitments) opening opening′ opened → ReconstructStretch P s n z iv ch (x .corrections) opening′ verifier verifier′ checked
+      → Accepted (resolved s) (z .width) ch x opening′ verifier′ opened checked) (sym e)
+      (λ o r.
+      told (resolved s) n z root iv ch opening opening′ signer verifier verifier′ opened checked (q .0) (q .1) (q .2) (fits-sized lengths (q .3)) (o .number) (o .count) (o .opening) (r .number)
+      (r .count) (r .buffers) l g t) o r
+
   pub demand3 : Demand3 P
-  unfolding commitNumber
   demand3 =
       record {
-        accepted = λ s n root iv ch opening opening′ signer signer′ verifier verifier′ made opened checked c m o r z g t.
-            let q = all3 (shapeOk (resolved s)) (rowOk n) (fits (commitLengths (resolved s) (n / 8) root iv signer)) (sym (c .number) ∙ m) in
-            let e : signer′ ≡ committed P (resolved s) (n / 8) root iv = c .buffers ∙ written-zero (made .number) (committed P (resolved s) (n / 8) root iv) signer m in
-            subst (λ (x : Committed). Open s ch (x .tree) (x .leafCommitments) opening opening′ opened → Reconstruct P s n iv ch (x .corrections) opening′ verifier verifier′ checked
-            → Accepted (resolved s) (n / 8) ch x opening′ verifier′ opened checked) (sym e)
-            (λ o r.
-            told (resolved s) n root iv ch opening opening′ signer verifier verifier′ opened checked (q .0) (q .1)
-            (fits-sized (commitLengths (resolved s) (n / 8) root iv signer) (q .2)) (o .number) (o .count) (o .opening) (r .number) (r .count) (r .buffers) z g t) o r;
+        accepted = λ s n root iv ch opening opening′ signer signer′ verifier verifier′ made opened checked c m o r l g t.
+            accepted-stretch s n (wholeRow n) root iv ch opening opening′ signer signer′ verifier verifier′ made opened checked (whole-commit P s n root iv signer signer′ made c) m o
+            (whole-reconstruct P s n iv ch (signer′ .corrections) opening′ verifier verifier′ checked r) l g t;
+        accepted-stretch = accepted-stretch;
         open-five = open-five;
-        check-five = check-five P;
+        check-five = λ s n iv ch corrections opening x x′ r o sh ro l.
+            check-five P s n (wholeRow n) iv ch corrections opening x x′ r (whole-reconstruct P s n iv ch corrections opening x x′ r o) sh ro (whole-ok n ro) l;
+        check-five-stretch = check-five P;
       }
 
 -- ---- what an opening depends on
 
 open-number-same : (s : Shape) (ch tree lcs before tree₂ lcs₂ before₂ : List ℕ) → length tree ≡ length tree₂ → length lcs ≡ length lcs₂ → length before ≡ length before₂
-    → openNumber s ch tree lcs before ≡ openNumber s ch tree₂ lcs₂ before₂
-unfolding openNumber nodesOk
+    → planNumber s ch (openLengths s ch tree lcs before) ≡ planNumber s ch (openLengths s ch tree₂ lcs₂ before₂)
+unfolding planNumber nodesOk
 open-number-same s ch tree lcs before tree₂ lcs₂ before₂ a b c = rw (a, b, c) refl
 
 pub opening-depends : OpeningDepends

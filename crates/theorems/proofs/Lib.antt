@@ -2,7 +2,10 @@
 pub mod Columns
 pub mod Buffers
 pub mod Reconstruction
+pub mod ColumnRule
+pub mod Stretches
 pub mod Demand3
 pub mod PlanningExamples
 pub mod Fewest
 pub mod OneIndex
+pub mod HostCalls

@@ -1,40 +1,36 @@
 -- The verifier, lent what the opener made of the signer's tree and leaf commitments, finds the signer's nodes where they are not covered, all leaf
--- commitments, and columns by the column rule. The trees by induction on the nodes expanded: the children of a covered node are revealed or covered, those
+-- commitments, and rows but for the hidden ones. The trees by induction on the nodes expanded: the children of a covered node are revealed or covered, those
 -- of any other node come from it in both trees.
 use Prim.Native.Nat.{ℕ, zero, suc, _+_, _-_, _*_, _^_, _≤_, _<_}
-use mathlib.Core.Path.{_≡_, refl, sym, ap, ap₂, _∙_, subst}
+use mathlib.Core.Path.{_≡_, refl, sym, ap, _∙_, subst}
 use mathlib.Core.Bool.{Bool, true, false, _||_, cond, or-true}
 use mathlib.Core.List.{List, _++_}
 use native.Mathlib.Omega.{arith}
-use native.Mathlib.Nat.{mul-zero, zero-mul, one-mul}
-use native.Mathlib.Numerals.{add-one}
+use native.Mathlib.Nat.{mul-zero}
 use native.Mathlib.Decide.{decLt, ℕ-discrete}
 use lib.Dec.{eqb}
-use lib.Bits.{bitXor, xor-zero-r}
-use lib.ListN.{length, getD, length-append}
+use lib.ListN.{length, length-append}
 use borrow.Author.Tests.{eq-eqb, ne-eqb}
 use Rattle.spec.specs.declared.Shape.{Shape}
-use Rattle.spec.specs.Bytes.{bit, part, tabulate, concat, zeros, xorBytes, xorBelow, indexOf}
-use Rattle.spec.specs.Challenge.{bitAt}
+use Rattle.spec.specs.declared.Stretch.{Stretch}
+use Rattle.spec.specs.Bytes.{part, zeros, indexOf}
 use Rattle.spec.specs.Tree.{covered, nodeCount, expandTree}
-use Rattle.spec.specs.Shapes.{level, nodeBytes, leafCommitmentBytes, depthOf, entriesOf, firstBit, leaves, leafOf, hiddenIndex, hiddenLeaves, planned, plannedCount, treeBytes, leafCommitmentsBytes, correctionsBytes, grindingOk}
+use Rattle.spec.specs.Shapes.{nodeBytes, leafCommitmentBytes, entriesOf, leaves, leafOf, hiddenIndex, hiddenLeaves, planned, plannedCount, treeBytes, leafCommitmentsBytes}
 use Rattle.spec.specs.Primitives.{Primitives, prg}
 use Rattle.spec.specs.Leaves.{nodeAt, leafKey, children, leafSeed, leafCommitment, vectorCommitments, leafCommitments, vectorHash, commitmentOf}
-use Rattle.spec.specs.Rows.{rowByte, uByte, columnByte, matrixOf}
-use Rattle.spec.specs.Signer.{signerTree, signerLeafCommitment, signerU, signerColumn, correction, corrections, openingOf}
-use Rattle.spec.specs.Verifier.{hiddenLeafCommitment, slot, givenNode, reconstructedChildren, reconstructedTree, verifierLeafCommitment, correctionByte, verifierColumn}
+use Rattle.spec.specs.Rows.{rowByte, stretchByte}
+use Rattle.spec.specs.Signer.{signerTree, signerLeafCommitment, openingOf}
+use Rattle.spec.specs.Verifier.{hiddenLeafCommitment, slot, givenNode, reconstructedChildren, reconstructedTree, verifierLeafCommitment}
 use Rattle.laws.proofs.Conjunctions.{contrary}
-use Rattle.laws.proofs.Lists.{length-tabulate, getD-tabulate, tabulate-same, tabulate-xor, length-part, getD-part, length-zeros}
-use Rattle.laws.proofs.Concat.{part-front, part-after, part-whole, even-length, even-part, concat-same, mul-within}
+use Rattle.laws.proofs.Lists.{length-tabulate, length-part, length-zeros}
+use Rattle.laws.proofs.Concat.{part-front, part-after, part-whole, concat-same, mul-within}
 use Rattle.planning_laws.proofs.Members.{In, absent}
 use Rattle.planning_laws.proofs.Covered.{covered-leaf, covered-inner, root-hidden}
 use Rattle.planning_laws.proofs.Revealed.{left-revealed, right-revealed}
 use Rattle.planning_laws.proofs.HiddenLeaves.{hidden-count, hidden-leaves}
 use Rattle.planning_laws.proofs.ExpandTree.{expand-length, expand-front, expand-left, expand-right}
-use Rattle.planning_laws.proofs.ShapeLaws.{ShapeLaws, hidden-bit, hidden-at, grinding-bit}
-use Rattle.theorems.specs.Demands.{ColumnRule}
-use Rattle.theorems.proofs.Columns.{hidden-column, hidden-unused, corrected-column}
-use Rattle.theorems.proofs.Buffers.{commitments-length, commitments-at, opening-hidden, opening-slot, matrix-column, matrix-rest, find}
+use Rattle.planning_laws.proofs.ShapeLaws.{ShapeLaws, hidden-at}
+use Rattle.theorems.proofs.Buffers.{commitments-length, commitments-at, opening-hidden, opening-slot}
 
 prg-long : (P : Primitives) (s : Shape) (key iv : List ℕ) (tweak n : ℕ) → length (prg P s key iv tweak n) ≡ n
 unfolding prg
@@ -78,12 +74,6 @@ module _ (P : Primitives) (s : Shape) (f : ShapeLaws s) (root iv : List ℕ) (ro
 
   pub signer-commitments-length : length SignerCommitments ≡ leafCommitmentsBytes s
   signer-commitments-length = commitments-length s f (signerLeafCommitment P s iv Tree) signer-long
-
-  pub corrections-length : (b : ℕ) → length (corrections P s b iv Tree) ≡ correctionsBytes s b
-  unfolding corrections correction correctionsBytes
-  corrections-length b =
-      even-length (λ i. tabulate b (λ p. bitXor (uByte P s iv Tree 0 p) (uByte P s iv Tree (i + 1) p))) b (s .tau - 1)
-      (λ i h. length-tabulate b (λ p. bitXor (uByte P s iv Tree 0 p) (uByte P s iv Tree (i + 1) p)))
 
   -- ---- with a challenge
   module _ (ch : List ℕ) where
@@ -322,121 +312,8 @@ module _ (P : Primitives) (s : Shape) (f : ShapeLaws s) (root iv : List ℕ) (ro
     unfolding leafCommitments
     leaf-commitments-same = concat-same (vectorCommitments s (verifierLeafCommitment P s iv ch Opened CheckedTree)) (vectorCommitments s (signerLeafCommitment P s iv Tree)) (s .tau) vector-same
 
-    -- ---- columns
+    -- ---- rows
 
-    module _ (b : ℕ) where
-      row-same : (i e p : ℕ) → i < s .tau → e < entriesOf s i → (e ≡ hiddenIndex s ch i → ⊥) → rowByte P s iv CheckedTree i e p ≡ rowByte P s iv Tree i e p
-      unfolding rowByte
-      row-same i e p h l d = ap (λ (k : List ℕ). P .prgByte s (leafSeed P s iv i k) iv (i + 2 ^ 31) p) (key-same i e h l d)
-
-      correction-at : (i p : ℕ) → i < s .tau - 1 → p < b → getD (corrections P s b iv Tree) (b * i + p) 0 ≡ bitXor (uByte P s iv Tree 0 p) (uByte P s iv Tree (suc i) p)
-      unfolding corrections correction
-      correction-at i p h l =
-          let g : ℕ → List ℕ = λ i. tabulate b (λ p. bitXor (uByte P s iv Tree 0 p) (uByte P s iv Tree (i + 1) p)) in
-          sym (getD-part (concat (s .tau - 1) g) (b * i) b p l)
-          ∙ ap (λ (l : List ℕ). getD l p 0)
-          (even-part g b (s .tau - 1) i (λ i h. length-tabulate b (λ p. bitXor (uByte P s iv Tree 0 p) (uByte P s iv Tree (i + 1) p))) h)
-          ∙ getD-tabulate b (λ p. bitXor (uByte P s iv Tree 0 p) (uByte P s iv Tree (i + 1) p)) p 0 l
-          ∙ ap (λ (n : ℕ). bitXor (uByte P s iv Tree 0 p) (uByte P s iv Tree n p)) (add-one i)
-
-      abbrev VByte : ℕ → ℕ → ℕ → ℕ
-      VByte i j p = xorBelow (entriesOf s i) (λ e. bit j e * rowByte P s iv (signerTree P s root iv) i e p)
-
-      abbrev QByte : ℕ → ℕ → ℕ → ℕ
-      QByte i j p =
-          bitXor (xorBelow (entriesOf s i) (λ e. bit j (bitXor e (hiddenIndex s ch i)) * rowByte P s iv (reconstructedTree P s iv ch Opened) i e p))
-          (correctionByte s b ch (corrections P s b iv (signerTree P s root iv)) i j p)
-
-      -- the column rule at a byte, in one equation
-      byte-rule : (i j p : ℕ) → i < s .tau → j < depthOf s i → p < b → QByte i j p ≡ bitXor (VByte i j p) (bitAt ch (firstBit s i + j) * uByte P s iv Tree 0 p)
-      unfolding correctionByte uByte
-      byte-rule i j p h l k =
-          ap (λ (x : ℕ). bitXor x (correctionByte s b ch (corrections P s b iv Tree) i j p))
-          (hidden-unused (entriesOf s i) (λ e. rowByte P s iv CheckedTree i e p) (λ e. rowByte P s iv Tree i e p) (hiddenIndex s ch i) j (λ e m d. row-same i e p h m d))
-          ∙ go i h l
-        where
-          go : (i : ℕ) → i < s .tau → j < depthOf s i
-              → bitXor (xorBelow (entriesOf s i) (λ e. bit j (bitXor e (hiddenIndex s ch i)) * rowByte P s iv Tree i e p)) (correctionByte s b ch (corrections P s b iv Tree) i j p)
-              ≡ bitXor (VByte i j p) (bitAt ch (firstBit s i + j) * uByte P s iv Tree 0 p)
-          go zero h l =
-              xor-zero-r _
-              ∙ hidden-column (entriesOf s 0) (λ e. rowByte P s iv Tree 0 e p) (hiddenIndex s ch 0) j
-              ∙ ap (λ (d : ℕ). bitXor (VByte 0 j p) (d * uByte P s iv Tree 0 p)) (hidden-bit s ch 0 j l)
-          go (suc i) h l =
-              ap₂ (λ (d x : ℕ). bitXor (xorBelow (entriesOf s (suc i)) (λ e. bit j (bitXor e (hiddenIndex s ch (suc i))) * rowByte P s iv Tree (suc i) e p)) (d * x))
-              (sym (hidden-bit s ch (suc i) j l)) (correction-at i p (omega arith) k)
-              ∙ corrected-column (entriesOf s (suc i)) (λ e. rowByte P s iv Tree (suc i) e p) (uByte P s iv Tree 0 p) (hiddenIndex s ch (suc i)) j
-              ∙ ap (λ (d : ℕ). bitXor (VByte (suc i) j p) (d * uByte P s iv Tree 0 p)) (hidden-bit s ch (suc i) j l)
-
-      abbrev Corrected : List ℕ
-      Corrected = corrections P s b iv (signerTree P s root iv)
-
-      column-0 : (i j : ℕ) → i < s .tau → j < depthOf s i → bitAt ch (firstBit s i + j) ≡ 0 → verifierColumn P s b iv ch Corrected CheckedTree i j ≡ signerColumn P s b iv Tree i j
-      unfolding verifierColumn signerColumn columnByte
-      column-0 i j h l e =
-          tabulate-same b (QByte i j) (VByte i j)
-          (λ p k.
-          byte-rule i j p h l k
-          ∙ ap (λ (d : ℕ). bitXor (VByte i j p) (d * uByte P s iv Tree 0 p)) e
-          ∙ ap (bitXor (VByte i j p)) (zero-mul (uByte P s iv Tree 0 p)) ∙ xor-zero-r (VByte i j p))
-
-      column-1 : (i j : ℕ) → i < s .tau → j < depthOf s i → bitAt ch (firstBit s i + j) ≡ 1
-          → verifierColumn P s b iv ch Corrected CheckedTree i j ≡ xorBytes (signerColumn P s b iv Tree i j) (signerU P s b iv Tree)
-      unfolding verifierColumn signerColumn signerU columnByte
-      column-1 i j h l e =
-          tabulate-same b (QByte i j) (λ p. bitXor (VByte i j p) (uByte P s iv Tree 0 p))
-          (λ p k.
-          byte-rule i j p h l k
-          ∙ ap (λ (d : ℕ). bitXor (VByte i j p) (d * uByte P s iv Tree 0 p)) e
-          ∙ ap (bitXor (VByte i j p)) (one-mul (uByte P s iv Tree 0 p)))
-          ∙ tabulate-xor b (VByte i j) (uByte P s iv Tree 0)
-
-      q-long : (i j : ℕ) → length (verifierColumn P s b iv ch Corrected CheckedTree i j) ≡ b
-      unfolding verifierColumn columnByte
-      q-long i j = length-tabulate b (QByte i j)
-
-      v-long : (i j : ℕ) → length (signerColumn P s b iv Tree i j) ≡ b
-      unfolding signerColumn columnByte
-      v-long i j = length-tabulate b (VByte i j)
-
-      abbrev MQ : List ℕ
-      MQ = matrixOf s b (verifierColumn P s b iv ch Corrected CheckedTree)
-
-      abbrev MV : List ℕ
-      MV = matrixOf s b (signerColumn P s b iv (signerTree P s root iv))
-
-      pub column-rule : grindingOk s ch ≡ true → ColumnRule (level s) b ch (signerU P s b iv Tree) MV MQ
-      column-rule g =
-          record {
-            at-0 = λ c h e. zero-bit c h e (decLt c (firstBit s (s .tau)));
-            at-1 = λ c h e. one-bit c h e (decLt c (firstBit s (s .tau)));
-          }
-        where
-          zero-bit : (c : ℕ) → c < level s → bitAt ch c ≡ 0 → Dec (c < firstBit s (s .tau)) → part MQ (b * c) b ≡ part MV (b * c) b
-          zero-bit c h e (yes l) =
-              let a = find s f (s .tau) c l in
-              ap (λ (n : ℕ). part MQ (b * n) b) (a .is)
-              ∙ matrix-column s f b (verifierColumn P s b iv ch Corrected CheckedTree) q-long (a .i) (a .j) (a .vector) (a .within)
-              ∙ column-0 (a .i) (a .j) (a .vector) (a .within) (ap (bitAt ch) (sym (a .is)) ∙ e)
-              ∙ sym (matrix-column s f b (signerColumn P s b iv Tree) v-long (a .i) (a .j) (a .vector) (a .within))
-              ∙ ap (λ (n : ℕ). part MV (b * n) b) (sym (a .is))
-          zero-bit c h e (no l) =
-              let x : c ≡ firstBit s (s .tau) + (c - firstBit s (s .tau)) = omega arith in
-              ap (λ (n : ℕ). part MQ (b * n) b) x
-              ∙ matrix-rest s f b (verifierColumn P s b iv ch Corrected CheckedTree) q-long (c - firstBit s (s .tau))
-              ∙ sym (matrix-rest s f b (signerColumn P s b iv Tree) v-long (c - firstBit s (s .tau)))
-              ∙ ap (λ (n : ℕ). part MV (b * n) b) (sym x)
-
-          one-bit : (c : ℕ) → c < level s → bitAt ch c ≡ 1 → Dec (c < firstBit s (s .tau)) → part MQ (b * c) b ≡ xorBytes (part MV (b * c) b) (signerU P s b iv Tree)
-          one-bit c h e (yes l) =
-              let a = find s f (s .tau) c l in
-              ap (λ (n : ℕ). part MQ (b * n) b) (a .is)
-              ∙ matrix-column s f b (verifierColumn P s b iv ch Corrected CheckedTree) q-long (a .i) (a .j) (a .vector) (a .within)
-              ∙ column-1 (a .i) (a .j) (a .vector) (a .within) (ap (bitAt ch) (sym (a .is)) ∙ e)
-              ∙ ap (λ (x : List ℕ). xorBytes x (signerU P s b iv Tree))
-              (sym (matrix-column s f b (signerColumn P s b iv Tree) v-long (a .i) (a .j) (a .vector) (a .within)) ∙ ap (λ (n : ℕ). part MV (b * n) b) (sym (a .is)))
-          one-bit c h e (no l) =
-              let x : firstBit s (s .tau) + (c - firstBit s (s .tau)) ≡ c = omega arith in
-              let z = f .bit-all in
-              let y = grinding-bit s ch (c - firstBit s (s .tau)) g (omega arith) in
-              absurd (let q : _≡_ {A = ℕ} 1 0 = sym e ∙ ap (bitAt ch) (sym x) ∙ y in omega arith)
+    pub row-same : (z : Stretch) (i e p : ℕ) → i < s .tau → e < entriesOf s i → (e ≡ hiddenIndex s ch i → ⊥) → stretchByte P s z iv CheckedTree i e p ≡ stretchByte P s z iv Tree i e p
+    unfolding rowByte stretchByte
+    row-same z i e p h l d = ap (λ (k : List ℕ). P .prgByte s (leafSeed P s iv i k) iv (i + 2 ^ 31) (z .first + p)) (key-same i e h l d)

@@ -1,4 +1,4 @@
--- Demand 3 over the contracts of commit, open and reconstruct together, and what an opening may depend on (document 01, "Challenge, nodes and opening").
+-- Demand 3 over the contracts of commit, open and reconstruct together, also of a stretch of the rows (document 02, E1), and what an opening may depend on (document 01, "Challenge, nodes and opening").
 -- ../proofs/Demand3.antt proves both.
 use Prim.Native.Nat.{ℕ, _-_, _*_, _/_, _≤_, _<_}
 use mathlib.Core.Path.{_≡_}
@@ -6,6 +6,7 @@ use mathlib.Core.Bool.{true, false}
 use mathlib.Core.List.{List, [], _∷_}
 use lib.ListN.{length, getD}
 use Rattle.spec.specs.declared.Shape.{Shape}
+use Rattle.spec.specs.declared.Stretch.{Stretch}
 use Rattle.spec.specs.declared.Answer.{Answer}
 use Rattle.spec.specs.Bytes.{part, zeros, xorBytes}
 use Rattle.spec.specs.Challenge.{bitAt}
@@ -15,14 +16,14 @@ use Rattle.spec.specs.Primitives.{Primitives}
 use Rattle.spec.specs.Leaves.{nodeAt}
 use Rattle.spec.specs.Signer.{leafCommitmentAt, openingOf}
 use Rattle.laws.specs.Lengths.{Sized}
-use Rattle.spec.specs.Calls.{rowOk, Committed, Commit, openLengths, Open, Reconstructed, reconstructLengths, Reconstruct}
+use Rattle.spec.specs.Calls.{rowOk, stretchOk, Committed, Commit, CommitStretch, openLengths, Open, Reconstructed, reconstructLengths, Reconstruct, ReconstructStretch}
 
 -- each of n columns of q is that of v where the challenge bit is 0, and that of v xored with u where it is 1
 pub record ColumnRule (n b : ℕ) (ch u v q : List ℕ) : Type 0 where
   pub at-0 : (c : ℕ) → c < n → bitAt ch c ≡ 0 → part q (b * c) b ≡ part v (b * c) b
   pub at-1 : (c : ℕ) → c < n → bitAt ch c ≡ 1 → part q (b * c) b ≡ xorBytes (part v (b * c) b) u
 
--- the opening is made and accepted: s is the resolved shape, b a row's bytes, `signer` what commit wrote, `opening` what open wrote, `verifier` what
+-- the opening is made and accepted: s is the resolved shape, b the bytes of a row, or of its stretch, `signer` what commit wrote, `opening` what open wrote, `verifier` what
 -- reconstruct wrote
 pub record Accepted (s : Shape) (b : ℕ) (ch : List ℕ) (signer : Committed) (opening : List ℕ) (verifier : Reconstructed) (opened checked : Answer) : Type 0 where
   pub open-number : opened .number ≡ 0
@@ -62,6 +63,24 @@ pub record Demand3 (P : Primitives) : Type 0 where
       → grindingOk (resolved s) ch ≡ true
       → plannedCount (resolved s) ch ≤ resolved s .t
       → Accepted (resolved s) (n / 8) ch signer′ opening′ verifier′ opened checked
+  -- the same of a stretch: the column rule speaks of the stretch of each column and of u
+  pub accepted-stretch :
+      (s : Shape) (n : ℕ) (z : Stretch) (root iv ch opening opening′ : List ℕ) (signer signer′ : Committed) (verifier verifier′ : Reconstructed) (made opened checked : Answer)
+      → CommitStretch P s n z root iv signer signer′ made
+      → made .number ≡ 0
+      → Open s ch (signer′ .tree) (signer′ .leafCommitments) opening opening′ opened
+      → ReconstructStretch P s n z iv ch (signer′ .corrections) opening′ verifier verifier′ checked
+      → Sized
+      ((length ch, challengeBytes (resolved s))
+      ∷ (length opening, openingBytes (resolved s))
+      ∷ (length (verifier .commitment), hashBytes (resolved s))
+      ∷ (length (verifier .tree), treeBytes (resolved s))
+      ∷ (length (verifier .leafCommitments), leafCommitmentsBytes (resolved s))
+      ∷ (length (verifier .q), matrixBytes (resolved s) (z .width))
+      ∷ [])
+      → grindingOk (resolved s) ch ≡ true
+      → plannedCount (resolved s) ch ≤ resolved s .t
+      → Accepted (resolved s) (z .width) ch signer′ opening′ verifier′ opened checked
   pub open-five :
       (s : Shape) (ch tree lcs opening opening′ : List ℕ) (r : Answer)
       → Open s ch tree lcs opening opening′ r
@@ -74,6 +93,14 @@ pub record Demand3 (P : Primitives) : Type 0 where
       → shapeOk (resolved s) ≡ true
       → rowOk n ≡ true
       → Sized (reconstructLengths (resolved s) (n / 8) iv ch corrections opening x)
+      → Five (resolved s) ch r
+  pub check-five-stretch :
+      (s : Shape) (n : ℕ) (z : Stretch) (iv ch corrections opening : List ℕ) (x x′ : Reconstructed) (r : Answer)
+      → ReconstructStretch P s n z iv ch corrections opening x x′ r
+      → shapeOk (resolved s) ≡ true
+      → rowOk n ≡ true
+      → stretchOk (n / 8) z ≡ true
+      → Sized (reconstructLengths (resolved s) (z .width) iv ch corrections opening x)
       → Five (resolved s) ch r
 
 -- two signers' openings, from the trees and leaf commitments lent; s is the resolved shape

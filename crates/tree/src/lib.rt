@@ -16,5 +16,12 @@ pub fn expand_node(t: &[u8; 256], iv: [u8; 16], a: usize, tree: &mut [u8])
     ensures { λ _. ⌜ ((s : Shape) → now (tree .exit) ≡ take (32 * a + 16) (now (tree .entry)) ++ (children faest s iv a (part (now (tree .entry)) (16 * a) 16) ++ drop (32 * a + 48) (now (tree .entry)))) ⌝ }
 {
     let key = generator::load_iv(&tree[16 * a..16 * a + 16]);
-    generator::fill(t, &key, iv, a as u32, &mut tree[32 * a + 16..32 * a + 48]);
+    generator::fill(
+        t,
+        &key,
+        iv,
+        a as u32,
+        0,
+        &mut tree[32 * a + 16..32 * a + 48],
+    );
 }

@@ -18,7 +18,7 @@ use Rattle.laws.proofs.Lists.{length-part}
 use Rattle.laws.proofs.Putting.{put-next}
 use Rattle.laws.proofs.Strings.{getD-append-zeros}
 use Rattle.laws.proofs.Concat.{mul-next, mul-within}
-use Rattle.laws.proofs.Stretches.{stretch-before}
+use Rattle.laws.proofs.Segments.{segment-before}
 use Rattle.planning_laws.proofs.Depths.{bit-next, entry-next}
 use Rattle.planning_laws.proofs.ShapeFacts.{shape-facts, bit-all, depth-small}
 use Rattle.planning_laws.proofs.ShapeLaws.{shape-laws}
@@ -96,13 +96,13 @@ module _ (s : Shape) (ok : shapeOk s ≡ true) where
   -- each ends within its buffer: w is where, d the buffer's length
   pub commitments-end : (i w d : ℕ) → i < s .tau → w ≡ 48 * firstEntry s (i + 1) → d ≡ leafCommitmentsBytes s → w ≤ d
   commitments-end i w d h ew ed =
-      let a = stretch-before (firstEntry s) (entriesOf s) (s .tau) i (λ n l. entry-next s n) h in
+      let a = segment-before (firstEntry s) (entriesOf s) (s .tau) i (λ n l. entry-next s n) h in
       let b = all-commitments in
       omega (arith, commitments-next s i)
 
   pub columns-end : (b i w d : ℕ) → i < s .tau → w ≡ b * firstBit s (i + 1) → d ≡ matrixBytes s b → w ≤ d
   columns-end b i w d h ew ed =
-      let a = stretch-before (firstBit s) (depthOf s) (s .tau) i (λ n l. bit-next s n) h in
+      let a = segment-before (firstBit s) (depthOf s) (s .tau) i (λ n l. bit-next s n) h in
       let e = ap (firstBit s) (add-one i) ∙ bit-next s i in
       let m : b * firstBit s (i + 1) ≤ b * firstBit s (s .tau) = mul-le-mul (le-refl b) (omega arith) in
       omega (arith, all-columns b)

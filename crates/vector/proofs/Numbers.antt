@@ -3,17 +3,16 @@
 use Prim.Native.Nat.{ℕ, _+_, _-_, _*_, _/_, _^_, _≤_, _<_}
 use mathlib.Core.Path.{_≡_, sym, ap, _∙_}
 use mathlib.Core.Bool.{true}
-use mathlib.Core.List.{List}
 use native.Mathlib.Nat.{two-pow-succ}
 use native.Mathlib.Numerals.{add-one}
 use native.Mathlib.Omega.{arith}
 use lib.Bits.{bitXor, xor-lt}
 use lib.Pow.{pow-pos}
 use Rattle.spec.specs.declared.Shape.{Shape}
+use Rattle.spec.specs.declared.Stretch.{Stretch}
 use Rattle.spec.specs.Bytes.{tabulate, concat, xorBelow}
 use Rattle.spec.specs.Shapes.{depthOf, entriesOf, shapeOk}
-use Rattle.spec.specs.Primitives.{faest}
-use Rattle.spec.specs.Rows.{rowByte, uByte, columnByte}
+use Rattle.spec.specs.Rows.{uByte, columnByte}
 use Rattle.laws.proofs.Lists.{tabulate-same}
 use Rattle.laws.proofs.Concat.{concat-same}
 use Rattle.laws.proofs.Running.{marked, xor-permuted, marked-permuted}
@@ -32,6 +31,10 @@ entry-end s i x mask ok h m =
     let e = entry-in s i x mask h m in
     let few = entries-small s i (shape-facts s ok) in
     (omega arith, omega arith)
+
+-- a stretch of a row is no longer than a row
+pub width-small : (z : Stretch) → z .first + z .width ≤ 8192 → z .width ≤ 8192
+width-small z h = omega arith
 
 -- the height h of a vector of depth d, and its halves
 module _ (s : Shape) (i d : ℕ) (ok : shapeOk s ≡ true) (e : d ≡ depthOf s i) where
@@ -56,22 +59,23 @@ module _ (s : Shape) (i d : ℕ) (ok : shapeOk s ≡ true) (e : d ≡ depthOf s 
 
 -- ---- sums over the numbers
 
-module _ (s : Shape) (iv tree : List ℕ) (i mask : ℕ) (m : mask < entriesOf s i) where
-  pub u-by-number : (n p : ℕ) → n ≡ entriesOf s i → xorBelow n (λ x. rowByte faest s iv tree i (bitXor x mask) p) ≡ uByte faest s iv tree i p
+-- `row i e p` is byte p of the row of entry e
+module _ (s : Shape) (row : ℕ → ℕ → ℕ → ℕ) (i mask : ℕ) (m : mask < entriesOf s i) where
+  pub u-by-number : (n p : ℕ) → n ≡ entriesOf s i → xorBelow n (λ x. row i (bitXor x mask) p) ≡ uByte s row i p
   unfolding entriesOf uByte
   u-by-number n p e =
-      ap (λ (k : ℕ). xorBelow k (λ x. rowByte faest s iv tree i (bitXor x mask) p)) e
-      ∙ xor-permuted (depthOf s i) mask (λ e. rowByte faest s iv tree i e p) m
+      ap (λ (k : ℕ). xorBelow k (λ x. row i (bitXor x mask) p)) e
+      ∙ xor-permuted (depthOf s i) mask (λ e. row i e p) m
 
-  column-by-number : (n j p : ℕ) → n ≡ entriesOf s i → marked j n (λ x. rowByte faest s iv tree i (bitXor x mask) p) ≡ columnByte faest s iv tree (λ e. bitXor e mask) i j p
+  column-by-number : (n j p : ℕ) → n ≡ entriesOf s i → marked j n (λ x. row i (bitXor x mask) p) ≡ columnByte s row (λ e. bitXor e mask) i j p
   unfolding entriesOf columnByte
   column-by-number n j p e =
-      ap (λ (k : ℕ). marked j k (λ x. rowByte faest s iv tree i (bitXor x mask) p)) e
-      ∙ marked-permuted (depthOf s i) mask j (λ e. rowByte faest s iv tree i e p) m
+      ap (λ (k : ℕ). marked j k (λ x. row i (bitXor x mask) p)) e
+      ∙ marked-permuted (depthOf s i) mask j (λ e. row i e p) m
 
-  pub columns-by-number : (b k n : ℕ) → k ≡ depthOf s i → n ≡ entriesOf s i → concat k (λ j. tabulate b (λ p. marked j n (λ x. rowByte faest s iv tree i (bitXor x mask) p)))
-      ≡ concat (depthOf s i) (λ j. tabulate b (columnByte faest s iv tree (λ e. bitXor e mask) i j))
+  pub columns-by-number : (b k n : ℕ) → k ≡ depthOf s i → n ≡ entriesOf s i → concat k (λ j. tabulate b (λ p. marked j n (λ x. row i (bitXor x mask) p)))
+      ≡ concat (depthOf s i) (λ j. tabulate b (columnByte s row (λ e. bitXor e mask) i j))
   columns-by-number b k n ek e =
-      ap (λ (c : ℕ). concat c (λ j. tabulate b (λ p. marked j n (λ x. rowByte faest s iv tree i (bitXor x mask) p)))) ek
-      ∙ concat-same (λ j. tabulate b (λ p. marked j n (λ x. rowByte faest s iv tree i (bitXor x mask) p))) (λ j. tabulate b (columnByte faest s iv tree (λ e. bitXor e mask) i j)) (depthOf s i)
-      (λ j h. tabulate-same b (λ p. marked j n (λ x. rowByte faest s iv tree i (bitXor x mask) p)) (columnByte faest s iv tree (λ e. bitXor e mask) i j) (λ p l. column-by-number n j p e))
+      ap (λ (c : ℕ). concat c (λ j. tabulate b (λ p. marked j n (λ x. row i (bitXor x mask) p)))) ek
+      ∙ concat-same (λ j. tabulate b (λ p. marked j n (λ x. row i (bitXor x mask) p))) (λ j. tabulate b (columnByte s row (λ e. bitXor e mask) i j)) (depthOf s i)
+      (λ j h. tabulate-same b (λ p. marked j n (λ x. row i (bitXor x mask) p)) (columnByte s row (λ e. bitXor e mask) i j) (λ p l. column-by-number n j p e))

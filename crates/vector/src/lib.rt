@@ -11,11 +11,12 @@ ghost use Rattle.spec.specs.Gf256.{SboxTable};
 ghost use Rattle.spec.specs.Shapes.{shapeOk, depthOf, entriesOf, firstBit, firstEntry, treeBytes};
 ghost use Rattle.spec.specs.Primitives.{faest};
 ghost use Rattle.spec.specs.Leaves.{hashKey, leafKey, leafCommitment};
-ghost use Rattle.spec.specs.Rows.{rowByte, uByte, columnByte};
+ghost use Rattle.spec.specs.Rows.{stretchByte, uByte, columnByte};
 ghost use Rattle.field.specs.Field.{p384, Multiples};
 ghost use Rattle.columns.specs.Columns.{Xored, Added, Running};
 ghost use Rattle.vector.specs.Entries.{Written};
 use spec::Shape;
+use spec::Stretch;
 
 // Where the leaf commitments of vector i begin, and those before it end.
 pub fn commitments_from(s: Shape, i: usize) -> usize
@@ -33,13 +34,14 @@ pub fn columns_from(s: Shape, i: usize, b: usize) -> usize
     b * rules::first_bit(s, i)
 }
 
-// Entry e of vector i: writes its leaf commitment, and adds its row to the sum.
+// Entry e of vector i: writes its leaf commitment, and adds the stretch of its row to the sum.
 fn add_entry(
     t: &[u8; 256],
     m: &[[u64; 6]; 16],
     s: Shape,
     i: usize,
     e: usize,
+    z: Stretch,
     iv: [u8; 16],
     tree: &[u8],
     commitment: &mut [u8],
@@ -47,15 +49,15 @@ fn add_entry(
 )
     requires { ⌜ SboxTable (now t) ⌝ }
     requires { ⌜ (shapeOk s ≡ true) × (i < s .tau) × (e < entriesOf s i) × (length (now tree) ≡ treeBytes s) ⌝ }
-    requires { ⌜ (length (now commitment) ≡ 48) × (length (now sum) ≤ 8192) ⌝ }
+    requires { ⌜ (length (now commitment) ≡ 48) × (z .first + length (now sum) ≤ 8192) ⌝ }
     requires { ⌜ Multiples 384 p384 (number 8 (hashKey faest s iv i)) (now m) ⌝ }
     ensures { λ _. ⌜ now (commitment .exit) ≡ leafCommitment faest s iv i (leafKey s (now (tree .entry)) i e) ⌝ }
-    ensures { λ _. ⌜ Xored 0 (length (now (sum .entry))) (rowByte faest s iv (now (tree .entry)) i e) (now (sum .entry)) (now (sum .exit)) ⌝ }
+    ensures { λ _. ⌜ Xored 0 (length (now (sum .entry))) (stretchByte faest s z iv (now (tree .entry)) i e) (now (sum .entry)) (now (sum .exit)) ⌝ }
 {
     let a = 16 * rules::leaf_of(s, i, e);
     let tweak = leaf::leaf_tweak(i, rules::leaf_count(s));
     let seed = leaf::commit_leaf(t, m, &tree[a..a + 16], iv, tweak, commitment);
-    rows::add_row(t, &seed, iv, (i as u32) + 2147483648, sum);
+    rows::add_row(t, &seed, iv, (i as u32) + 2147483648, z.first, sum);
 }
 
 // The entries of vector i whose numbers are from `from` on and below `to`, in the order of their numbers: number x is that of entry x xor the mask. There are
@@ -68,7 +70,7 @@ fn add_run(
     from: usize,
     to: usize,
     mask: usize,
-    b: usize,
+    z: Stretch,
     h: usize,
     iv: [u8; 16],
     tree: &[u8],
@@ -76,12 +78,13 @@ fn add_run(
     cols: &mut [u8],
 )
     requires { ⌜ SboxTable (now t) ⌝ }
-    requires { ⌜ (shapeOk s ≡ true) × (i < s .tau) × (from ≤ to) × (to ≤ entriesOf s i) × (mask < entriesOf s i) × (b ≤ 8192) × (h ≤ 11) × (length (now tree) ≡ treeBytes s) ⌝ }
-    requires { ⌜ (length (now commitments) ≡ 48 * entriesOf s i) × Running b h from from (λ x. rowByte faest s iv (now tree) i (bitXor x mask)) (now cols) ⌝ }
+    requires { ⌜ (shapeOk s ≡ true) × (i < s .tau) × (from ≤ to) × (to ≤ entriesOf s i) × (mask < entriesOf s i) × (z .first + z .width ≤ 8192) × (h ≤ 11) × (length (now tree) ≡ treeBytes s) ⌝ }
+    requires { ⌜ (length (now commitments) ≡ 48 * entriesOf s i) × Running (z .width) h from from (λ x. stretchByte faest s z iv (now tree) i (bitXor x mask)) (now cols) ⌝ }
     requires { ⌜ Multiples 384 p384 (number 8 (hashKey faest s iv i)) (now m) ⌝ }
     ensures { λ _. ⌜ Written (λ e. leafCommitment faest s iv i (leafKey s (now (tree .entry)) i e)) mask from to (now (commitments .entry)) (now (commitments .exit)) ⌝ }
-    ensures { λ _. ⌜ Running b h from to (λ x. rowByte faest s iv (now (tree .entry)) i (bitXor x mask)) (now (cols .exit)) ⌝ }
+    ensures { λ _. ⌜ Running (z .width) h from to (λ x. stretchByte faest s z iv (now (tree .entry)) i (bitXor x mask)) (now (cols .exit)) ⌝ }
 {
+    let b = z.width;
     let last = b * h;
     for x in from..to {
         let e = x ^ mask;
@@ -91,6 +94,7 @@ fn add_run(
             s,
             i,
             e,
+            z,
             iv,
             tree,
             &mut commitments[48 * e..48 * e + 48],
@@ -109,7 +113,7 @@ pub fn add_entries(
     i: usize,
     first: usize,
     mask: usize,
-    b: usize,
+    z: Stretch,
     iv: [u8; 16],
     tree: &[u8],
     commitments: &mut [u8],
@@ -117,13 +121,14 @@ pub fn add_entries(
     cols: &mut [u8],
 )
     requires { ⌜ SboxTable (now t) ⌝ }
-    requires { ⌜ (shapeOk s ≡ true) × (i < s .tau) × (first ≤ 1) × (mask < entriesOf s i) × (b ≤ 8192) × (length (now tree) ≡ treeBytes s) ⌝ }
-    requires { ⌜ (length (now commitments) ≡ 48 * entriesOf s i) × (length (now total) ≡ b * (1 - first)) × (length (now cols) ≡ b * depthOf s i) ⌝ }
+    requires { ⌜ (shapeOk s ≡ true) × (i < s .tau) × (first ≤ 1) × (mask < entriesOf s i) × (z .first + z .width ≤ 8192) × (length (now tree) ≡ treeBytes s) ⌝ }
+    requires { ⌜ (length (now commitments) ≡ 48 * entriesOf s i) × (length (now total) ≡ z .width * (1 - first)) × (length (now cols) ≡ z .width * depthOf s i) ⌝ }
     requires { ⌜ Multiples 384 p384 (number 8 (hashKey faest s iv i)) (now m) ⌝ }
     ensures { λ _. ⌜ Written (λ e. leafCommitment faest s iv i (leafKey s (now (tree .entry)) i e)) mask first (entriesOf s i) (now (commitments .entry)) (now (commitments .exit)) ⌝ }
-    ensures { λ _. ⌜ Added b (1 - first) (λ j p. uByte faest s iv (now (tree .entry)) i p) (now (total .entry)) (now (total .exit)) ⌝ }
-    ensures { λ _. ⌜ now (cols .exit) ≡ concat (depthOf s i) (λ j. tabulate b (columnByte faest s iv (now (tree .entry)) (λ e. bitXor e mask) i j)) ⌝ }
+    ensures { λ _. ⌜ Added (z .width) (1 - first) (λ j p. uByte s (stretchByte faest s z iv (now (tree .entry))) i p) (now (total .entry)) (now (total .exit)) ⌝ }
+    ensures { λ _. ⌜ now (cols .exit) ≡ concat (depthOf s i) (λ j. tabulate (z .width) (columnByte s (stretchByte faest s z iv (now (tree .entry))) (λ e. bitXor e mask) i j)) ⌝ }
 {
+    let b = z.width;
     let h = rules::depth_of(s, i) - 1;
     let n = rules::entry_count(s, i);
     let half = n / 2;
@@ -137,7 +142,7 @@ pub fn add_entries(
         first,
         half,
         mask,
-        b,
+        z,
         h,
         iv,
         tree,
@@ -146,6 +151,6 @@ pub fn add_entries(
     );
     columns::add_bytes(total, b, 1 - first, 1, &cols[last..last + b]);
     buffers::clear_from(cols, last);
-    add_run(t, m, s, i, half, n, mask, b, h, iv, tree, commitments, cols);
+    add_run(t, m, s, i, half, n, mask, z, h, iv, tree, commitments, cols);
     columns::add_bytes(total, b, 1 - first, 1, &cols[last..last + b]);
 }

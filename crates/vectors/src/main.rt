@@ -1,4 +1,4 @@
-// The five calls on fixed cases. `stdout` holds what the second implementation (reference/) prints for each: reference/derive_vectors.py derives it from the lines of this file.
+// The calls on fixed cases. `stdout` holds what the second implementation (reference/) prints for each: reference/derive_vectors.py derives it from the lines of this file.
 //
 //     case(TAU, K, T, ROWBITS, ROOTIV, CHALLENGE, CHALLENGE)    the three calls; W is 128 - TAU K, or 0 where TAU is 0; the challenge is two words, the least byte first
 //     uneven(TAU, K, W, T, ROWBITS, ROOTIV, CHALLENGE, CHALLENGE)  the same with any W

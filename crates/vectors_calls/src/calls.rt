@@ -1,13 +1,14 @@
-// Commit, open and reconstruct on the front of each buffer, of the length given.
+// Commit, open and reconstruct on the front of each buffer, of the length given; commit and reconstruct in their form for a stretch where the rows are not whole.
 use spec::Answer;
 use spec::Shape;
 use test_support::lengths::Lengths;
+use test_support::lengths::Rows;
 use test_support::parts::front;
 use test_support::parts::front_mut;
 
 pub fn call_commit(
     s: Shape,
-    row_bits: usize,
+    rows: Rows,
     lengths: Lengths,
     root: &[u8],
     iv: &[u8],
@@ -18,9 +19,24 @@ pub fn call_commit(
     v: &mut [u8],
     corrections: &mut [u8],
 ) -> Answer {
-    signer::commit(
+    if rows.whole {
+        return signer::commit(
+            s,
+            rows.bits,
+            root,
+            iv,
+            front_mut(commitment, lengths.commitment),
+            front_mut(tree, lengths.tree),
+            front_mut(leaf_commitments, lengths.leaf_commitments),
+            front_mut(u, lengths.u),
+            front_mut(v, lengths.v),
+            front_mut(corrections, lengths.corrections),
+        );
+    }
+    signer::commit_stretch(
         s,
-        row_bits,
+        rows.bits,
+        rows.stretch,
         root,
         iv,
         front_mut(commitment, lengths.commitment),
@@ -51,7 +67,7 @@ pub fn call_open(
 
 pub fn call_reconstruct(
     s: Shape,
-    row_bits: usize,
+    rows: Rows,
     lengths: Lengths,
     iv: &[u8],
     challenge: &[u8],
@@ -62,9 +78,24 @@ pub fn call_reconstruct(
     leaf_commitments: &mut [u8],
     q: &mut [u8],
 ) -> Answer {
-    verifier::reconstruct(
+    if rows.whole {
+        return verifier::reconstruct(
+            s,
+            rows.bits,
+            iv,
+            challenge,
+            front(corrections, lengths.corrections),
+            front(opening, lengths.opening),
+            front_mut(commitment, lengths.commitment),
+            front_mut(tree, lengths.tree),
+            front_mut(leaf_commitments, lengths.leaf_commitments),
+            front_mut(q, lengths.v),
+        );
+    }
+    verifier::reconstruct_stretch(
         s,
-        row_bits,
+        rows.bits,
+        rows.stretch,
         iv,
         challenge,
         front(corrections, lengths.corrections),

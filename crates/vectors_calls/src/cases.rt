@@ -8,6 +8,7 @@ use crate::print::print_buffer;
 use spec::Answer;
 use spec::Shape;
 use test_support::lengths::Lengths;
+use test_support::lengths::Rows;
 
 // What both halves write of the tree.
 fn print_leaves(l: Lengths, commitment: &[u8], tree: &[u8], leaf_commitments: &[u8]) {
@@ -26,7 +27,7 @@ fn print_rows(l: Lengths, u: &[u8], v: &[u8], corrections: &[u8]) {
 // Commit, and what `reference commit` prints.
 fn commit_case(
     s: Shape,
-    row_bits: usize,
+    rows: Rows,
     l: Lengths,
     root: &[u8; 16],
     iv: &[u8; 16],
@@ -39,7 +40,7 @@ fn commit_case(
 ) -> Answer {
     let r = call_commit(
         s,
-        row_bits,
+        rows,
         l,
         root,
         iv,
@@ -82,7 +83,7 @@ fn open_case(
 // Reconstruct, and what `reference reconstruct` prints. It is lent the buffers that commit wrote, with these bytes in them.
 fn reconstruct_case(
     s: Shape,
-    row_bits: usize,
+    rows: Rows,
     l: Lengths,
     iv: &[u8; 16],
     challenge: &[u8; 16],
@@ -95,7 +96,7 @@ fn reconstruct_case(
 ) {
     let r = call_reconstruct(
         s,
-        row_bits,
+        rows,
         l,
         iv,
         challenge,
@@ -113,21 +114,22 @@ fn reconstruct_case(
     }
 }
 
-// The three calls, with the byte `at` of the opening flipped before reconstruct. Where one is refused its answer stands for those after it.
-pub fn run_case(s: Shape, row_bits: usize, known: usize, challenge: [u8; 16], at: usize) {
+// The three calls, with the byte `at` of the opening flipped before reconstruct. Where one is refused its answer stands for those after it. The buffers hold
+// 0xa5 at first, so that a byte that is not written shows.
+pub fn run_case(s: Shape, rows: Rows, known: usize, challenge: [u8; 16], at: usize) {
     let root = numbered(known / 10);
     let iv = numbered(known % 10);
-    let l = test_support::lengths::of(s, row_bits);
-    let mut commitment = [0u8; 32];
-    let mut tree = [0u8; 1310704];
-    let mut leaf_commitments = [0u8; 1966080];
-    let mut u = [0u8; 8192];
-    let mut v = [0u8; 1048576];
-    let mut corrections = [0u8; 253952];
-    let mut opening = [0u8; 9728];
+    let l = test_support::lengths::of(s, rows);
+    let mut commitment = [0xa5u8; 32];
+    let mut tree = [0xa5u8; 1310704];
+    let mut leaf_commitments = [0xa5u8; 1966080];
+    let mut u = [0xa5u8; 8192];
+    let mut v = [0xa5u8; 1048576];
+    let mut corrections = [0xa5u8; 253952];
+    let mut opening = [0xa5u8; 9728];
     let made = commit_case(
         s,
-        row_bits,
+        rows,
         l,
         &root,
         &iv,
@@ -150,7 +152,7 @@ pub fn run_case(s: Shape, row_bits: usize, known: usize, challenge: [u8; 16], at
     }
     reconstruct_case(
         s,
-        row_bits,
+        rows,
         l,
         &iv,
         &challenge,

@@ -1,5 +1,5 @@
 // The five calls on lent buffers, and cases of them: what the command line of reference/ prints of each call.
-// A case has a shape and a row length in bits, and by two digits a root and an IV (inputs.rt).
+// A case has a shape and a row length in bits, of the rows a stretch or the whole, and by two digits a root and an IV (inputs.rt).
 mod calls;
 mod cases;
 mod inputs;
@@ -21,6 +21,8 @@ use lists::plan_case;
 pub use print::print_answer;
 pub use print::print_buffer;
 use spec::Shape;
+use test_support::lengths::part;
+use test_support::lengths::whole;
 use test_support::parts::words;
 
 // Root and IV with bytes that count up.
@@ -31,7 +33,13 @@ const NONE: usize = 0xffff;
 
 // A case; the challenge is two words, the least byte first.
 pub fn case(tau: usize, k: usize, t: usize, row_bits: usize, known: usize, c0: u64, c1: u64) {
-    run_case(shape_of(tau, k, t), row_bits, known, words(c0, c1), NONE);
+    run_case(
+        shape_of(tau, k, t),
+        whole(row_bits),
+        known,
+        words(c0, c1),
+        NONE,
+    );
 }
 
 // A case whose vectors have two depths: w does not follow from tau and k.
@@ -45,14 +53,42 @@ pub fn uneven(
     c0: u64,
     c1: u64,
 ) {
-    run_case(Shape { tau, k, w, t }, row_bits, known, words(c0, c1), NONE);
+    run_case(
+        Shape { tau, k, w, t },
+        whole(row_bits),
+        known,
+        words(c0, c1),
+        NONE,
+    );
+}
+
+// A case of a stretch of the rows: `width` bytes from byte `first` on.
+pub fn stretch(
+    tau: usize,
+    k: usize,
+    w: usize,
+    t: usize,
+    row_bits: usize,
+    first: usize,
+    width: usize,
+    known: usize,
+    c0: u64,
+    c1: u64,
+) {
+    run_case(
+        Shape { tau, k, w, t },
+        part(row_bits, first, width),
+        known,
+        words(c0, c1),
+        NONE,
+    );
 }
 
 // A case with any four numbers for a shape, and a challenge of zeros.
 pub fn refused_shape(tau: usize, k: usize, w: usize, t: usize, row_bits: usize) {
     run_case(
         Shape { tau, k, w, t },
-        row_bits,
+        whole(row_bits),
         COUNTING,
         words(0, 0),
         NONE,
@@ -61,7 +97,13 @@ pub fn refused_shape(tau: usize, k: usize, w: usize, t: usize, row_bits: usize) 
 
 // A case with a challenge of zeros, and the byte `at` of the opening flipped before reconstruct.
 pub fn flipped(tau: usize, k: usize, t: usize, row_bits: usize, at: usize) {
-    run_case(shape_of(tau, k, t), row_bits, COUNTING, words(0, 0), at);
+    run_case(
+        shape_of(tau, k, t),
+        whole(row_bits),
+        COUNTING,
+        words(0, 0),
+        at,
+    );
 }
 
 // Decode with any four numbers for a shape.

@@ -2,7 +2,10 @@
 // Printed are the answer, and whether every byte of the outputs still is 0xa5.
 use spec::Shape;
 use test_support::lengths::Lengths;
+use test_support::lengths::Rows;
 use test_support::lengths::at_most;
+use test_support::lengths::part;
+use test_support::lengths::whole;
 use test_support::parts::front;
 use test_support::print::text;
 use vectors_calls::call_decode;
@@ -29,8 +32,8 @@ fn length(exact: usize, place: usize, which: usize, more: usize) -> usize {
 }
 
 // The lengths of the buffers of a call, which are at the places given.
-fn lengths(s: Shape, row_bits: usize, places: Lengths, which: usize, more: usize) -> Lengths {
-    let l = test_support::lengths::of(s, row_bits);
+fn lengths(s: Shape, rows: Rows, places: Lengths, which: usize, more: usize) -> Lengths {
+    let l = test_support::lengths::of(s, rows);
     Lengths {
         commitment: length(l.commitment, places.commitment, which, more),
         tree: length(l.tree, places.tree, which, more),
@@ -63,17 +66,8 @@ fn kept(yes: bool) {
     }
 }
 
-// `which` is 8 where each buffer has its length.
-pub fn probe_commit(
-    tau: usize,
-    k: usize,
-    w: usize,
-    t: usize,
-    row_bits: usize,
-    which: usize,
-    more: usize,
-) {
-    let s = Shape { tau, k, w, t };
+// Commit.
+fn commit_on(s: Shape, rows: Rows, which: usize, more: usize) {
     let places = Lengths {
         commitment: 2,
         tree: 3,
@@ -92,8 +86,8 @@ pub fn probe_commit(
     let mut corrections = [0xa5u8; 512];
     let r = vectors_calls::call_commit(
         s,
-        row_bits,
-        lengths(s, row_bits, places, which, more),
+        rows,
+        lengths(s, rows, places, which, more),
         front(&zeros, length(16, 0, which, more)),
         front(&zeros, length(16, 1, which, more)),
         &mut commitment,
@@ -106,6 +100,39 @@ pub fn probe_commit(
     print_answer(r);
     let first = is_kept(&commitment) & is_kept(&tree) & is_kept(&leaf_commitments);
     kept(first & is_kept(&u) & is_kept(&v) & is_kept(&corrections));
+}
+
+// `which` is 8 where each buffer has its length.
+pub fn probe_commit(
+    tau: usize,
+    k: usize,
+    w: usize,
+    t: usize,
+    row_bits: usize,
+    which: usize,
+    more: usize,
+) {
+    commit_on(Shape { tau, k, w, t }, whole(row_bits), which, more);
+}
+
+// The same with a stretch of the rows.
+pub fn probe_commit_stretch(
+    tau: usize,
+    k: usize,
+    w: usize,
+    t: usize,
+    row_bits: usize,
+    first: usize,
+    width: usize,
+    which: usize,
+    more: usize,
+) {
+    commit_on(
+        Shape { tau, k, w, t },
+        part(row_bits, first, width),
+        which,
+        more,
+    );
 }
 
 // The first byte of the challenge is c.
@@ -126,7 +153,7 @@ pub fn probe_open(tau: usize, k: usize, w: usize, t: usize, c: u8, which: usize,
     let mut opening = [0xa5u8; 512];
     let r = vectors_calls::call_open(
         s,
-        lengths(s, 8, places, which, more),
+        lengths(s, whole(8), places, which, more),
         front(&challenge, length(16, 0, which, more)),
         &zeros,
         &zeros,
@@ -136,19 +163,8 @@ pub fn probe_open(tau: usize, k: usize, w: usize, t: usize, c: u8, which: usize,
     kept(is_kept(&opening));
 }
 
-// The first byte of the challenge is c, and the byte of the opening at the place `set` is 1, where there is one.
-pub fn probe_reconstruct(
-    tau: usize,
-    k: usize,
-    w: usize,
-    t: usize,
-    row_bits: usize,
-    c: u8,
-    which: usize,
-    more: usize,
-    set: usize,
-) {
-    let s = Shape { tau, k, w, t };
+// Reconstruct.
+fn reconstruct_on(s: Shape, rows: Rows, c: u8, which: usize, more: usize, set: usize) {
     let places = Lengths {
         commitment: 4,
         tree: 5,
@@ -170,8 +186,8 @@ pub fn probe_reconstruct(
     let mut q = [0xa5u8; 512];
     let r = vectors_calls::call_reconstruct(
         s,
-        row_bits,
-        lengths(s, row_bits, places, which, more),
+        rows,
+        lengths(s, rows, places, which, more),
         front(&zeros, length(16, 0, which, more)),
         front(&challenge, length(16, 1, which, more)),
         &zeros,
@@ -184,6 +200,40 @@ pub fn probe_reconstruct(
     print_answer(r);
     let first = is_kept(&commitment) & is_kept(&tree);
     kept(first & is_kept(&leaf_commitments) & is_kept(&q));
+}
+
+// The first byte of the challenge is c, and the byte of the opening at the place `set` is 1, where there is one.
+pub fn probe_reconstruct(
+    tau: usize,
+    k: usize,
+    w: usize,
+    t: usize,
+    row_bits: usize,
+    c: u8,
+    which: usize,
+    more: usize,
+    set: usize,
+) {
+    let s = Shape { tau, k, w, t };
+    reconstruct_on(s, whole(row_bits), c, which, more, set);
+}
+
+// The same with a stretch of the rows.
+pub fn probe_reconstruct_stretch(
+    tau: usize,
+    k: usize,
+    w: usize,
+    t: usize,
+    row_bits: usize,
+    first: usize,
+    width: usize,
+    c: u8,
+    which: usize,
+    more: usize,
+    set: usize,
+) {
+    let s = Shape { tau, k, w, t };
+    reconstruct_on(s, part(row_bits, first, width), c, which, more, set);
 }
 
 // Whether each number is 0xa5a5a5a5.

@@ -1,4 +1,4 @@
-// The checking half's public call: reconstruct. Nothing here depends on the signing half.
+// The checking half's public calls: reconstruct and reconstruct_stretch. Nothing here depends on the signing half.
 ghost use mathlib.Core.Path.{_≡_};
 ghost use mathlib.Core.Bool.{true};
 ghost use mathlib.Core.List.{[], _∷_};
@@ -6,9 +6,10 @@ ghost use Prim.Native.Nat.{_≤_};
 ghost use lib.ListN.{length};
 ghost use Rattle.spec.specs.Shapes.{shapeOk, plannedCount, treeBytes, leafCommitmentsBytes, openingBytes, matrixBytes, correctionsBytes};
 ghost use Rattle.spec.specs.Primitives.{faest};
-ghost use Rattle.spec.specs.Calls.{fits, Reconstruct};
+ghost use Rattle.spec.specs.Calls.{fits, Reconstruct, ReconstructStretch};
 use spec::Answer;
 use spec::Shape;
+use spec::Stretch;
 
 // Whether the buffers of reconstruct have their lengths.
 fn reconstruct_lengths(
@@ -56,10 +57,12 @@ fn count_nodes(s: Shape, ch: &[u8]) -> usize
     planning::revealed_nodes(s, ch, &mut nodes)
 }
 
-// RECONSTRUCT: the commitment, the tree without its covered nodes, the leaf commitments and Q, from an opening. Every test comes before the first write.
-pub fn reconstruct(
+// RECONSTRUCT, of a stretch: the commitment, the tree without its covered nodes, the leaf commitments and the stretch of every column of Q, from an opening and
+// corrections that have the stretch alone. Every test comes before the first write.
+pub fn reconstruct_stretch(
     shape: Shape,
     row_bits: usize,
+    stretch: Stretch,
     iv: &[u8],
     challenge: &[u8],
     corrections: &[u8],
@@ -69,7 +72,7 @@ pub fn reconstruct(
     leaf_commitments: &mut [u8],
     q: &mut [u8],
 ) -> Answer
-    ensures { λ r. ⌜ Reconstruct faest shape «row_bits» (now (iv .entry)) (now (challenge .entry)) (now (corrections .entry)) (now (opening .entry))
+    ensures { λ r. ⌜ ReconstructStretch faest shape «row_bits» stretch (now (iv .entry)) (now (challenge .entry)) (now (corrections .entry)) (now (opening .entry))
         (record { commitment = now (commitment .entry); tree = now (tree .entry); leafCommitments = now («leaf_commitments» .entry); q = now (q .entry) })
         (record { commitment = now (commitment .exit); tree = now (tree .exit); leafCommitments = now («leaf_commitments» .exit); q = now (q .exit) })
         r ⌝ }
@@ -81,7 +84,10 @@ pub fn reconstruct(
     if !rules::is_row_length(row_bits) {
         return rules::answer(2, 0);
     }
-    let b = row_bits / 8;
+    if !rules::is_stretch(row_bits / 8, stretch) {
+        return rules::answer(8, 0);
+    }
+    let b = stretch.width;
     if !reconstruct_lengths(
         s,
         b,
@@ -108,7 +114,7 @@ pub fn reconstruct(
     }
     reconstruction::write_reconstruction(
         s,
-        b,
+        stretch,
         n,
         iv,
         challenge,
@@ -120,4 +126,41 @@ pub fn reconstruct(
         q,
     );
     rules::answer(0, n)
+}
+
+// RECONSTRUCT: the same of the whole row.
+pub fn reconstruct(
+    shape: Shape,
+    row_bits: usize,
+    iv: &[u8],
+    challenge: &[u8],
+    corrections: &[u8],
+    opening: &[u8],
+    commitment: &mut [u8],
+    tree: &mut [u8],
+    leaf_commitments: &mut [u8],
+    q: &mut [u8],
+) -> Answer
+    ensures { λ r. ⌜ Reconstruct faest shape «row_bits» (now (iv .entry)) (now (challenge .entry)) (now (corrections .entry)) (now (opening .entry))
+        (record { commitment = now (commitment .entry); tree = now (tree .entry); leafCommitments = now («leaf_commitments» .entry); q = now (q .entry) })
+        (record { commitment = now (commitment .exit); tree = now (tree .exit); leafCommitments = now («leaf_commitments» .exit); q = now (q .exit) })
+        r ⌝ }
+{
+    let whole = Stretch {
+        first: 0,
+        width: row_bits / 8,
+    };
+    reconstruct_stretch(
+        shape,
+        row_bits,
+        whole,
+        iv,
+        challenge,
+        corrections,
+        opening,
+        commitment,
+        tree,
+        leaf_commitments,
+        q,
+    )
 }

@@ -12,11 +12,12 @@ ghost use Rattle.spec.specs.Hashes.{hash1};
 ghost use Rattle.spec.specs.Shapes.{shapeOk, depthOf, entriesOf, hiddenIndex, treeBytes};
 ghost use Rattle.spec.specs.Primitives.{faest};
 ghost use Rattle.spec.specs.Leaves.{hashKey, leafKey, leafCommitment};
-ghost use Rattle.spec.specs.Rows.{columnByte};
+ghost use Rattle.spec.specs.Rows.{stretchByte, columnByte};
 ghost use Rattle.spec.specs.Verifier.{hiddenLeafCommitment};
 ghost use Rattle.field.specs.Field.{p384, Multiples};
 ghost use Rattle.verifier_vector.specs.Vector.{given, Converted};
 use spec::Shape;
+use spec::Stretch;
 
 // H1 of the leaf commitments of a vector whose entry d is hidden.
 fn hash_vector(lcs: &[u8], d: usize, hidden: &[u8], hash: &mut [u8])
@@ -38,7 +39,7 @@ fn add_visible(
     s: Shape,
     i: usize,
     d: usize,
-    b: usize,
+    z: Stretch,
     iv: [u8; 16],
     tree: &[u8],
     hidden: &[u8],
@@ -46,16 +47,16 @@ fn add_visible(
     cols: &mut [u8],
 )
     requires { ⌜ SboxTable (now t) ⌝ }
-    requires { ⌜ (shapeOk s ≡ true) × (i < s .tau) × (d < entriesOf s i) × (b ≤ 8192) × (length (now tree) ≡ treeBytes s) ⌝ }
-    requires { ⌜ (length (now hidden) ≡ 48) × (length (now lcs) ≡ 48 * entriesOf s i) × (length (now cols) ≡ b * depthOf s i) ⌝ }
+    requires { ⌜ (shapeOk s ≡ true) × (i < s .tau) × (d < entriesOf s i) × (z .first + z .width ≤ 8192) × (length (now tree) ≡ treeBytes s) ⌝ }
+    requires { ⌜ (length (now hidden) ≡ 48) × (length (now lcs) ≡ 48 * entriesOf s i) × (length (now cols) ≡ z .width * depthOf s i) ⌝ }
     requires { ⌜ Multiples 384 p384 (number 8 (hashKey faest s iv i)) (now m) ⌝ }
     ensures { λ _. ⌜ now (lcs .exit) ≡ concat (entriesOf s i) (given (now (hidden .entry)) (λ e. leafCommitment faest s iv i (leafKey s (now (tree .entry)) i e)) d) ⌝ }
-    ensures { λ _. ⌜ now (cols .exit) ≡ concat (depthOf s i) (λ j. tabulate b (columnByte faest s iv (now (tree .entry)) (λ e. bitXor e d) i j)) ⌝ }
+    ensures { λ _. ⌜ now (cols .exit) ≡ concat (depthOf s i) (λ j. tabulate (z .width) (columnByte s (stretchByte faest s z iv (now (tree .entry))) (λ e. bitXor e d) i j)) ⌝ }
 {
     // the checking half has no total
     let mut none = [0u8; 1];
     buffers::copy_part(hidden, 0, 48, lcs, 48 * d);
-    vector::add_entries(t, m, s, i, 1, d, b, iv, tree, lcs, &mut none[0..0], cols);
+    vector::add_entries(t, m, s, i, 1, d, z, iv, tree, lcs, &mut none[0..0], cols);
 }
 
 // Vector i, whose entry d is hidden.
@@ -64,7 +65,7 @@ pub fn convert(
     s: Shape,
     i: usize,
     d: usize,
-    b: usize,
+    z: Stretch,
     iv: [u8; 16],
     keys: &[u8],
     tree: &[u8],
@@ -74,12 +75,12 @@ pub fn convert(
     hash: &mut [u8],
 )
     requires { ⌜ SboxTable (now t) ⌝ }
-    requires { ⌜ (shapeOk s ≡ true) × (i < s .tau) × (d < entriesOf s i) × (b ≤ 8192) × (now keys ≡ faest .h0 s iv (48 * s .tau)) × (length (now tree) ≡ treeBytes s) ⌝ }
-    requires { ⌜ (length (now hidden) ≡ 48) × (length (now lcs) ≡ 48 * entriesOf s i) × (length (now cols) ≡ b * depthOf s i) × (length (now hash) ≡ 32) ⌝ }
+    requires { ⌜ (shapeOk s ≡ true) × (i < s .tau) × (d < entriesOf s i) × (z .first + z .width ≤ 8192) × (now keys ≡ faest .h0 s iv (48 * s .tau)) × (length (now tree) ≡ treeBytes s) ⌝ }
+    requires { ⌜ (length (now hidden) ≡ 48) × (length (now lcs) ≡ 48 * entriesOf s i) × (length (now cols) ≡ z .width * depthOf s i) × (length (now hash) ≡ 32) ⌝ }
     ensures { λ _. ⌜ ((ch opening : List ℕ) → d ≡ hiddenIndex s ch i → now (hidden .entry) ≡ hiddenLeafCommitment s opening i
-        → Converted s b iv ch opening (now (tree .entry)) i (now (lcs .exit)) (now (cols .exit)) (now (hash .exit))) ⌝ }
+        → Converted s z iv ch opening (now (tree .entry)) i (now (lcs .exit)) (now (cols .exit)) (now (hash .exit))) ⌝ }
 {
     let m = field::multiples(&keys[48 * i..48 * i + 48]);
-    add_visible(t, &m, s, i, d, b, iv, tree, hidden, lcs, cols);
+    add_visible(t, &m, s, i, d, z, iv, tree, hidden, lcs, cols);
     hash_vector(lcs, d, hidden, hash);
 }

@@ -8,11 +8,12 @@ use native.Mathlib.Omega.{arith}
 use lib.Bits.{bitXor}
 use lib.ListN.{length, getD, take}
 use Rattle.spec.specs.declared.Shape.{Shape}
+use Rattle.spec.specs.declared.Stretch.{Stretch}
 use Rattle.spec.specs.Bytes.{bit, part, tabulate, concat}
 use Rattle.spec.specs.Shapes.{depthOf, entriesOf, firstBit, firstEntry, hiddenIndex}
 use Rattle.spec.specs.Primitives.{faest}
 use Rattle.spec.specs.Leaves.{vectorCommitments, vectorHash}
-use Rattle.spec.specs.Rows.{columnByte}
+use Rattle.spec.specs.Rows.{stretchByte, columnByte}
 use Rattle.spec.specs.Verifier.{verifierLeafCommitment, correctionByte, verifierColumn}
 use Rattle.laws.proofs.Lists.{getD-part}
 use Rattle.laws.proofs.Concat.{concat-byte, is-concat}
@@ -49,12 +50,12 @@ module _ (s : Shape) (b : ℕ) (ch corrections : List ℕ) where
       (λ j p hj hp. correction-byte i d j p h hd hj hp) x
 
   -- the columns of a vector with its correction
-  pub corrected-columns : (iv tree : List ℕ) (i : ℕ) (old new : List ℕ) → length old ≡ b * depthOf s i
-      → old ≡ concat (depthOf s i) (λ j. tabulate b (columnByte faest s iv tree (λ e. bitXor e (hiddenIndex s ch i)) i j))
-      → Added b (depthOf s i) (correctionByte s b ch corrections i) old new → new ≡ concat (depthOf s i) (verifierColumn faest s b iv ch corrections tree i)
+  pub corrected-columns : (row : ℕ → ℕ → ℕ → ℕ) (i : ℕ) (old new : List ℕ) → length old ≡ b * depthOf s i
+      → old ≡ concat (depthOf s i) (λ j. tabulate b (columnByte s row (λ e. bitXor e (hiddenIndex s ch i)) i j))
+      → Added b (depthOf s i) (correctionByte s b ch corrections i) old new → new ≡ concat (depthOf s i) (verifierColumn s b row ch corrections i)
   unfolding verifierColumn
-  corrected-columns iv tree i old new l e x =
-      let own : ℕ → ℕ → ℕ = columnByte faest s iv tree (λ e. bitXor e (hiddenIndex s ch i)) i in
+  corrected-columns row i old new l e x =
+      let own : ℕ → ℕ → ℕ = columnByte s row (λ e. bitXor e (hiddenIndex s ch i)) i in
       is-concat b (depthOf s i) (λ j p. bitXor (own j p) (correctionByte s b ch corrections i j p)) new (x .size ∙ l)
       (λ j p hj hp.
       x .known j p hj hp
@@ -62,8 +63,11 @@ module _ (s : Shape) (b : ℕ) (ch corrections : List ℕ) where
 
 -- ---- all vectors
 
-module _ (s : Shape) (b : ℕ) (iv ch corrections opening tree : List ℕ) where
-  pub before-none : (lcs q hashes : List ℕ) → Before s b iv ch corrections opening tree 0 lcs q hashes
+module _ (s : Shape) (z : Stretch) (iv ch corrections opening tree : List ℕ) where
+  abbrev b : ℕ
+  b = z .width
+
+  pub before-none : (lcs q hashes : List ℕ) → Before s z iv ch corrections opening tree 0 lcs q hashes
   unfolding concat
   before-none lcs q hashes =
       record {
@@ -73,17 +77,17 @@ module _ (s : Shape) (b : ℕ) (iv ch corrections opening tree : List ℕ) where
       }
 
   -- one vector more, in parts that come back from it; l and c are where they begin
-  pub before-more : (i l c : ℕ) (lcs q hashes x y z x′ y′ z′ : List ℕ) → l ≡ 48 * firstEntry s i → c ≡ b * firstBit s i
+  pub before-more : (i l c : ℕ) (lcs q hashes x y h x′ y′ h′ : List ℕ) → l ≡ 48 * firstEntry s i → c ≡ b * firstBit s i
       → 48 * firstEntry s (i + 1) ≤ length lcs → b * firstBit s (i + 1) ≤ length q → 32 * i + 32 ≤ length hashes
-      → length x ≡ 48 * entriesOf s i → length y ≡ b * depthOf s i → length z ≡ 32
-      → Reconstructed s b iv ch corrections opening tree i x y z → Before s b iv ch corrections opening tree i lcs q hashes
-      → Before s b iv ch corrections opening tree (i + 1) (take l lcs ++ (x ++ x′)) (take c q ++ (y ++ y′)) (take (32 * i) hashes ++ (z ++ z′))
-  before-more i l c lcs q hashes x y z x′ y′ z′ el ec hl hq hh lx ly lz r f =
+      → length x ≡ 48 * entriesOf s i → length y ≡ b * depthOf s i → length h ≡ 32
+      → Reconstructed s z iv ch corrections opening tree i x y h → Before s z iv ch corrections opening tree i lcs q hashes
+      → Before s z iv ch corrections opening tree (i + 1) (take l lcs ++ (x ++ x′)) (take c q ++ (y ++ y′)) (take (32 * i) hashes ++ (h ++ h′))
+  before-more i l c lcs q hashes x y h x′ y′ h′ el ec hl hq hh lx ly lz r f =
       let lc : ℕ → ℕ → List ℕ = verifierLeafCommitment faest s iv ch opening tree in
       record {
         leaves = put-behind (vectorCommitments s lc) l (48 * firstEntry s i) (48 * entriesOf s i) (48 * firstEntry s (i + 1)) i lcs x x′ el (commitments-next s i) hl lx (r .leaves) (f .leaves);
         columns =
-            put-behind (λ i. concat (depthOf s i) (verifierColumn faest s b iv ch corrections tree i)) c (b * firstBit s i) (b * depthOf s i) (b * firstBit s (i + 1)) i q y y′ ec (columns-next s i b) hq ly
+            put-behind (λ i. concat (depthOf s i) (verifierColumn s b (stretchByte faest s z iv tree) ch corrections i)) c (b * firstBit s i) (b * depthOf s i) (b * firstBit s (i + 1)) i q y y′ ec (columns-next s i b) hq ly
             (r .columns) (f .columns);
-        digests = put-block (vectorHash faest s lc) 32 i hashes z z′ hh lz (r .digest) (f .digests);
+        digests = put-block (vectorHash faest s lc) 32 i hashes h h′ hh lz (r .digest) (f .digests);
       }

@@ -10,11 +10,12 @@ ghost use Rattle.spec.specs.Gf256.{SboxTable};
 ghost use Rattle.spec.specs.Shapes.{shapeOk, depthOf, entriesOf, hiddenIndex, treeBytes, leafCommitmentsBytes, openingBytes, matrixBytes, correctionsBytes};
 ghost use Rattle.spec.specs.Primitives.{faest};
 ghost use Rattle.spec.specs.Leaves.{leafCommitments, vectorHash};
-ghost use Rattle.spec.specs.Rows.{matrixOf};
+ghost use Rattle.spec.specs.Rows.{stretchByte, matrixOf};
 ghost use Rattle.spec.specs.Verifier.{hiddenLeafCommitment, verifierLeafCommitment, correctionByte, verifierColumn};
 ghost use Rattle.columns.specs.Columns.{Added};
 ghost use Rattle.verifier_vectors.specs.Vectors.{Reconstructed, Before};
 use spec::Shape;
+use spec::Stretch;
 
 // Adds the correction of vector i to its columns: nothing in vector 0, or where the bit of the hidden index d is 0.
 fn correct(s: Shape, i: usize, d: usize, b: usize, corrections: &[u8], cols: &mut [u8])
@@ -32,7 +33,7 @@ fn corrected_vector(
     t: &[u8; 256],
     s: Shape,
     i: usize,
-    b: usize,
+    z: Stretch,
     iv: [u8; 16],
     keys: &[u8],
     ch: &[u8],
@@ -44,13 +45,14 @@ fn corrected_vector(
     hash: &mut [u8],
 )
     requires { ⌜ SboxTable (now t) ⌝ }
-    requires { ⌜ (shapeOk s ≡ true) × (i < s .tau) × (b ≤ 8192) × (now keys ≡ faest .h0 s iv (48 * s .tau)) × (length (now ch) ≡ 16) × (length (now tree) ≡ treeBytes s) × (length (now corrections) ≡ correctionsBytes s b) ⌝ }
-    requires { ⌜ (length (now hidden) ≡ 48) × (length (now lcs) ≡ 48 * entriesOf s i) × (length (now cols) ≡ b * depthOf s i) × (length (now hash) ≡ 32) ⌝ }
+    requires { ⌜ (shapeOk s ≡ true) × (i < s .tau) × (z .first + z .width ≤ 8192) × (now keys ≡ faest .h0 s iv (48 * s .tau)) × (length (now ch) ≡ 16) × (length (now tree) ≡ treeBytes s) × (length (now corrections) ≡ correctionsBytes s (z .width)) ⌝ }
+    requires { ⌜ (length (now hidden) ≡ 48) × (length (now lcs) ≡ 48 * entriesOf s i) × (length (now cols) ≡ z .width * depthOf s i) × (length (now hash) ≡ 32) ⌝ }
     ensures { λ _. ⌜ ((opening : List ℕ) → now (hidden .entry) ≡ hiddenLeafCommitment s opening i
-        → Reconstructed s b iv (now (ch .entry)) (now (corrections .entry)) opening (now (tree .entry)) i (now (lcs .exit)) (now (cols .exit)) (now (hash .exit))) ⌝ }
+        → Reconstructed s z iv (now (ch .entry)) (now (corrections .entry)) opening (now (tree .entry)) i (now (lcs .exit)) (now (cols .exit)) (now (hash .exit))) ⌝ }
 {
+    let b = z.width;
     let d = challenge::hidden_index(s, ch, i);
-    verifier_vector::convert(t, s, i, d, b, iv, keys, tree, hidden, lcs, cols, hash);
+    verifier_vector::convert(t, s, i, d, z, iv, keys, tree, hidden, lcs, cols, hash);
     correct(s, i, d, b, corrections, cols);
 }
 
@@ -59,7 +61,7 @@ fn next_vector(
     t: &[u8; 256],
     s: Shape,
     i: usize,
-    b: usize,
+    z: Stretch,
     iv: [u8; 16],
     keys: &[u8],
     ch: &[u8],
@@ -71,11 +73,12 @@ fn next_vector(
     hashes: &mut [u8],
 )
     requires { ⌜ SboxTable (now t) ⌝ }
-    requires { ⌜ (shapeOk s ≡ true) × (i < s .tau) × (b ≤ 8192) × (now keys ≡ faest .h0 s iv (48 * s .tau)) × (length (now ch) ≡ 16) × (length (now tree) ≡ treeBytes s) × (length (now corrections) ≡ correctionsBytes s b) × (length (now opening) ≡ openingBytes s) ⌝ }
-    requires { ⌜ (length (now lcs) ≡ leafCommitmentsBytes s) × (length (now q) ≡ matrixBytes s b) × (length (now hashes) ≡ 32 * s .tau) ⌝ }
-    ensures { λ _. ⌜ (Before s b iv (now (ch .entry)) (now (corrections .entry)) (now (opening .entry)) (now (tree .entry)) i (now (lcs .entry)) (now (q .entry)) (now (hashes .entry))
-        → Before s b iv (now (ch .entry)) (now (corrections .entry)) (now (opening .entry)) (now (tree .entry)) (i + 1) (now (lcs .exit)) (now (q .exit)) (now (hashes .exit))) ⌝ }
+    requires { ⌜ (shapeOk s ≡ true) × (i < s .tau) × (z .first + z .width ≤ 8192) × (now keys ≡ faest .h0 s iv (48 * s .tau)) × (length (now ch) ≡ 16) × (length (now tree) ≡ treeBytes s) × (length (now corrections) ≡ correctionsBytes s (z .width)) × (length (now opening) ≡ openingBytes s) ⌝ }
+    requires { ⌜ (length (now lcs) ≡ leafCommitmentsBytes s) × (length (now q) ≡ matrixBytes s (z .width)) × (length (now hashes) ≡ 32 * s .tau) ⌝ }
+    ensures { λ _. ⌜ (Before s z iv (now (ch .entry)) (now (corrections .entry)) (now (opening .entry)) (now (tree .entry)) i (now (lcs .entry)) (now (q .entry)) (now (hashes .entry))
+        → Before s z iv (now (ch .entry)) (now (corrections .entry)) (now (opening .entry)) (now (tree .entry)) (i + 1) (now (lcs .exit)) (now (q .exit)) (now (hashes .exit))) ⌝ }
 {
+    let b = z.width;
     let lcs_from = vector::commitments_from(s, i);
     let lcs_to = vector::commitments_from(s, i + 1);
     let q_from = vector::columns_from(s, i, b);
@@ -84,7 +87,7 @@ fn next_vector(
         t,
         s,
         i,
-        b,
+        z,
         iv,
         keys,
         ch,
@@ -101,7 +104,7 @@ fn next_vector(
 fn each_vector(
     t: &[u8; 256],
     s: Shape,
-    b: usize,
+    z: Stretch,
     iv: [u8; 16],
     keys: &[u8],
     ch: &[u8],
@@ -113,9 +116,9 @@ fn each_vector(
     hashes: &mut [u8],
 )
     requires { ⌜ SboxTable (now t) ⌝ }
-    requires { ⌜ (shapeOk s ≡ true) × (b ≤ 8192) × (now keys ≡ faest .h0 s iv (48 * s .tau)) × (length (now ch) ≡ 16) × (length (now tree) ≡ treeBytes s) × (length (now corrections) ≡ correctionsBytes s b) × (length (now opening) ≡ openingBytes s) ⌝ }
-    requires { ⌜ (length (now lcs) ≡ leafCommitmentsBytes s) × (length (now q) ≡ matrixBytes s b) × (length (now hashes) ≡ 32 * s .tau) ⌝ }
-    ensures { λ _. ⌜ Before s b iv (now (ch .entry)) (now (corrections .entry)) (now (opening .entry)) (now (tree .entry)) (s .tau) (now (lcs .exit)) (now (q .exit)) (now (hashes .exit)) ⌝ }
+    requires { ⌜ (shapeOk s ≡ true) × (z .first + z .width ≤ 8192) × (now keys ≡ faest .h0 s iv (48 * s .tau)) × (length (now ch) ≡ 16) × (length (now tree) ≡ treeBytes s) × (length (now corrections) ≡ correctionsBytes s (z .width)) × (length (now opening) ≡ openingBytes s) ⌝ }
+    requires { ⌜ (length (now lcs) ≡ leafCommitmentsBytes s) × (length (now q) ≡ matrixBytes s (z .width)) × (length (now hashes) ≡ 32 * s .tau) ⌝ }
+    ensures { λ _. ⌜ Before s z iv (now (ch .entry)) (now (corrections .entry)) (now (opening .entry)) (now (tree .entry)) (s .tau) (now (lcs .exit)) (now (q .exit)) (now (hashes .exit)) ⌝ }
 {
     let n = s.tau;
     for i in 0..n {
@@ -123,7 +126,7 @@ fn each_vector(
             t,
             s,
             i,
-            b,
+            z,
             iv,
             keys,
             ch,
@@ -141,7 +144,7 @@ fn each_vector(
 pub fn write_vectors(
     t: &[u8; 256],
     s: Shape,
-    b: usize,
+    z: Stretch,
     iv: [u8; 16],
     keys: &[u8],
     ch: &[u8],
@@ -153,16 +156,16 @@ pub fn write_vectors(
     hashes: &mut [u8],
 )
     requires { ⌜ SboxTable (now t) ⌝ }
-    requires { ⌜ (shapeOk s ≡ true) × (b ≤ 8192) × (now keys ≡ faest .h0 s iv (48 * s .tau)) × (length (now ch) ≡ 16) × (length (now tree) ≡ treeBytes s) × (length (now corrections) ≡ correctionsBytes s b) × (length (now opening) ≡ openingBytes s) ⌝ }
-    requires { ⌜ (length (now lcs) ≡ leafCommitmentsBytes s) × (length (now q) ≡ matrixBytes s b) × (length (now hashes) ≡ 32 * s .tau) ⌝ }
+    requires { ⌜ (shapeOk s ≡ true) × (z .first + z .width ≤ 8192) × (now keys ≡ faest .h0 s iv (48 * s .tau)) × (length (now ch) ≡ 16) × (length (now tree) ≡ treeBytes s) × (length (now corrections) ≡ correctionsBytes s (z .width)) × (length (now opening) ≡ openingBytes s) ⌝ }
+    requires { ⌜ (length (now lcs) ≡ leafCommitmentsBytes s) × (length (now q) ≡ matrixBytes s (z .width)) × (length (now hashes) ≡ 32 * s .tau) ⌝ }
     ensures { λ _. ⌜ now (lcs .exit) ≡ leafCommitments s (verifierLeafCommitment faest s iv (now (ch .entry)) (now (opening .entry)) (now (tree .entry))) ⌝ }
-    ensures { λ _. ⌜ now (q .exit) ≡ matrixOf s b (verifierColumn faest s b iv (now (ch .entry)) (now (corrections .entry)) (now (tree .entry))) ⌝ }
+    ensures { λ _. ⌜ now (q .exit) ≡ matrixOf s (z .width) (verifierColumn s (z .width) (stretchByte faest s z iv (now (tree .entry))) (now (ch .entry)) (now (corrections .entry))) ⌝ }
     ensures { λ _. ⌜ now (hashes .exit) ≡ concat (s .tau) (vectorHash faest s (verifierLeafCommitment faest s iv (now (ch .entry)) (now (opening .entry)) (now (tree .entry)))) ⌝ }
 {
     each_vector(
         t,
         s,
-        b,
+        z,
         iv,
         keys,
         ch,
@@ -174,6 +177,6 @@ pub fn write_vectors(
         hashes,
     );
     let n = s.tau;
-    let used = vector::columns_from(s, n, b);
+    let used = vector::columns_from(s, n, z.width);
     buffers::clear_from(q, used);
 }

@@ -55,6 +55,52 @@ fn roundtrip() {
 }
 
 #[test]
+fn stretches() {
+    // The whole row is the stretch 0, b.
+    let tail = format!("{ROOT} {ROOT} {CHALLENGE_0C}");
+    for command in ["open", "reconstruct", "roundtrip"] {
+        let whole = program(&format!("{command} 2 2 124 4 200 {tail}"), "");
+        let stretch = format!("{command}_stretch 2 2 124 4 200 0 25 {tail}");
+        assert_eq!(program(&stretch, ""), whole, "{command}");
+        assert_eq!(whole.0, 0);
+    }
+    // u, which is printed in full, and the corrections.
+    let lines = |args: String| {
+        let (status, text) = program(&args, "");
+        assert_eq!(status, 0);
+        let words = |line: &str| line.split(' ').map(String::from).collect();
+        text.lines().map(words).collect::<Vec<Vec<String>>>()
+    };
+    let whole = lines(format!("commit 2 2 124 4 200 {ROOT} {ROOT}"));
+    let part = lines(format!("commit_stretch 2 2 124 4 200 13 5 {ROOT} {ROOT}"));
+    assert_eq!(part[..5], whole[..5]);
+    for line in [5, 7] {
+        assert_eq!(whole[line][1], "25");
+        assert_eq!(part[line][1], "5");
+        assert_eq!(part[line][2], whole[line][2][26..36]);
+    }
+    assert_eq!(part[6][1], "640");
+    // A refused stretch, with each of the numbers in its turn.
+    let refused = |number: u32| (0, format!("number {number}\ncount 0\n"));
+    for (shape, bits, challenge, number) in [
+        ("2 2 124 4", 200, CHALLENGE_0C, 8),
+        ("2 2 124 4", 200, CHALLENGE_10, 8),
+        ("2 2 124 4", 200, &ROOT[2..], 8),
+        ("2 2 124 4", 201, CHALLENGE_0C, 2),
+        ("2 2 122 4", 200, CHALLENGE_0C, 1),
+    ] {
+        let huge = usize::MAX;
+        for stretch in ["0 0", "1 25", &format!("{huge} 1"), &format!("1 {huge}")] {
+            let args = format!("{shape} {bits} {stretch} {ROOT} {ROOT} {challenge}");
+            for command in ["open", "reconstruct", "roundtrip"] {
+                let output = program(&format!("{command}_stretch {args}"), "");
+                assert_eq!(output, refused(number), "{command} {args}");
+            }
+        }
+    }
+}
+
+#[test]
 fn refusals() {
     let refused = |number: u32, count: u32| (0, format!("number {number}\ncount {count}\n"));
     let short = &ROOT[2..];
@@ -128,6 +174,40 @@ fn probes() {
         ("reconstruct 2 2 124 4 16 0 8 0 128", 6, 2, "kept"),
         ("reconstruct 2 2 124 4 16 16 8 0 128", 4, 0, "kept"),
         ("reconstruct 2 2 124 4 16 16 7 0 128", 3, 0, "kept"),
+        ("commit_stretch 2 2 124 4 24 1 2 8 0", 0, 0, "written"),
+        ("commit_stretch 2 2 124 4 24 1 2 5 1", 3, 0, "kept"),
+        ("commit_stretch 2 2 124 4 24 2 2 5 1", 8, 0, "kept"),
+        ("commit_stretch 2 2 124 4 12 2 2 5 1", 2, 0, "kept"),
+        (
+            "reconstruct_stretch 2 2 124 4 24 1 2 0 8 0 160",
+            0,
+            2,
+            "written",
+        ),
+        (
+            "reconstruct_stretch 2 2 124 4 24 1 2 0 8 0 128",
+            6,
+            2,
+            "kept",
+        ),
+        (
+            "reconstruct_stretch 2 2 124 4 24 1 2 16 2 1 128",
+            3,
+            0,
+            "kept",
+        ),
+        (
+            "reconstruct_stretch 2 2 124 4 24 3 0 16 2 1 128",
+            8,
+            0,
+            "kept",
+        ),
+        (
+            "reconstruct_stretch 2 2 122 4 24 3 0 16 2 1 128",
+            1,
+            0,
+            "kept",
+        ),
         ("decode 2 2 124 3 12 2 0", 0, 0, "written"),
         ("decode 2 2 124 4 16 2 0", 4, 0, "kept"),
         ("decode 2 2 124 4 16 1 0", 3, 0, "kept"),
@@ -214,6 +294,13 @@ fn arguments_that_cannot_be_read() {
         "probe_commit 1 1 127 1 8 0".into(),
         "probe_open 1 1 127 1 256 0 0".into(),
         "probe_reconstruct 1 1 127 1 8 0 0 0".into(),
+        format!("commit_stretch 1 1 127 1 8 0 {ROOT} {ROOT}"),
+        format!("commit_stretch 1 1 127 1 8 0 x {ROOT} {ROOT}"),
+        format!("commit_stretch 1 1 127 1 8 0 18446744073709551616 {ROOT} {ROOT}"),
+        format!("commit 1 1 127 1 8 0 1 {ROOT} {ROOT}"),
+        format!("plan_stretch 1 1 127 1 8 0 1 {ROOT}"),
+        "list_stretch".into(),
+        "probe_open_stretch 1 1 127 1 8 0 1 0 0 0".into(),
         format!("record 1 1 127 1 8 {ROOT} {ROOT}"),
         format!("pairs 1 1 127 1 8 {ROOT} {ROOT} {ROOT} 0"),
         "check more".into(),

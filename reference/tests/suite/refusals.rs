@@ -1,7 +1,10 @@
 //! The refusals: each of them, their order, and that nothing is written.
 
-use reference::calls::{commit, decode, open, plan, reconstruct, Answer};
+use reference::calls::{
+    commit, commit_stretch, decode, open, plan, reconstruct, reconstruct_stretch, Answer,
+};
 use reference::shape::Shape;
+use reference::stretch::Stretch;
 
 use crate::support::{first_byte, noise};
 
@@ -10,6 +13,7 @@ use crate::support::{first_byte, noise};
 struct Lent {
     shape: Shape,
     row_bits: usize,
+    stretch: Stretch,
     read: Vec<Vec<u8>>,
     written: Vec<Vec<u8>>,
     numbers: Vec<u32>,
@@ -26,7 +30,9 @@ struct Call {
     checks: &'static [u32],
 }
 
+/// The bytes of a row, and the stretch of the calls that have one.
 const B: usize = 3;
+const STRETCH: Stretch = Stretch::new(1, 2);
 
 /// Buffers of these lengths, the written ones with a pattern in them.
 fn lend(shape: Shape, read: Vec<Vec<u8>>, written: &[usize], numbers: usize) -> Lent {
@@ -34,13 +40,40 @@ fn lend(shape: Shape, read: Vec<Vec<u8>>, written: &[usize], numbers: usize) -> 
     Lent {
         shape,
         row_bits: 8 * B,
+        stretch: STRETCH,
         read,
         written: written.iter().enumerate().map(pattern).collect(),
         numbers: (0..numbers as u32).map(|n| 0xabcd_0000 + n).collect(),
     }
 }
 
-const CALLS: [Call; 5] = [
+/// The buffers of commit and of reconstruct for rows of which b bytes are written.
+fn lend_commit(shape: Shape, b: usize) -> Lent {
+    let l = shape.tau << shape.k;
+    let written = [
+        32,
+        16 * (2 * l - 1),
+        48 * l,
+        b,
+        128 * b,
+        (shape.tau - 1) * b,
+    ];
+    lend(shape, vec![noise(7, 16), noise(8, 16)], &written, 0)
+}
+
+fn lend_reconstruct(shape: Shape, challenge: &[u8], b: usize) -> Lent {
+    let l = shape.tau << shape.k;
+    let corrections = noise(11, (shape.tau - 1) * b);
+    // The unused slots are zero: at most two nodes are needed where
+    // the shape allows four (see `lent_with`).
+    let mut opening = noise(12, 48 * shape.tau + 32);
+    opening.resize(48 * shape.tau + 16 * shape.t, 0);
+    let read = vec![noise(8, 16), challenge.to_vec(), corrections, opening];
+    let written = [32, 16 * (2 * l - 1), 48 * l, 128 * b];
+    lend(shape, read, &written, 0)
+}
+
+const CALLS: [Call; 7] = [
     Call {
         name: "decode",
         lend: |shape, challenge| lend(shape, vec![challenge.to_vec()], &[], shape.tau),
@@ -59,18 +92,7 @@ const CALLS: [Call; 5] = [
     },
     Call {
         name: "commit",
-        lend: |shape, _| {
-            let l = shape.tau << shape.k;
-            let written = [
-                32,
-                16 * (2 * l - 1),
-                48 * l,
-                B,
-                128 * B,
-                (shape.tau - 1) * B,
-            ];
-            lend(shape, vec![noise(7, 16), noise(8, 16)], &written, 0)
-        },
+        lend: |shape, _| lend_commit(shape, B),
         make: |lent| {
             let [commitment, tree, coms, u, v, corrections] = &mut lent.written[..] else {
                 unreachable!()
@@ -111,17 +133,7 @@ const CALLS: [Call; 5] = [
     },
     Call {
         name: "reconstruct",
-        lend: |shape, challenge| {
-            let l = shape.tau << shape.k;
-            let corrections = noise(11, (shape.tau - 1) * B);
-            // The unused slots are zero: at most two nodes are needed where
-            // the shape allows four (see `lent_with`).
-            let mut opening = noise(12, 48 * shape.tau + 32);
-            opening.resize(48 * shape.tau + 16 * shape.t, 0);
-            let read = vec![noise(8, 16), challenge.to_vec(), corrections, opening];
-            let written = [32, 16 * (2 * l - 1), 48 * l, 128 * B];
-            lend(shape, read, &written, 0)
-        },
+        lend: |shape, challenge| lend_reconstruct(shape, challenge, B),
         make: |lent| {
             let [commitment, tree, coms, q] = &mut lent.written[..] else {
                 unreachable!()
@@ -143,7 +155,61 @@ const CALLS: [Call; 5] = [
         opening: Some(3),
         checks: &[1, 2, 3, 4, 5, 6],
     },
+    Call {
+        name: "commit_stretch",
+        lend: |shape, _| lend_commit(shape, STRETCH.width),
+        make: |lent| {
+            let [commitment, tree, coms, u, v, corrections] = &mut lent.written[..] else {
+                unreachable!()
+            };
+            let (root, iv) = (&lent.read[0], &lent.read[1]);
+            commit_stretch(
+                lent.shape,
+                lent.row_bits,
+                lent.stretch,
+                root,
+                iv,
+                commitment,
+                tree,
+                coms,
+                u,
+                v,
+                corrections,
+            )
+        },
+        challenge: None,
+        opening: None,
+        checks: &[1, 2, 8, 3],
+    },
+    Call {
+        name: "reconstruct_stretch",
+        lend: |shape, challenge| lend_reconstruct(shape, challenge, STRETCH.width),
+        make: |lent| {
+            let [commitment, tree, coms, q] = &mut lent.written[..] else {
+                unreachable!()
+            };
+            reconstruct_stretch(
+                lent.shape,
+                lent.row_bits,
+                lent.stretch,
+                &lent.read[0],
+                &lent.read[1],
+                &lent.read[2],
+                &lent.read[3],
+                commitment,
+                tree,
+                coms,
+                q,
+            )
+        },
+        challenge: Some(1),
+        opening: Some(3),
+        checks: &[1, 2, 8, 3, 4, 5, 6],
+    },
 ];
+
+/// The numbers in the order in which they are tested.
+const ORDER: [u32; 7] = [1, 2, 8, 3, 4, 5, 6];
 
 /// Makes the call. The answer must be this one; with a refusal all that was
 /// lent must be as it was, with 0 every output must have lost its pattern.
@@ -188,6 +254,9 @@ fn lent_with(call: &Call, conditions: &[u32]) -> (Lent, u32) {
             None => lent.numbers.push(0x55),
         }
     }
+    if holds(8) {
+        lent.stretch.first = B - lent.stretch.width + 1;
+    }
     if holds(2) {
         lent.row_bits = 12;
     }
@@ -200,8 +269,9 @@ fn lent_with(call: &Call, conditions: &[u32]) -> (Lent, u32) {
 #[test]
 fn every_set_of_conditions() {
     for call in &CALLS {
-        for set in 0..64u32 {
-            let conditions: Vec<u32> = (1..=6).filter(|n| set >> (n - 1) & 1 == 1).collect();
+        for set in 0..128u32 {
+            let chosen = |&n: &usize| set >> n & 1 == 1;
+            let conditions: Vec<u32> = (0..7).filter(chosen).map(|n| ORDER[n]).collect();
             if conditions.contains(&5) && conditions.contains(&6) {
                 continue;
             }
@@ -210,7 +280,7 @@ fn every_set_of_conditions() {
                 .iter()
                 .find(|number| call.checks.contains(number));
             let number = first.copied().unwrap_or(0);
-            let counting = ["plan", "open", "reconstruct"].contains(&call.name);
+            let counting = !["decode", "commit", "commit_stretch"].contains(&call.name);
             let count = match number {
                 0 | 5 | 6 if counting => needed,
                 _ => 0,
@@ -270,17 +340,76 @@ fn one_vector_has_no_corrections() {
         if let Some(opening) = call.opening {
             lent.read[opening].truncate(48 + 16);
         }
-        let count = u32::from(call.name == "reconstruct");
+        let count = u32::from(call.opening.is_some());
         expect(call, &lent, Answer { number: 0, count }, "no corrections");
-        match call.name {
-            "commit" => lent.written[5].push(0),
-            _ => lent.read[2].push(0),
+        match call.opening {
+            None => lent.written[5].push(0),
+            Some(_) => lent.read[2].push(0),
         }
         let refused = Answer {
             number: 3,
             count: 0,
         };
         expect(call, &lent, refused, "a byte of corrections");
+    }
+}
+
+#[test]
+fn the_lengths_of_a_stretch_are_not_those_of_the_rows() {
+    let refused = Answer {
+        number: 3,
+        count: 0,
+    };
+    let shape = Shape::new(2, 2, 124, 4);
+    let (commit_stretch, reconstruct_stretch) = (&CALLS[5], &CALLS[6]);
+    expect(
+        commit_stretch,
+        &lend_commit(shape, B),
+        refused,
+        "whole rows",
+    );
+    let lent = lend_reconstruct(shape, &first_byte(0), B);
+    expect(reconstruct_stretch, &lent, refused, "whole rows");
+    // The corrections alone are whole ones.
+    let mut lent = lend_reconstruct(shape, &first_byte(0), STRETCH.width);
+    lent.read[2] = noise(11, B);
+    expect(reconstruct_stretch, &lent, refused, "whole corrections");
+}
+
+#[test]
+fn stretches_that_are_refused() {
+    let refused = Answer {
+        number: 8,
+        count: 0,
+    };
+    for call in &CALLS[5..] {
+        let (lent, _) = lent_with(call, &[]);
+        for (first, width) in [
+            (0, 0),
+            (1, 0),
+            (B, 0),
+            (B + 1, 0),
+            (usize::MAX, 0),
+            (0, B + 1),
+            (1, B),
+            (B, 1),
+            (B - 1, 2),
+            (usize::MAX, 1),
+            (usize::MAX - 1, 2),
+            (usize::MAX - 1, 1),
+            (1, usize::MAX),
+            (2, usize::MAX - 1),
+            (0, usize::MAX),
+            (usize::MAX, usize::MAX),
+            (1 << 63, 1 << 63),
+            ((1 << 63) + 1, (1 << 63) + 1),
+            (1 << 32, 1),
+            (1, (1 << 32) + 1),
+        ] {
+            let mut other = lent.clone();
+            other.stretch = Stretch::new(first, width);
+            expect(call, &other, refused, &format!("{first} {width}"));
+        }
     }
 }
 

@@ -1,10 +1,11 @@
 //! Commit, open and reconstruct one after another, and what each of them makes
 //! of bytes that no other call wrote.
 
-use reference::calls::{commit, open, reconstruct, Answer};
+use reference::calls::{commit, commit_stretch, open, reconstruct, reconstruct_stretch, Answer};
 use reference::prg::prg;
 use reference::shake::shake128;
 use reference::shape::Shape;
+use reference::stretch::Stretch;
 use reference::Block;
 
 use crate::support::{allowed, covered, indices, leaves, noise, revealed};
@@ -79,6 +80,66 @@ fn verify(
     verifier.answer = reconstruct(
         shape,
         row_bits,
+        iv,
+        challenge,
+        corrections,
+        opening,
+        &mut verifier.commitment,
+        &mut verifier.tree,
+        &mut verifier.coms,
+        &mut verifier.q,
+    );
+    verifier
+}
+
+fn sign_stretch(shape: Shape, row_bits: usize, z: Stretch, root: &[u8], iv: &[u8]) -> Signer {
+    let (l, g) = (leaves(&shape), z.width);
+    let mut signer = Signer {
+        commitment: noise(1, 32),
+        tree: noise(2, 16 * (2 * l - 1)),
+        coms: noise(3, 48 * l),
+        u: noise(4, g),
+        v: noise(5, 128 * g),
+        corrections: noise(6, (shape.tau - 1) * g),
+    };
+    let answer = commit_stretch(
+        shape,
+        row_bits,
+        z,
+        root,
+        iv,
+        &mut signer.commitment,
+        &mut signer.tree,
+        &mut signer.coms,
+        &mut signer.u,
+        &mut signer.v,
+        &mut signer.corrections,
+    );
+    assert_eq!(answer, Answer::done(0));
+    signer
+}
+
+fn verify_stretch(
+    shape: Shape,
+    row_bits: usize,
+    z: Stretch,
+    iv: &[u8],
+    challenge: &[u8],
+    corrections: &[u8],
+    opening: &[u8],
+) -> Verifier {
+    let l = leaves(&shape);
+    let mut verifier = Verifier {
+        answer: Answer::done(0),
+        commitment: noise(11, 32),
+        tree: noise(12, 16 * (2 * l - 1)),
+        coms: noise(13, 48 * l),
+        q: noise(15, 128 * z.width),
+    };
+    verifier.answer = reconstruct_stretch(
+        shape,
+        row_bits,
+        z,
         iv,
         challenge,
         corrections,
@@ -358,4 +419,112 @@ fn reconstruction_of_any_opening() {
         };
         assert_eq!(difference, expected, "column {j}");
     }
+}
+
+/// Byte by byte: byte p of string c of the stretch is byte f + p of string c.
+fn assert_cut(part: &[u8], whole: &[u8], b: usize, z: Stretch) {
+    assert_eq!(part.len() * b, whole.len() * z.width);
+    for (n, byte) in part.iter().enumerate() {
+        let (c, p) = (n / z.width, n % z.width);
+        assert_eq!(
+            *byte,
+            whole[b * c + z.first + p],
+            "{z:?} string {c} byte {p}"
+        );
+    }
+}
+
+/// Document 02, E1: a stretch is the same bytes of the whole result, for both
+/// halves, and the column rule holds of it.
+fn stretches(tau: usize, k: usize, w: usize, b: usize, chosen: &[(usize, usize)]) {
+    let shape = Shape::new(tau, k, w, 512);
+    let seed = (tau << 8 | k) as u64;
+    let (root, iv) = (noise(seed, 16), noise(seed + 1, 16));
+    let challenge = allowed(&shape, &noise(seed + 2, 16));
+    let whole = sign(shape, 8 * b, &root, &iv);
+    let (answer, opening) = opened(shape, &challenge, &whole);
+    let corrections = noise(seed + 3, (tau - 1) * b);
+    let remade = verify(shape, 8 * b, &iv, &challenge, &corrections, &opening);
+    assert_eq!(remade.answer, answer);
+    for &(first, width) in chosen {
+        let z = Stretch::new(first, width);
+        let part = sign_stretch(shape, 8 * b, z, &root, &iv);
+        assert_eq!(part.commitment, whole.commitment);
+        assert_eq!((&part.tree, &part.coms), (&whole.tree, &whole.coms));
+        assert_cut(&part.u, &whole.u, b, z);
+        assert_cut(&part.v, &whole.v, b, z);
+        assert_cut(&part.corrections, &whole.corrections, b, z);
+
+        // Corrections that are noise: those of the stretch are all that is lent.
+        let cut: Vec<u8> = corrections
+            .chunks_exact(b)
+            .flat_map(|correction| correction[first..first + width].to_vec())
+            .collect();
+        let made = verify_stretch(shape, 8 * b, z, &iv, &challenge, &cut, &opening);
+        assert_eq!(made.answer, answer);
+        assert_eq!(made.commitment, remade.commitment);
+        assert_eq!((&made.tree, &made.coms), (&remade.tree, &remade.coms));
+        assert_cut(&made.q, &remade.q, b, z);
+
+        // The corrections of the signer.
+        let cut = &part.corrections;
+        let made = verify_stretch(shape, 8 * b, z, &iv, &challenge, cut, &opening);
+        for j in 0..128 {
+            let place = width * j..width * (j + 1);
+            let v = part.v[place.clone()].to_vec();
+            let expected = match bit(&challenge, j) {
+                true => xor(&v, &part.u),
+                false => v,
+            };
+            assert_eq!(made.q[place], expected, "{shape:?} {z:?} column {j}");
+        }
+    }
+}
+
+#[test]
+fn stretches_of_short_rows() {
+    // Every stretch of rows of 1, 2 and 17 bytes.
+    for b in [1, 2, 17] {
+        let firsts = (0..b).flat_map(|first| (1..=b - first).map(move |width| (first, width)));
+        stretches(3, 1, 123, b, &firsts.collect::<Vec<_>>());
+    }
+}
+
+#[test]
+fn stretches_of_long_rows() {
+    const CHOSEN: [(usize, usize); 10] = [
+        (0, 210),
+        (0, 1),
+        (209, 1),
+        (5, 20),
+        (13, 37),
+        (16, 32),
+        (15, 1),
+        (15, 2),
+        (0, 16),
+        (200, 10),
+    ];
+    stretches(1, 1, 127, 210, &CHOSEN);
+    stretches(4, 3, 116, 210, &CHOSEN);
+    stretches(7, 2, 110, 210, &CHOSEN);
+    stretches(16, 7, 8, 210, &[(13, 37)]);
+    stretches(2, 2, 124, 8192, &[(0, 16), (8176, 16), (5000, 16)]);
+}
+
+#[test]
+fn a_stretch_by_its_definition() {
+    // Byte p of u is the xor of the bytes f + p of all rows of vector 0.
+    let (shape, row_bits) = (Shape::new(3, 4, 116, 512), 400);
+    let iv: Block = noise(21, 16).try_into().unwrap();
+    let signer = sign_stretch(shape, row_bits, Stretch::new(21, 20), &noise(20, 16), &iv);
+    let l = 3 << 4;
+    let mut u = vec![0; 20];
+    for j in 0..16 {
+        let at = 16 * (l - 1 + 3 * j);
+        let leaf: Block = signer.tree[at..at + 16].try_into().unwrap();
+        let seed = prg(&leaf, &iv, (l - 1) as u32, 128).try_into().unwrap();
+        let row = prg(&seed, &iv, 0x8000_0000, row_bits);
+        u = xor(&u, &row[21..41]);
+    }
+    assert_eq!(signer.u, u);
 }

@@ -1,5 +1,7 @@
 -- The counter's state, encrypted.
+use mathlib.Core.Path.{ap, _∙_}
 use borrow.Author.Needs.{needs}
+use Rattle.spec.specs.Aes.{bytesOf}
 use Rattle.generator.proofs.Blocks.{block-is}
 use Rattle.generator.proofs.block.Statement.{statement}
 use Rattle.generator.proofs.block.Tie as tie
@@ -8,8 +10,8 @@ returns : tie.Need-returns
 returns c =
     λ key e.
     let a = c .before .before .before .before .before .args in
-    block-is 4 key (a .t3) (a .tweak) (a .n) _ _ _ _ (c .before .before .before .load-state .ensures) (c .before .before .counter .ensures)
-    (c .before .encrypt .ensures key e) (c .bytes-of .ensures)
+    block-is 4 key (a .t3) (a .tweak) (a .n) _ _ _ (c .before .before .before .load-state .ensures) (c .before .before .counter .ensures)
+    (c .bytes-of .ensures ∙ ap bytesOf (c .before .encrypt .ensures key e))
 
 pub block-spec : {M : Type 1} → statement M
 block-spec =

@@ -1,20 +1,21 @@
--- `generator::fill` meets its contract. The loop's invariant: the first p bytes of out are the output's. The measure is the number of bytes left.
-use Prim.Native.Nat.{_-_, _/_, _%_, _≤_}
+-- `generator::fill` meets its contract. The loop's invariant: the first p bytes of out are the output's from byte `first` on. The measure is the number of bytes
+-- left.
+use Prim.Native.Nat.{ℕ, _+_, _-_, _≤_}
 use native.Mathlib.Omega.{arith}
 use borrow.Author.Needs.{needs}
 use lib.ListN.{length}
 use Rattle.spec.specs.Generator.{generatorByte}
 use Rattle.laws.specs.Front.{Front}
 use Rattle.laws.proofs.Front.{front-none, front-all}
-use Rattle.generator.proofs.Blocks.{pair-byte}
+use Rattle.generator.proofs.Blocks.{block-byte}
 use Rattle.generator.proofs.fill.Statement.{statement}
 use Rattle.generator.proofs.fill.Tie as tie
 
 abbrev Inv-loop : tie.InvT-loop
-Inv-loop t key iv tweak out₀ keys p₀ out p = (p ≤ length out₀) × Front (generatorByte 4 key iv tweak) (length out₀) p out
+Inv-loop t key iv tweak first out₀ keys p₀ out p = (p ≤ length out₀) × Front (λ q. generatorByte 4 key iv tweak (first + q)) (length out₀) p out
 
 abbrev μ-loop : tie.MeasureT-loop
-μ-loop t key iv tweak out₀ keys p₀ out p = length out₀ - p
+μ-loop t key iv tweak first out₀ keys p₀ out p = length out₀ - p
 
 loop-holds : tie.Need-loop-holds Inv-loop μ-loop
 loop-holds c = (omega arith, front-none _ _)
@@ -22,7 +23,7 @@ loop-holds c = (omega arith, front-none _ _)
 loop-less : tie.Need-loop-less Inv-loop μ-loop
 loop-less c =
     let l = c .before .before .before .before .before .before .before .before .before .before .before .before .before .loop in
-    let on = c .before .before .before .before .before .before .before .store .ensures .some (omega arith) in
+    let on = c .before .before .before .before .before .before .store .ensures .some (omega arith) in
     let further = c .before .before .store2 .ensures .forward in
     omega arith
 
@@ -30,18 +31,15 @@ loop-again : tie.Need-loop-again Inv-loop μ-loop
 loop-again c =
     let a = c .before .before .before .before .before .before .before .before .before .before .before .before .before .before .before .before .before .args in
     let l = c .before .before .before .before .before .before .before .before .before .before .before .before .before .loop in
-    let pair = c .before .before .before .before .before .before .before .before .before .before .block-pair in
-    let e = c .before .before .before .before .before .before .before .before .before .before .before .before .before .before .key-schedule .ensures in
-    let byte = pair-byte 4 (a .key .now) (a .iv) (a .tweak) (pair .result) (l .p / 16) in
-    let first = c .before .before .before .before .before .before .before .store in
-    let second = c .before .before .store2 in
+    let pair = c .before .before .before .before .before .before .before .before .before .before .block-pair .ensures (a .key .now) (c .before .before .before .before .before .before .before .before .before .before .before .before .before .before .key-schedule .ensures) in
+    let f : ℕ → ℕ = λ q. generatorByte 4 (a .key .now) (a .iv) (a .tweak) (a .first + q) in
+    let byte = block-byte 4 (a .key .now) (a .iv) (a .tweak) in
+    let one = c .before .before .before .before .before .before .store in
+    let two = c .before .before .store2 in
     let size = l .inv .1 .size in (
-      omega (arith, second .ensures .inside),
-      second .ensures .written (generatorByte 4 (a .key .now) (a .iv) (a .tweak)) _
-          (λ i h room. byte 1 0 _ i (pair .ensures (a .key .now) e) (omega arith) (omega (arith, first .ensures .whole (omega arith))) h)
-          (first .ensures .written (generatorByte 4 (a .key .now) (a .iv) (a .tweak)) _
-          (λ i h room. byte 0 (l .p % 16) (l .p) i (pair .ensures (a .key .now) e) (omega arith) (omega arith) h)
-          (l .inv .1)),
+      omega (arith, two .ensures .inside),
+      two .ensures .written f _ (λ i h room. byte _ _ _ i _ (pair .1) (omega (arith, one .ensures .whole (omega arith))) h)
+          (one .ensures .written f _ (λ i h room. byte _ _ _ i _ (pair .0) (omega arith) h) (l .inv .1)),
     )
 
 same-length : tie.Need-same-length Inv-loop μ-loop
@@ -54,5 +52,5 @@ pub fill-spec : {M : Type 1} → statement M
 fill-spec =
     tie.close
     (tie.spec
-    Inv-loop μ-loop (λ c κs. search needs) loop-holds (λ c. search needs) (λ c κs. search needs) (λ c. search needs) (λ c κs. search needs)
-    (λ c. search needs) (λ c κs. search needs) loop-less loop-again same-length returns)
+    Inv-loop μ-loop (λ c κs. search needs) loop-holds (λ c. search needs) (λ c. search needs) (λ c κs. search needs) (λ c κs. search needs)
+    (λ c κs. search needs) loop-less loop-again same-length returns)

@@ -37,8 +37,8 @@ returns c =
     let x = c .before .before .before .before .before .before .before .before .before .before .before .before .before .before .before .before .before .before .before .before .before .before .before .before .before .before .before .load-iv in
     let made = c .before .before .before .before .before .before .before .before .before .before .before .write-vectors .ensures in
     let hash = c .before .before .h1 .ensures ∙ ap₂ (λ (m : List ℕ) (n : ℕ). hash1 168 m n) (made .1 .1) (start .pre .1 .1 .0) in
-    reconstruct-writes (g .s) (g .b) (x .result) (g .ch .now) (g .corrections .now) (g .opening .now) _ _ _ _ (c .before .before .before .before .before .before .before .before .before .before .before .before .before .before .before .before .before .before .before .before .reconstruct-tree .ensures) hash (made .0) (made .1 .0)
-    ∙ ap (λ (i : List ℕ). reconstructed faest (g .s) (g .b) i (g .ch .now) (g .corrections .now) (g .opening .now)) (x .ensures)
+    reconstruct-writes (g .s) (g .z) (x .result) (g .ch .now) (g .corrections .now) (g .opening .now) _ _ _ _ (c .before .before .before .before .before .before .before .before .before .before .before .before .before .before .before .before .before .before .before .before .reconstruct-tree .ensures) hash (made .0) (made .1 .0)
+    ∙ ap (λ (i : List ℕ). reconstructed faest (g .s) (g .z) i (g .ch .now) (g .corrections .now) (g .opening .now)) (x .ensures)
 
 pub write-all-spec : {M : Type 1} → statement M
 write-all-spec =

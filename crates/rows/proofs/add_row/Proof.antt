@@ -1,45 +1,71 @@
--- `rows::add_row` meets its contract. The loop's invariant: the row's bytes below `at` have been added, and `at` is where a block starts, or the row's end.
--- The measure is the number of bytes left.
+-- `rows::add_row` meets its contract. The loop's invariant: the row's bytes from byte `first` on have been added to the sum's bytes below `at`. The measure is the
+-- number of bytes left.
 use borrow.Author.Needs.{needs}
 use mathlib.Core.Path.{_≡_, refl, ap, _∙_, subst}
 use mathlib.Core.List.{List}
-use Prim.Native.Nat.{ℕ, _+_, _-_, _/_, _%_, _≤_, _<_}
+use Prim.Native.Nat.{ℕ, _+_, _*_, _-_, _≤_, _<_, min}
 use native.Mathlib.Omega.{arith}
 use lib.ListN.{length, getD}
-use Rattle.spec.specs.Generator.{generatorByte}
+use Rattle.spec.specs.Generator.{generatorBlock, generatorByte}
 use Rattle.generator.proofs.Blocks.{block-byte}
 use Rattle.columns.specs.Columns.{Xored}
 use Rattle.columns.proofs.Adding.{xored-none, xored-same, xored-then}
 use Rattle.rows.proofs.add_row.Statement.{statement}
 use Rattle.rows.proofs.add_row.Tie as tie
 
+-- the row's bytes from byte `first` on, added up to `at`, and then up to `end` from byte `from` of block n on
+block-added : (seed iv : List ℕ) (tweak first n from at end : ℕ) (block old mid new : List ℕ) → block ≡ generatorBlock 4 seed iv tweak n → first + at ≡ 16 * n + from
+    → at ≤ end → end + from ≤ at + 16 → Xored 0 at (λ p. generatorByte 4 seed iv tweak (first + p)) old mid → Xored at end (λ p. getD block (from + (p - at)) 0) mid new
+    → Xored 0 end (λ p. generatorByte 4 seed iv tweak (first + p)) old new
+block-added seed iv tweak first n from at end block old mid new e place h within before added =
+    xored-then 0 at end (λ p. generatorByte 4 seed iv tweak (first + p)) old mid new (omega arith) h before
+    (xored-same at end end (λ p. generatorByte 4 seed iv tweak (first + p)) (λ p. getD block (from + (p - at)) 0) mid new refl
+    (λ p a b. block-byte 4 seed iv tweak block n from (p - at) (first + p) e (omega arith) (omega arith)) added)
+
 abbrev Inv-loop : tie.InvT-loop
-Inv-loop t seed iv tweak sum₀ keys b at₀ sum at = (at ≤ b) × (at < b → at % 16 ≡ 0) × Xored 0 at (generatorByte 4 seed iv tweak) sum₀ sum
+Inv-loop t seed iv tweak first sum₀ keys b at₀ sum at = (at ≤ b) × Xored 0 at (λ p. generatorByte 4 seed iv tweak (first + p)) sum₀ sum
 
 abbrev μ-loop : tie.MeasureT-loop
-μ-loop t seed iv tweak sum₀ keys b at₀ sum at = b - at
+μ-loop t seed iv tweak first sum₀ keys b at₀ sum at = b - at
 
 loop-holds : tie.Need-loop-holds Inv-loop μ-loop
-loop-holds c = (omega arith, (λ h. refl), xored-none 0 _ _)
+loop-holds c = (omega arith, xored-none 0 _ _)
+
+-- two blocks bring the end nearer
+nearer : (b at from long mid n end : ℕ) → at < b → from < 16 → long ≡ b → mid ≡ at + min (16 - from) (long - at) → end ≡ mid + n → b - end < b - at
+nearer b at from long mid n end h hf el em ee = omega arith
+
+loop-less : tie.Need-loop-less Inv-loop μ-loop
+loop-less c =
+    let l = c .before .before .before .before .before .before .before .before .before .before .before .before .before .before .loop in
+    nearer _ (l .at) _ _ _ _ _ (c .before .before .before .before .before .before .before .before .before .before .before .before .before .loop-test .taken) (omega arith) (l .inv .1 .size)
+    (c .before .before .before .before .before .before .add-block .ensures .0) (c .before .before .add-block2 .ensures .0)
 
 loop-again : tie.Need-loop-again Inv-loop μ-loop
 loop-again c =
+    let g = c .before .before .before .before .before .before .before .before .before .before .before .before .before .before .before .before .before .before .args in
+    let l = c .before .before .before .before .before .before .before .before .before .before .before .before .before .before .loop in
+    let pair = c .before .before .before .before .before .before .before .before .before .before .block-pair .ensures (g .seed .now) (c .before .before .before .before .before .before .before .before .before .before .before .before .before .before .before .key-schedule .ensures) in
+    let added = block-added (g .seed .now) (g .iv) (g .tweak) (g .first) in
+    let one = c .before .before .before .before .before .before .add-block .ensures in
+    let two = c .before .before .add-block2 .ensures in
+    let size = l .inv .1 .size in
+    let size2 = one .1 .size in (
+      omega (arith, two .0, one .0),
+      added _ _ _ _ _ _ _ _ (pair .1) (omega (arith, one .0)) (omega (arith, two .0)) (omega (arith, two .0))
+          (added _ _ _ _ _ _ _ _ (pair .0) (omega arith) (omega (arith, one .0)) (omega (arith, one .0)) (l .inv .1) (one .1))
+          (two .1),
+    )
+
+loop-again-2 : tie.Need-loop-again-2 Inv-loop μ-loop
+loop-again-2 c =
     let g = c .before .before .before .before .before .before .before .before .before .before .before .before .args in
     let l = c .before .before .before .before .before .before .before .before .loop in
-    let e = c .before .before .before .before .before .before .before .before .before .key-schedule .ensures in
-    let block = c .before .before .before .before .before .block in
-    let n = c .before .before .before .before .min .result in
-    let at = l .at in
-    let row : ℕ → ℕ = generatorByte 4 (g .seed .now) (g .iv) (g .tweak) in
-    let byte = block-byte 4 (g .seed .now) (g .iv) (g .tweak) (at / 16) at in
-    let aligned = l .inv .1 (omega arith) in
-    let same : (p : ℕ) → at ≤ p → p < at + n → getD (block .result) (p - at) 0 ≡ row p =
-    λ p a b. ap (λ (x : List ℕ). getD x (p - at) 0) (block .ensures (g .seed .now) e) ∙ byte (p - at) (omega arith) (omega arith) ∙ ap row (omega arith)
-    in (
-      omega arith,
-      (λ h. omega arith),
-      xored-then 0 at (at + n) row (g .sum .now) (l .sum) _ (omega arith) (omega arith) (l .inv .2)
-          (xored-same at (at + n) (at + n) row (λ p. getD (block .result) (p - at) 0) (l .sum) _ refl same (c .before .before .xor-block .ensures)),
+    let block = c .before .before .before .before .block .ensures (g .seed .now) (c .before .before .before .before .before .before .before .before .before .key-schedule .ensures) in
+    let one = c .before .before .add-block3 .ensures in
+    let size = l .inv .1 .size in (
+      omega (arith, one .0),
+      block-added (g .seed .now) (g .iv) (g .tweak) (g .first) _ _ _ _ _ _ _ _ block (omega arith) (omega (arith, one .0)) (omega (arith, one .0)) (l .inv .1) (one .1),
     )
 
 returns : tie.Need-returns Inv-loop μ-loop
@@ -47,7 +73,7 @@ returns c =
     let g = c .before .before .before .before .before .args in
     let l = c .before .loop in
     let e : l .at ≡ length (g .sum .now) = omega arith in
-    subst (λ (n : ℕ). Xored 0 n (generatorByte 4 (g .seed .now) (g .iv) (g .tweak)) (g .sum .now) (l .sum)) e (l .inv .2)
+    subst (λ (n : ℕ). Xored 0 n (λ p. generatorByte 4 (g .seed .now) (g .iv) (g .tweak) (g .first + p)) (g .sum .now) (l .sum)) e (l .inv .1)
 
 pub add-row-spec : {M : Type 1} → statement M
 add-row-spec =
@@ -58,12 +84,18 @@ add-row-spec =
     (λ c κs. search needs)
     loop-holds
     (λ c. search needs)
-    (λ c κs. search needs)
+    (λ c. search needs)
+    (λ c. search needs)
     (λ c. search needs)
     (λ c κs. search needs)
     (λ c κs. search needs)
-    (λ c. search needs)
-    (λ c. search needs)
+    (λ c κs. search needs)
+    loop-less
     loop-again
-    (λ c. c .before .loop .inv .2 .size)
+    (λ c. search needs)
+    (λ c κs. search needs)
+    (λ c κs. search needs)
+    (λ c. search needs)
+    loop-again-2
+    (λ c. c .before .loop .inv .1 .size)
     returns)

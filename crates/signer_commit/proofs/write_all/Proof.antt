@@ -38,8 +38,8 @@ returns c =
     let made = c .before .before .before .before .before .before .before .before .before .before .before .before .before .before .before .write-vectors .ensures in
     let tree = c .before .before .before .before .before .before .before .before .before .before .before .before .before .before .before .before .before .before .before .before .before .before .before .before .before .before .grow .ensures (g .s) (sym (c .before .before .before .before .before .before .before .before .before .before .before .before .before .before .before .before .before .before .before .before .before .before .before .before .before .before .before .before .leaf-count .ensures .0)) in
     let hash = c .before .before .h1 .ensures ∙ ap₂ (λ (m : List ℕ) (n : ℕ). hash1 168 m n) (made .1 .1 .1 .1) (start .pre .1 .0) in
-    commit-writes (g .s) (g .b) (g .root .now) (x .result) _ _ _ _ _ _ tree hash (made .0) (made .1 .0) (made .1 .1 .0) (made .1 .1 .1 .0)
-    ∙ ap (committed faest (g .s) (g .b) (g .root .now)) (x .ensures)
+    commit-writes (g .s) (g .z) (g .root .now) (x .result) _ _ _ _ _ _ tree hash (made .0) (made .1 .0) (made .1 .1 .0) (made .1 .1 .1 .0)
+    ∙ ap (committed faest (g .s) (g .z) (g .root .now)) (x .ensures)
 
 pub write-all-spec : {M : Type 1} → statement M
 write-all-spec =

@@ -44,7 +44,7 @@ add-entries-requires c κs =
       start .pre .0,
       (
         (p .0, p .1, omega arith, some-entry (g .s) (g .i), p .2, p .4),
-        ((q .0, q .1 ∙ sym (mul-one (g .b)), q .2), subst (λ (x : List ℕ). Multiples 384 p384 (number 8 x) (made .result)) key (made .ensures)),
+        ((q .0, q .1 ∙ sym (mul-one (g .z .width)), q .2), subst (λ (x : List ℕ). Multiples 384 p384 (number 8 x) (made .result)) key (made .ensures)),
       ),
     )
 
@@ -54,7 +54,7 @@ returns c =
     let g = start .args in
     let q = start .pre .1 .1 in
     let made = c .before .before .before .before .before .before .before .before .before .before .before .add-entries .ensures in
-    converted (g .s) (g .b) (g .iv) (g .tree .now) (g .i) (g .total .now) _ (g .lcs .now) _ _ (g .hash .now) _ (q .1) (q .0) (q .3) (made .0) (made .1 .0) (made .1 .1)
+    converted (g .s) (g .z) (g .iv) (g .tree .now) (g .i) (g .total .now) _ (g .lcs .now) _ _ (g .hash .now) _ (q .1) (q .0) (q .3) (made .0) (made .1 .0) (made .1 .1)
     (c .before .before .h1 .ensures)
 
 pub convert-spec : {M : Type 1} → statement M

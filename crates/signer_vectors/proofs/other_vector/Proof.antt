@@ -30,14 +30,14 @@ corrections-end c =
     let g = start .args in
     let p = start .pre .1 in
     let h : g .j < g .s .tau - 1 = (let l = p .0 .1 in omega arith) in
-    block-end (g .b) (g .j) (g .s .tau - 1) (length (g .corrections .now)) h (let l = p .1 .1 in omega arith)
+    block-end (g .z .width) (g .j) (g .s .tau - 1) (length (g .corrections .now)) h (let l = p .1 .1 in omega arith)
 
 v-end : tie.Need-part-correct-end-3
 v-end c =
     let start = c .before .before .before .before .before .before .before .before .before .before .before .before .before in
-    columns-end (start .args .s) (start .pre .1 .0 .0) (start .args .b) (start .args .j + 1) _ _ (start .pre .1 .0 .1) (c .before .before .columns-from2 .ensures) (start .pre .1 .1 .2)
+    columns-end (start .args .s) (start .pre .1 .0 .0) (start .args .z .width) (start .args .j + 1) _ _ (start .pre .1 .0 .1) (c .before .before .columns-from2 .ensures) (start .pre .1 .1 .2)
 
-v-size : (c : tie.After-correct-arg2) → c .before .before .columns-from2 .result ≡ c .before .before .before .columns-from .result + c .before .before .before .before .before .before .before .before .before .before .before .before .before .args .b * depthOf (c .before .before .before .before .before .before .before .before .before .before .before .before .before .args .s) (c .before .before .before .before .before .before .before .before .before .before .before .before .before .args .j + 1)
+v-size : (c : tie.After-correct-arg2) → c .before .before .columns-from2 .result ≡ c .before .before .before .columns-from .result + c .before .before .before .before .before .before .before .before .before .before .before .before .before .args .z .width * depthOf (c .before .before .before .before .before .before .before .before .before .before .before .before .before .args .s) (c .before .before .before .before .before .before .before .before .before .before .before .before .before .args .j + 1)
 v-size c = columns-size _ _ _ _ _ (c .before .before .before .columns-from .ensures) (c .before .before .columns-from2 .ensures)
 
 hashes-end : tie.Need-part-correct-end-4
@@ -58,7 +58,7 @@ correct-requires c κs =
         (
           ap length (p .5) ∙ rw length-tabulate,
           lent _ _ _ (g .lcs .now) (lcs-size (c .before .before .before .before)) (lcs-end (c .before .before .before .before)),
-          lent (g .b * g .j) _ (g .b) (g .corrections .now) refl (corrections-end (c .before .before .before)),
+          lent (g .z .width * g .j) _ (g .z .width) (g .corrections .now) refl (corrections-end (c .before .before .before)),
           lent _ _ _ (g .v .now) (v-size (c .before .before)) (v-end (c .before .before)),
           lent (32 * (g .j + 1)) _ 32 (g .hashes .now) refl (hashes-end (c .before)),
         ),
@@ -70,8 +70,8 @@ returns c =
     let start = c .before .before .before .before .before .before .before .before .before .before .before .before .before .before .before .before .before .before .before .before .before .before .before .before in
     let g = start .args in
     let p = start .pre .1 in
-    up-more (g .s) (g .b) (g .iv) (g .tree .now) (g .j) _ _ (g .u .now) _ (g .lcs .now) (g .corrections .now) (g .v .now) (g .hashes .now) _ _ _ _ _ _ _ (c .before .before .before .before .before .before .before .before .before .before .before .before .before .before .before .before .commitments-from .ensures) (c .before .before .before .before .before .before .before .before .before .before .before .before .before .before .columns-from .ensures) (p .0 .5)
-    (commitments-end (g .s) (p .0 .0) (g .j + 1) _ _ (p .0 .1) refl (p .1 .0)) (corrections-end (c .before .before .before .before .before .before .before .before .before .before .before .before)) (columns-end (g .s) (p .0 .0) (g .b) (g .j + 1) _ _ (p .0 .1) refl (p .1 .2)) (hashes-end (c .before .before .before .before .before .before .before .before .before .before))
+    up-more (g .s) (g .z) (g .iv) (g .tree .now) (g .j) _ _ (g .u .now) _ (g .lcs .now) (g .corrections .now) (g .v .now) (g .hashes .now) _ _ _ _ _ _ _ (c .before .before .before .before .before .before .before .before .before .before .before .before .before .before .before .before .commitments-from .ensures) (c .before .before .before .before .before .before .before .before .before .before .before .before .before .before .columns-from .ensures) (p .0 .5)
+    (commitments-end (g .s) (p .0 .0) (g .j + 1) _ _ (p .0 .1) refl (p .1 .0)) (corrections-end (c .before .before .before .before .before .before .before .before .before .before .before .before)) (columns-end (g .s) (p .0 .0) (g .z .width) (g .j + 1) _ _ (p .0 .1) refl (p .1 .2)) (hashes-end (c .before .before .before .before .before .before .before .before .before .before))
     (c .before .before .before .before .before .before .before .before .correct .ensures)
 
 pub other-vector-spec : {M : Type 1} → statement M

@@ -41,7 +41,7 @@ returns c =
     let g = c .before .before .before .before .before .before .before .before .before .args in
     let l = c .before .loop in
     let e : l .j ≡ g .last = omega arith in
-    λ u. subst (λ (n : ℕ). UpTo (g .s) (g .b) (g .iv) (g .tree .now) n (l .lcs) (l .corrections) (l .v) (l .hashes)) e (l .inv .5 u)
+    λ u. subst (λ (n : ℕ). UpTo (g .s) (g .z) (g .iv) (g .tree .now) n (l .lcs) (l .corrections) (l .v) (l .hashes)) e (l .inv .5 u)
 
 pub other-vectors-spec : {M : Type 1} → statement M
 other-vectors-spec =

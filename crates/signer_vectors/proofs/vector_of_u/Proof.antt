@@ -9,6 +9,7 @@ use Rattle.spec.specs.Bytes.{zeros}
 use Rattle.spec.specs.Shapes.{depthOf, entriesOf}
 use Rattle.laws.proofs.Lists.{length-part}
 use Rattle.vector.proofs.Buffers.{lent, columns-fit}
+use Rattle.vector.proofs.Numbers.{width-small}
 use Rattle.signer_vectors.proofs.Steps.{fronts}
 use Rattle.signer_vectors.proofs.vector_of_u.Statement.{statement}
 use Rattle.signer_vectors.proofs.vector_of_u.Tie as tie
@@ -16,7 +17,7 @@ use Rattle.signer_vectors.proofs.vector_of_u.Tie as tie
 mul-c : tie.Need-mul-c
 mul-c c =
     let start = c .before .before .before .before .before .before .before .before in
-    rw (c .depth-of .ensures .0) (columns-fit (start .args .s) (start .pre .1 .0 .0) (start .args .b) (start .args .i) (start .pre .1 .0 .2))
+    rw (c .depth-of .ensures .0) (columns-fit (start .args .s) (start .pre .1 .0 .0) (start .args .z .width) (start .args .i) (width-small (start .args .z) (start .pre .1 .0 .2)))
 
 v-end : tie.Need-part-convert-end-2
 v-end c = rw (c .before .before .before .before .before .before .depth-of .ensures .0) (c .before .before .before .before .before .before .before .before .before .before .before .before .before .before .pre .1 .1 .2)
@@ -28,14 +29,14 @@ convert-requires c κs =
     let n = c .before .before .before .before .before .before .before .before .before .entry-count in
     let d = c .before .before .before .before .before .before .before .before .depth-of in
     let w : 48 * n .result ≡ 0 + 48 * entriesOf (g .s) (g .i) = ap (λ (x : ℕ). 48 * x) (n .ensures .0) ∙ sym (zero-add _) in
-    let k : g .b * d .result ≡ 0 + g .b * depthOf (g .s) (g .i) = ap (λ (x : ℕ). g .b * x) (d .ensures .0) ∙ sym (zero-add _) in (
+    let k : g .z .width * d .result ≡ 0 + g .z .width * depthOf (g .s) (g .i) = ap (λ (x : ℕ). g .z .width * x) (d .ensures .0) ∙ sym (zero-add _) in (
       start .pre .0,
       (
         start .pre .1 .0,
         (
           lent 0 (48 * n .result) (48 * entriesOf (g .s) (g .i)) (g .lcs .now) w (omega arith),
           search needs,
-          lent 0 (g .b * d .result) (g .b * depthOf (g .s) (g .i)) (g .v .now) k (v-end (c .before .before)),
+          lent 0 (g .z .width * d .result) (g .z .width * depthOf (g .s) (g .i)) (g .v .now) k (v-end (c .before .before)),
           length-part (g .hashes .now) 0 (32 - 0) (omega arith),
         ),
       ),
@@ -45,9 +46,9 @@ returns : tie.Need-returns
 returns c =
     let start = c .before .before .before .before .before .before .before .before .before .before .before .before .before .before .before .before .before .before .before .before .before .before .before .before .before in
     let g = start .args in
-    let all : length (g .u .now) - 0 ≡ g .b = omega arith in
+    let all : length (g .u .now) - 0 ≡ g .z .width = omega arith in
     let cleared = c .before .before .before .before .before .before .before .before .before .before .before .before .before .before .before .clear-from .ensures ∙ ap zeros all in
-    fronts (g .s) (g .b) (g .iv) (g .tree .now) (g .i) _ _ (g .lcs .now) (g .v .now) (g .hashes .now) _ _ _ _ _ _ (rw cleared at (c .before .before .before .before .before .before .before .before .convert .ensures))
+    fronts (g .s) (g .z) (g .iv) (g .tree .now) (g .i) _ _ (g .lcs .now) (g .v .now) (g .hashes .now) _ _ _ _ _ _ (rw cleared at (c .before .before .before .before .before .before .before .before .convert .ensures))
 
 pub vector-of-u-spec : {M : Type 1} → statement M
 vector-of-u-spec =

@@ -11,6 +11,7 @@ use Rattle.spec.specs.Shapes.{level, nodeBytes, keyWords}
 use Rattle.spec.specs.Generator.{generatorByte}
 use Rattle.spec.specs.Primitives.{faest, prg}
 use Rattle.spec.specs.Leaves.{children}
+use Rattle.laws.proofs.Lists.{tabulate-from-0}
 use Rattle.tree.proofs.expand_node.Statement.{statement}
 use Rattle.tree.proofs.expand_node.Tie as tie
 
@@ -26,7 +27,11 @@ returns c = λ s.
     let long : length (part x (32 * a + 16) (32 * a + 48 - (32 * a + 16))) ≡ 32 =
     ap (λ (n : ℕ). length (part x (32 * a + 16) n)) two ∙ length-take-le 32 (drop (32 * a + 16) x) (rw length-drop (omega arith))
     in
-    let made = c .before .before .fill .ensures ∙ ap₂ (λ (n : ℕ) (k : List ℕ). tabulate n (generatorByte 4 k (g .iv) a)) long key in
+    let made =
+    c .before .before .fill .ensures
+    ∙ ap₂ (λ (n : ℕ) (k : List ℕ). tabulate n (λ p. generatorByte 4 k (g .iv) a (0 + p))) long key
+    ∙ tabulate-from-0 32 (generatorByte 4 (part x (16 * a) 16) (g .iv) a)
+    in
     let end : 32 * a + 16 + 32 ≡ 32 * a + 48 = omega arith in
     let rest : drop (32 * a + 48 - (32 * a + 16)) (drop (32 * a + 16) x) ≡ drop (32 * a + 48) x =
     ap (λ (n : ℕ). drop n (drop (32 * a + 16) x)) two ∙ drop-drop 32 (32 * a + 16) x ∙ ap (λ (n : ℕ). drop n x) end

@@ -7,7 +7,7 @@ use Rattle.spec.specs.Bytes.{part}
 use Rattle.spec.specs.Shapes.{level, nodeBytes, keyWords, treeBytes}
 use Rattle.spec.specs.Primitives.{faest}
 use Rattle.spec.specs.Leaves.{nodeAt, leafKey, leafSeed, leafCommitment}
-use Rattle.spec.specs.Rows.{rowByte}
+use Rattle.spec.specs.Rows.{rowByte, stretchByte}
 use Rattle.planning_laws.proofs.ShapeFacts.{shape-facts}
 use Rattle.vector.proofs.add_entry.Statement.{statement}
 use Rattle.vector.proofs.add_entry.Tie as tie
@@ -29,7 +29,7 @@ add-add-row c =
     omega arith
 
 returns : tie.Need-returns
-unfolding level nodeBytes keyWords faest nodeAt leafKey rowByte
+unfolding level nodeBytes keyWords faest nodeAt leafKey rowByte stretchByte
 returns c =
     let start = c .before .before .before .before .before .before .before .before .before .before .before .before .before .before .before .before in
     let g = start .args in

@@ -9,10 +9,11 @@ use native.Mathlib.Omega.{arith}
 use lib.Bits.{bitXor}
 use lib.ListN.{length}
 use Rattle.spec.specs.declared.Shape.{Shape}
+use Rattle.spec.specs.declared.Stretch.{Stretch}
 use Rattle.spec.specs.Shapes.{level, nodeBytes, leafCommitmentBytes, entriesOf}
 use Rattle.spec.specs.Primitives.{faest}
 use Rattle.spec.specs.Leaves.{leafKey, leafCommitment}
-use Rattle.spec.specs.Rows.{rowByte}
+use Rattle.spec.specs.Rows.{stretchByte}
 use Rattle.laws.proofs.Lists.{length-tabulate}
 use Rattle.laws.proofs.Concat.{mul-within}
 use Rattle.columns.specs.Columns.{Running}
@@ -20,7 +21,7 @@ use Rattle.columns.proofs.Adding.{xored-lent}
 use Rattle.columns.proofs.Running.{running-next}
 use Rattle.vector.specs.Entries.{Written}
 use Rattle.vector.proofs.Buffers.{lent}
-use Rattle.vector.proofs.Numbers.{entry-in, entry-end}
+use Rattle.vector.proofs.Numbers.{entry-in, entry-end, width-small}
 use Rattle.vector.proofs.Entries.{written-none, written-more}
 use Rattle.vector.proofs.add_run.Statement.{statement}
 use Rattle.vector.proofs.add_run.Tie as tie
@@ -34,20 +35,20 @@ module _ (s : Shape) (iv tree : List ℕ) (i : ℕ) where
   own-size e = rw length-tabulate
 
   -- byte p of the row of number x
-  abbrev row : ℕ → ℕ → ℕ → ℕ
-  row mask x = rowByte faest s iv tree i (bitXor x mask)
+  abbrev row : Stretch → ℕ → ℕ → ℕ → ℕ
+  row z mask x = stretchByte faest s z iv tree i (bitXor x mask)
 
 abbrev Inv-loop : tie.InvT-loop
-Inv-loop t m s i from to mask b h iv tree commitments₀ cols₀ last x₀ commitments cols x =
-    (from ≤ x) × (x ≤ to) × Written (own s iv tree i) mask from x commitments₀ commitments × Running b h from x (row s iv tree i mask) cols
+Inv-loop t m s i from to mask z h iv tree commitments₀ cols₀ b last x₀ commitments cols x =
+    (from ≤ x) × (x ≤ to) × Written (own s iv tree i) mask from x commitments₀ commitments × Running (z .width) h from x (row s iv tree i z mask) cols
 
 abbrev μ-loop : tie.MeasureT-loop
-μ-loop t m s i from to mask b h iv tree commitments₀ cols₀ last x₀ commitments cols x = to - x
+μ-loop t m s i from to mask z h iv tree commitments₀ cols₀ b last x₀ commitments cols x = to - x
 
 mul-last : tie.Need-mul-last Inv-loop μ-loop
 mul-last c =
     let p = c .before .before .before .pre .1 .0 in
-    let m : c .before .before .before .args .b * c .before .before .before .args .h ≤ 8192 * 11 = mul-le-mul (p .5) (p .6) in
+    let m : c .before .before .before .args .z .width * c .before .before .before .args .h ≤ 8192 * 11 = mul-le-mul (width-small (c .before .before .before .args .z) (p .5)) (p .6) in
     omega arith
 
 loop-holds : tie.Need-loop-holds Inv-loop μ-loop
@@ -80,13 +81,13 @@ add-add-entry-2 : tie.Need-add-add-entry-2 Inv-loop μ-loop
 add-add-entry-2 c =
     let start = c .before .before .before .before .before .before in
     let p = start .pre .1 .0 in
-    let m : start .args .b * start .args .h ≤ 8192 * 11 = mul-le-mul (p .5) (p .6) in
+    let m : start .args .z .width * start .args .h ≤ 8192 * 11 = mul-le-mul (width-small (start .args .z) (p .5)) (p .6) in
     omega arith
 
 part-add-entry-end-2 : tie.Need-part-add-entry-end-2 Inv-loop μ-loop
 part-add-entry-end-2 c =
     let g = c .before .before .before .before .before .before .args in
-    last-end (g .b) (g .h) (length (c .before .before .loop .cols)) (c .before .before .loop .inv .3 .size)
+    last-end (g .z .width) (g .h) (length (c .before .before .loop .cols)) (c .before .before .loop .inv .3 .size)
 
 add-entry-requires : tie.Need-add-entry-requires Inv-loop μ-loop
 add-entry-requires c κs =
@@ -101,7 +102,7 @@ add-entry-requires c κs =
         (
           (
             lent (48 * e) (48 * e + 48) 48 (l .commitments) refl (part-add-entry-end (c .before .before)),
-            (let n = lent (g .b * g .h) (g .b * g .h + g .b) (g .b) (l .cols) refl (part-add-entry-end-2 (c .before)) in let m = p .5 in omega arith),
+            (let n = lent (g .z .width * g .h) (g .z .width * g .h + g .z .width) (g .z .width) (l .cols) refl (part-add-entry-end-2 (c .before)) in let m = p .5 in omega arith),
           ),
           start .pre .1 .1 .1,
         ),
@@ -115,7 +116,7 @@ add-last-requires c κs =
     let l = c .before .before .before .before .before .before .before .before .before .loop in
     let made = c .before .before .before .before .before .add-entry in
     let fits = part-add-entry-end-2 (c .before .before .before .before .before .before .before) in
-    (start .pre .1 .0 .6, xored-lent (g .b * g .h) (g .b) _ (l .cols) _ fits (made .ensures .1) .size ∙ l .inv .3 .size)
+    (start .pre .1 .0 .6, xored-lent (g .z .width * g .h) (g .z .width) _ (l .cols) _ fits (made .ensures .1) .size ∙ l .inv .3 .size)
 
 loop-again : tie.Need-loop-again Inv-loop μ-loop
 loop-again c =
@@ -124,7 +125,7 @@ loop-again c =
     let l = c .before .before .before .before .before .before .before .before .before .before .before .before .loop in
     let made = c .before .before .before .before .before .before .before .before .add-entry in
     let x = g .tree .now in
-    let y = made .last .1 .1 .1 .1 .1 .1 .1 .0 in
+    let y = made .last .1 .1 .1 .1 .1 .1 .1 .1 .0 in
     let fits = part-add-entry-end (c .before .before .before .before .before .before .before .before .before .before .before) in
     let room = part-add-entry-end-2 (c .before .before .before .before .before .before .before .before .before .before) in
     let f = own (g .s) (g .iv) x (g .i) in
@@ -133,8 +134,8 @@ loop-again c =
       omega arith,
       omega arith,
       written-more f (g .mask) (g .from) (l .x) (g .commitments .now) (l .commitments) y fits (ap length (made .ensures .0) ∙ own-size (g .s) (g .iv) x (g .i) _) (l .inv .0) (made .ensures .0) (l .inv .2),
-      running-next (g .b) (g .h) (row (g .s) (g .iv) x (g .i) (g .mask)) (g .from) (l .x) (l .cols) _ _ (l .inv .3)
-          (xored-lent (g .b * g .h) (g .b) _ (l .cols) _ room (made .ensures .1)) (c .before .before .add-last .ensures),
+      running-next (g .z .width) (g .h) (row (g .s) (g .iv) x (g .i) (g .z) (g .mask)) (g .from) (l .x) (l .cols) _ _ (l .inv .3)
+          (xored-lent (g .z .width * g .h) (g .z .width) _ (l .cols) _ room (made .ensures .1)) (c .before .before .add-last .ensures),
     )
 
 returns : tie.Need-returns Inv-loop μ-loop

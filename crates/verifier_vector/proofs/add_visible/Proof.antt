@@ -20,7 +20,7 @@ add-entries-requires c κs =
       start .pre .0,
       (
         (p .0, p .1, omega arith, p .2, p .3, p .4),
-        ((c .before .before .before .before .before .copy-part .kept .1 .1 .1 .0 ∙ q .1, sym (mul-zero (start .args .b)), q .2), start .pre .1 .1 .1),
+        ((c .before .before .before .before .before .copy-part .kept .1 .1 .1 .0 ∙ q .1, sym (mul-zero (start .args .z .width)), q .2), start .pre .1 .1 .1),
       ),
     )
 

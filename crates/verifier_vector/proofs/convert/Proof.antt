@@ -12,7 +12,7 @@ use Rattle.spec.specs.Hashes.{hash1}
 use Rattle.spec.specs.Shapes.{level, nodeBytes, leafCommitmentBytes, hashBytes, rate, depthOf, entriesOf}
 use Rattle.spec.specs.Primitives.{faest}
 use Rattle.spec.specs.Leaves.{hashKey, leafKey, leafCommitment, vectorCommitments, vectorHash}
-use Rattle.spec.specs.Rows.{columnByte}
+use Rattle.spec.specs.Rows.{stretchByte, columnByte}
 use Rattle.spec.specs.Verifier.{verifierLeafCommitment}
 use Rattle.laws.proofs.Lists.{length-tabulate}
 use Rattle.planning_laws.proofs.ShapeFacts.{shape-facts}
@@ -76,7 +76,7 @@ returns c ch opening hd hh =
     let message = hashed-whole (g .hidden .now) own (g .d) n lcs (p .1 .0 .2) (p .1 .1 .0) (own-size s (g .iv) x (g .i)) (made .ensures .0) in
     record {
       leaves = leaves;
-      columns = made .ensures .1 ∙ ap (λ (m : ℕ). concat (depthOf s (g .i)) (λ j. tabulate (g .b) (columnByte faest s (g .iv) x (λ e. bitXor e m) (g .i) j))) hd;
+      columns = made .ensures .1 ∙ ap (λ (m : ℕ). concat (depthOf s (g .i)) (λ j. tabulate (g .z .width) (columnByte s (stretchByte faest s (g .z) (g .iv) x) (λ e. bitXor e m) (g .i) j))) hd;
       digest = c .before .before .hash-vector .ensures ∙ ap₂ (λ (v : List ℕ) (m : ℕ). hash1 168 v m) (message ∙ leaves) (p .1 .1 .3);
     }
 

@@ -1,6 +1,9 @@
 -- What `convert` ensures, and the correction added to the columns.
 use borrow.Author.Needs.{needs}
 use mathlib.Core.Path.{_∙_}
+use Rattle.spec.specs.Primitives.{faest}
+use Rattle.spec.specs.Rows.{stretchByte}
+use Rattle.vector.proofs.Numbers.{width-small}
 use Rattle.verifier_vectors.proofs.Steps.{corrected-columns}
 use Rattle.verifier_vectors.proofs.corrected_vector.Statement.{statement}
 use Rattle.verifier_vectors.proofs.corrected_vector.Tie as tie
@@ -13,7 +16,7 @@ convert-requires c κs =
 correct-requires : tie.Need-correct-requires
 correct-requires c κs =
     let p = c .before .before .before .before .before .before .before .before .before .before .before .before .before .before .before .before .before .before .before .before .pre in
-    (p .1 .0 .0, p .1 .0 .1, p .1 .0 .2, p .1 .0 .6, c .before .before .before .before .before .before .before .convert .kept .1 .1 .1 .1 .1 .1 .1 .1 .1 .1 .0 ∙ p .1 .1 .2)
+    (p .1 .0 .0, p .1 .0 .1, width-small _ (p .1 .0 .2), p .1 .0 .6, c .before .before .before .before .before .before .before .convert .kept .1 .1 .1 .1 .1 .1 .1 .1 .1 .1 .0 ∙ p .1 .1 .2)
 
 returns : tie.Need-returns
 returns c opening hh =
@@ -26,7 +29,7 @@ returns c opening hh =
     record {
       leaves = made .leaves;
       columns =
-          corrected-columns (g .s) (g .b) (g .ch .now) (g .corrections .now) (g .iv) (g .tree .now) (g .i) old (c .before .before .correct .last .1 .1 .1 .1 .1 .0)
+          corrected-columns (g .s) (g .z .width) (g .ch .now) (g .corrections .now) (stretchByte faest (g .s) (g .z) (g .iv) (g .tree .now)) (g .i) old (c .before .before .correct .last .1 .1 .1 .1 .1 .0)
           (c .before .before .before .before .before .before .before .before .before .before .convert .kept .1 .1 .1 .1 .1 .1 .1 .1 .1 .1 .0 ∙ p .1 .1 .2) (made .columns) (c .before .before .correct .ensures (g .ch .now) d);
       digest = made .digest;
     }

@@ -9,11 +9,11 @@ use Rattle.verifier_vectors.proofs.each_vector.Statement.{statement}
 use Rattle.verifier_vectors.proofs.each_vector.Tie as tie
 
 abbrev Inv-loop : tie.InvT-loop
-Inv-loop t s b iv keys ch tree corrections opening lcs₀ q₀ hashes₀ n i₀ lcs q hashes i =
-    (i ≤ n) × (length lcs ≡ length lcs₀) × (length q ≡ length q₀) × (length hashes ≡ length hashes₀) × Before s b iv ch corrections opening tree i lcs q hashes
+Inv-loop t s z iv keys ch tree corrections opening lcs₀ q₀ hashes₀ n i₀ lcs q hashes i =
+    (i ≤ n) × (length lcs ≡ length lcs₀) × (length q ≡ length q₀) × (length hashes ≡ length hashes₀) × Before s z iv ch corrections opening tree i lcs q hashes
 
 abbrev μ-loop : tie.MeasureT-loop
-μ-loop t s b iv keys ch tree corrections opening lcs₀ q₀ hashes₀ n i₀ lcs q hashes i = n - i
+μ-loop t s z iv keys ch tree corrections opening lcs₀ q₀ hashes₀ n i₀ lcs q hashes i = n - i
 
 loop-holds : tie.Need-loop-holds Inv-loop μ-loop
 loop-holds c = (omega arith, refl, refl, refl, before-none _ _ _ _ _ _ _ _ _ _)

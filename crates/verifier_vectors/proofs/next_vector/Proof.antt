@@ -34,9 +34,9 @@ lcs-size c = commitments-size _ _ _ _ (c .before .before .before .before .commit
 q-end : tie.Need-part-corrected-vector-end-3
 q-end c =
     let start = c .before .before .before .before .before .before .before .before .before .before .before .before .before .before in
-    columns-end (start .args .s) (start .pre .1 .0 .0) (start .args .b) (start .args .i) _ _ (start .pre .1 .0 .1) (c .before .before .columns-from2 .ensures) (start .pre .1 .1 .1)
+    columns-end (start .args .s) (start .pre .1 .0 .0) (start .args .z .width) (start .args .i) _ _ (start .pre .1 .0 .1) (c .before .before .columns-from2 .ensures) (start .pre .1 .1 .1)
 
-q-size : (c : tie.After-corrected-vector-arg2) → c .before .before .columns-from2 .result ≡ c .before .before .before .columns-from .result + c .before .before .before .before .before .before .before .before .before .before .before .before .before .before .args .b * depthOf (c .before .before .before .before .before .before .before .before .before .before .before .before .before .before .args .s) (c .before .before .before .before .before .before .before .before .before .before .before .before .before .before .args .i)
+q-size : (c : tie.After-corrected-vector-arg2) → c .before .before .columns-from2 .result ≡ c .before .before .before .columns-from .result + c .before .before .before .before .before .before .before .before .before .before .before .before .before .before .args .z .width * depthOf (c .before .before .before .before .before .before .before .before .before .before .before .before .before .before .args .s) (c .before .before .before .before .before .before .before .before .before .before .before .before .before .before .args .i)
 q-size c = columns-size _ _ _ _ _ (c .before .before .before .columns-from .ensures) (c .before .before .columns-from2 .ensures)
 
 hashes-end : tie.Need-part-corrected-vector-end-4
@@ -76,9 +76,9 @@ returns c before =
     let made = c .before .before .before .before .before .before .corrected-vector in
     let kept = made .kept .1 .1 .1 .1 .1 .1 .1 .1 .1 .1 in
     let last = made .last .1 .1 .1 .1 .1 .1 .1 .1 .1 .1 in
-    before-more s (g .b) (g .iv) (g .ch .now) (g .corrections .now) opening (g .tree .now) i _ _ (g .lcs .now) (g .q .now) (g .hashes .now) (last .0) (last .1 .0) (last .1 .1 .0) _ _ _
+    before-more s (g .z) (g .iv) (g .ch .now) (g .corrections .now) opening (g .tree .now) i _ _ (g .lcs .now) (g .q .now) (g .hashes .now) (last .0) (last .1 .0) (last .1 .1 .0) _ _ _
     (c .before .before .before .before .before .before .before .before .before .before .before .before .before .before .commitments-from .ensures) (c .before .before .before .before .before .before .before .before .before .before .before .before .columns-from .ensures)
-    (commitments-end s ok i _ _ h refl (p .0)) (columns-end s ok (g .b) i _ _ h refl (p .1)) (hashes-end (c .before .before .before .before .before .before .before .before))
+    (commitments-end s ok i _ _ h refl (p .0)) (columns-end s ok (g .z .width) i _ _ h refl (p .1)) (hashes-end (c .before .before .before .before .before .before .before .before))
     (kept .0 ∙ lent _ _ _ (g .lcs .now) (lcs-size (c .before .before .before .before .before .before .before .before .before .before)) (lcs-end (c .before .before .before .before .before .before .before .before .before .before)))
     (kept .1 .0 ∙ lent _ _ _ (g .q .now) (q-size (c .before .before .before .before .before .before .before .before .before)) (q-end (c .before .before .before .before .before .before .before .before .before)))
     (kept .1 .1 .0 ∙ lent (32 * i) _ 32 (g .hashes .now) refl (hashes-end (c .before .before .before .before .before .before .before .before)))

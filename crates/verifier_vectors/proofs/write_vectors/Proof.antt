@@ -13,16 +13,17 @@ use Rattle.spec.specs.Leaves.{vectorCommitments, leafCommitments, vectorHash}
 use Rattle.spec.specs.Rows.{matrixOf}
 use Rattle.spec.specs.Verifier.{verifierLeafCommitment}
 use Rattle.vector.proofs.Buffers.{all-commitments, all-columns, put-all}
+use Rattle.vector.proofs.Numbers.{width-small}
 use Rattle.verifier_vectors.proofs.write_vectors.Statement.{statement}
 use Rattle.verifier_vectors.proofs.write_vectors.Tie as tie
 
 columns-from-requires : tie.Need-columns-from-requires
-columns-from-requires c κs = (let p = c .before .before .before .before .before .before .before .before .before .before .before .before .before .before .before .before .before .before .pre .1 .0 in (p .0, le-refl _, p .1))
+columns-from-requires c κs = (let p = c .before .before .before .before .before .before .before .before .before .before .before .before .before .before .before .before .before .before .pre .1 .0 in (p .0, le-refl _, width-small _ (p .1)))
 
 clear-from-requires : tie.Need-clear-from-requires
 clear-from-requires c κs =
     let start = c .before .before .before .before .before .before .before .before .before .before .before .before .before .before .before .before .before .before .before .before in
-    let k = all-columns (start .args .s) (start .pre .1 .0 .0) (start .args .b) in
+    let k = all-columns (start .args .s) (start .pre .1 .0 .0) (start .args .z .width) in
     let used = c .before .columns-from .ensures in
     let long = c .before .before .before .before .before .before .before .before .each-vector .kept .1 .1 .1 .1 .1 .1 .1 .1 .1 .1 .0 ∙ start .pre .1 .1 .1 in
     omega arith
@@ -40,7 +41,7 @@ returns c =
     let used = c .before .before .before .before .columns-from .ensures in
     let q : List ℕ = each .last .1 .1 .1 .1 .1 .1 .1 .1 .1 .1 .0 in
     let long = each .kept .1 .1 .1 .1 .1 .1 .1 .1 .1 .1 .0 ∙ p .1 in
-    let rest : length q - c .before .before .before .before .columns-from .result ≡ g .b * s .w = (let k = all-columns s ok (g .b) in omega arith) in
+    let rest : length q - c .before .before .before .before .columns-from .result ≡ g .z .width * s .w = (let k = all-columns s ok (g .z .width) in omega arith) in
     let lc : ℕ → ℕ → List ℕ = verifierLeafCommitment faest s (g .iv) (g .ch .now) (g .opening .now) (g .tree .now) in (
       put-all (vectorCommitments s lc) (48 * firstEntry s (s .tau)) (s .tau) _ (each .kept .1 .1 .1 .1 .1 .1 .1 .1 .1 .0 ∙ p .0 ∙ sym (all-commitments s ok)) (made .leaves),
       (

@@ -1,0 +1,16 @@
+// A call from C++: the nodes that an opening reveals with two vectors of four entries and challenge 0c, which are 13, 8, 5 and 4.
+#include <rachnoel.h>
+
+#include <cstdio>
+
+int main()
+{
+    const uint8_t challenge[RACHNOEL_BLOCK] = {0x0c};
+    uint8_t nodes[4 * 4], count[RACHNOEL_COUNT];
+    const size_t number = rachnoel_plan(2, 2, 124, 4, challenge, sizeof challenge, nodes, sizeof nodes, count, sizeof count);
+    std::printf("plan from C++ answers %zu, %u nodes:", number, static_cast<unsigned>(rachnoel_number(count)));
+    for (int i = 0; i < 4; i++)
+        std::printf(" %u", static_cast<unsigned>(rachnoel_number(nodes + 4 * i)));
+    std::printf("\n");
+    return number == 0 && rachnoel_number(count) == 4 && rachnoel_number(nodes) == 13 && rachnoel_number(nodes + 12) == 4 ? 0 : 1;
+}

@@ -1,0 +1,105 @@
+/* How deep the stack of each call goes, at the largest trees and at the two sets: the call runs on a stack of the size that the header names, with a forbidden page beneath,
+ * which is filled before and looked through after. Prints the deepest of each call; exit status 1 where a call was refused or went beyond seven eighths. */
+#define _DEFAULT_SOURCE
+#include <rachnoel.h>
+
+#include <stdio.h>
+#include <stdlib.h>
+#include <string.h>
+#include <sys/mman.h>
+#include <ucontext.h>
+#include <unistd.h>
+
+enum { BITS = 1680, ROW = BITS / 8, FIRST = 5, WIDTH = 200, FILL = 0xa5 };
+static size_t shape[4];
+#define SHAPE shape[0], shape[1], shape[2], shape[3]
+
+static rachnoel_lengths n, m; /* of the whole rows, and of the stretch */
+static uint8_t root[RACHNOEL_BLOCK], iv[RACHNOEL_BLOCK], challenge[RACHNOEL_BLOCK], commitment[RACHNOEL_COMMITMENT], count[RACHNOEL_COUNT];
+static uint8_t *tree, *lcs, *u, *v, *corrections, *opening, *indices, *nodes;
+static size_t answer;
+
+static void decode(void) { answer = rachnoel_decode(SHAPE, challenge, 16, indices, n.indices, count, 4); }
+static void plan(void) { answer = rachnoel_plan(SHAPE, challenge, 16, nodes, n.nodes, count, 4); }
+static void commit(void)
+{
+    answer = rachnoel_commit(SHAPE, BITS, root, 16, iv, 16, commitment, 32, tree, n.tree, lcs, n.leaf_commitments, u, n.u, v, n.matrix, corrections, n.corrections, count, 4);
+}
+static void commit_stretch(void)
+{
+    answer = rachnoel_commit_stretch(SHAPE, BITS, FIRST, WIDTH, root, 16, iv, 16, commitment, 32, tree, m.tree, lcs, m.leaf_commitments, u, m.u, v, m.matrix, corrections,
+        m.corrections, count, 4);
+}
+static void opened(void) { answer = rachnoel_open(SHAPE, challenge, 16, tree, n.tree, lcs, n.leaf_commitments, opening, n.opening, count, 4); }
+static void reconstruct(void)
+{
+    answer = rachnoel_reconstruct(SHAPE, BITS, iv, 16, challenge, 16, corrections, n.corrections, opening, n.opening, commitment, 32, tree, n.tree, lcs, n.leaf_commitments, v,
+        n.matrix, count, 4);
+}
+static void reconstruct_stretch(void)
+{
+    answer = rachnoel_reconstruct_stretch(SHAPE, BITS, FIRST, WIDTH, iv, 16, challenge, 16, corrections, m.corrections, opening, m.opening, commitment, 32, tree, m.tree, lcs,
+        m.leaf_commitments, v, m.matrix, count, 4);
+}
+static void nothing(void) {}
+
+static const struct {
+    const char *name;
+    void (*work)(void);
+    size_t size;
+} calls[] = {{"nothing", nothing, RACHNOEL_STACK}, {"decode", decode, RACHNOEL_STACK}, {"plan", plan, RACHNOEL_STACK}, {"commit", commit, RACHNOEL_STACK},
+    {"commit_stretch", commit_stretch, RACHNOEL_STACK}, {"open", opened, RACHNOEL_STACK}, {"reconstruct", reconstruct, RACHNOEL_STACK_RECONSTRUCT},
+    {"reconstruct_stretch", reconstruct_stretch, RACHNOEL_STACK_RECONSTRUCT}};
+enum { CALLS = sizeof calls / sizeof calls[0] };
+
+/* the bytes of a filled stack that the call changed */
+static size_t depth(void (*work)(void), size_t size)
+{
+    const size_t page = (size_t)sysconf(_SC_PAGESIZE);
+    uint8_t *const map = mmap(NULL, size + page, PROT_READ | PROT_WRITE, MAP_PRIVATE | MAP_ANONYMOUS, -1, 0);
+    static ucontext_t here, there;
+    if (map == MAP_FAILED || mprotect(map, page, PROT_NONE) != 0 || getcontext(&there) != 0) {
+        perror("a stack");
+        exit(1);
+    }
+    memset(map + page, FILL, size);
+    there.uc_stack.ss_sp = map + page;
+    there.uc_stack.ss_size = size;
+    there.uc_link = &here;
+    makecontext(&there, work, 0);
+    swapcontext(&here, &there);
+    size_t kept = 0;
+    while (kept < size && map[page + kept] == FILL)
+        kept++;
+    munmap(map, size + page);
+    return size - kept;
+}
+
+int main(void)
+{
+    static const size_t shapes[][4] = {{0, 0, 0, 0}, {11, 11, 7, 102}, {10, 12, 8, 512}, {32, 4, 0, 512}, {10, 11, 9, 512}};
+    size_t deepest[CALLS] = {0}, wrong = 0;
+    for (size_t i = 0; i < sizeof shapes / sizeof shapes[0]; i++) {
+        memcpy(shape, shapes[i], sizeof shape);
+        n = rachnoel_lengths_of(SHAPE, ROW);
+        m = rachnoel_lengths_of(SHAPE, WIDTH);
+        tree = calloc(1, n.tree), lcs = calloc(1, n.leaf_commitments), u = calloc(1, n.u), v = calloc(1, n.matrix), corrections = calloc(1, n.corrections);
+        opening = calloc(1, n.opening), indices = calloc(1, n.indices), nodes = calloc(1, n.nodes);
+        if (!tree || !lcs || !u || !v || !corrections || !opening || !indices || !nodes)
+            return 1;
+        for (size_t c = 0; c < CALLS; c++) {
+            answer = 0;
+            calls[c].work(); /* the first call may bind names of the C library, on the stack it runs on */
+            const size_t d = depth(calls[c].work, calls[c].size);
+            if (answer != 0 || d > calls[c].size / 8 * 7)
+                wrong += (size_t)printf("%s: answered %zu, %zu bytes of stack, at tau %zu\n", calls[c].name, answer, d, shape[0]);
+            if (deepest[c] < d)
+                deepest[c] = d;
+        }
+        free(tree), free(lcs), free(u), free(v), free(corrections), free(opening), free(indices), free(nodes);
+    }
+    /* what a stack has for no call at all is not the call's */
+    for (size_t c = 1; c < CALLS; c++)
+        printf("%-20s%7zu bytes of stack\n", calls[c].name, deepest[c] - deepest[0]);
+    return wrong != 0;
+}

@@ -1,0 +1,134 @@
+/* rachnoel.h: the batch vector commitment of FAEST version 2 at 128 bits, as a C host calls it (docs/API.md says what each call does).
+ *
+ * A slice is a pointer and a length in bytes. Every length is exact: RACHNOEL_.. and rachnoel_lengths_of below give it.
+ *
+ * Duties of the host, which no call can test:
+ * - a slice has the bytes that its length names;
+ * - no pointer is NULL, also where the length is 0;
+ * - a slice that may be written overlaps no other slice of the call (slices that are only read may overlap each other);
+ * - the stack has room for the call: RACHNOEL_STACK_RECONSTRUCT bytes for the two forms of reconstruct, RACHNOEL_STACK for any other.
+ * The calls use no heap and keep nothing between calls; several threads may call at once, each with slices of its own.
+ *
+ * `indices`, `nodes` and `count` hold numbers of four bytes, least byte first: tau of them, t of them, and one. rachnoel_number reads one.
+ *
+ * A call returns 0, or the number of the first refusal that applies. With 0 the outputs and the count are written; with 5 and 6 the count alone; with any other number
+ * nothing. A slice of another length, the count's too, is refusal 3. */
+#ifndef RACHNOEL_H
+#define RACHNOEL_H
+
+#include <stddef.h>
+#include <stdint.h>
+
+#ifdef __cplusplus
+extern "C" {
+#endif
+
+enum {
+    RACHNOEL_SHAPE = 1,     /* tau, k, w, t are no shape */
+    RACHNOEL_ROW = 2,       /* row_bits is no multiple of 8 from 8 to 65,536 */
+    RACHNOEL_BUFFER = 3,    /* a slice of another length */
+    RACHNOEL_GRINDING = 4,  /* one of the last w bits of the challenge is 1 */
+    RACHNOEL_NODES = 5,     /* the challenge needs more than t nodes: draw another */
+    RACHNOEL_SLOTS = 6,     /* a byte in an unused slot of the opening is not 0 */
+    RACHNOEL_STRETCH = 8    /* width is 0, or first + width exceeds row_bits / 8 */
+};
+
+/* ---- lengths in bytes */
+
+enum {
+    RACHNOEL_BLOCK = 16,       /* a root, an IV, a challenge */
+    RACHNOEL_COMMITMENT = 32,
+    RACHNOEL_COUNT = 4
+};
+
+/* stack in bytes; the deepest that was measured is at most seven eighths of it */
+enum { RACHNOEL_STACK = 16 * 1024, RACHNOEL_STACK_RECONSTRUCT = 112 * 1024 };
+
+typedef struct rachnoel_lengths {
+    size_t leaves; /* a number of leaves; all others are lengths in bytes */
+    size_t indices, nodes, tree, leaf_commitments, u, matrix, corrections, opening;
+} rachnoel_lengths;
+
+/* The lengths of a shape with rows of row_bytes bytes: row_bits / 8, or the width of a stretch. `matrix` is that of V and of Q. All are 0 where the four numbers are no
+ * shape. Four zeros stand for the default, FAEST-128f. */
+static inline rachnoel_lengths rachnoel_lengths_of(size_t tau, size_t k, size_t w, size_t t, size_t row_bytes)
+{
+    rachnoel_lengths n = {0, 0, 0, 0, 0, 0, 0, 0, 0};
+    size_t deeper;
+    if (tau == 0 && k == 0 && w == 0 && t == 0) {
+        tau = 16;
+        k = 7;
+        w = 8;
+        t = 110;
+    }
+    if (tau < 1 || tau > 32 || k < 1 || k > 12 || w > 127 || t < 1 || t > 512 || tau * k + w > 128)
+        return n;
+    deeper = 128 - w - tau * k;
+    if (deeper >= tau || (deeper > 0 && k > 11))
+        return n;
+    n.leaves = (tau + deeper) << k;
+    n.indices = 4 * tau;
+    n.nodes = 4 * t;
+    n.tree = 16 * (2 * n.leaves - 1);
+    n.leaf_commitments = 48 * n.leaves;
+    n.u = row_bytes;
+    n.matrix = 128 * row_bytes;
+    n.corrections = (tau - 1) * row_bytes;
+    n.opening = 48 * tau + 16 * t;
+    return n;
+}
+
+/* The number in four bytes of `indices`, `nodes` or `count`. */
+static inline uint32_t rachnoel_number(const uint8_t bytes[4])
+{
+    uint32_t n = bytes[3];
+    n = n << 8 | bytes[2];
+    n = n << 8 | bytes[1];
+    return n << 8 | bytes[0];
+}
+
+/* ---- planning: librachnoel_planning */
+
+/* The hidden indices of a challenge. Refusals 1, 3, 4. */
+size_t rachnoel_decode(size_t tau, size_t k, size_t w, size_t t, const uint8_t *challenge, size_t challenge_len, uint8_t *indices, size_t indices_len,
+    uint8_t *count, size_t count_len);
+
+/* The nodes that an opening reveals, at the front of the list; what stands behind them stays. Refusals 1, 3, 4, 5. */
+size_t rachnoel_plan(size_t tau, size_t k, size_t w, size_t t, const uint8_t *challenge, size_t challenge_len, uint8_t *nodes, size_t nodes_len, uint8_t *count,
+    size_t count_len);
+
+/* ---- the signing half: librachnoel_signer */
+
+/* The commitment to the tree of a root. Root, tree, u and v are secret. Refusals 1, 2, 3. */
+size_t rachnoel_commit(size_t tau, size_t k, size_t w, size_t t, size_t row_bits, const uint8_t *root, size_t root_len, const uint8_t *iv, size_t iv_len,
+    uint8_t *commitment, size_t commitment_len, uint8_t *tree, size_t tree_len, uint8_t *leaf_commitments, size_t leaf_commitments_len, uint8_t *u, size_t u_len,
+    uint8_t *v, size_t v_len, uint8_t *corrections, size_t corrections_len, uint8_t *count, size_t count_len);
+
+/* The same with bytes first to first + width - 1 of u, of each correction and of each column of v only. Refusals 1, 2, 8, 3. */
+size_t rachnoel_commit_stretch(size_t tau, size_t k, size_t w, size_t t, size_t row_bits, size_t first, size_t width, const uint8_t *root, size_t root_len,
+    const uint8_t *iv, size_t iv_len, uint8_t *commitment, size_t commitment_len, uint8_t *tree, size_t tree_len, uint8_t *leaf_commitments,
+    size_t leaf_commitments_len, uint8_t *u, size_t u_len, uint8_t *v, size_t v_len, uint8_t *corrections, size_t corrections_len, uint8_t *count, size_t count_len);
+
+/* The opening of a challenge, from the tree and the leaf commitments that commit wrote. Open a tree for one challenge only. Refusals 1, 3, 4, 5. */
+size_t rachnoel_open(size_t tau, size_t k, size_t w, size_t t, const uint8_t *challenge, size_t challenge_len, const uint8_t *tree, size_t tree_len,
+    const uint8_t *leaf_commitments, size_t leaf_commitments_len, uint8_t *opening, size_t opening_len, uint8_t *count, size_t count_len);
+
+/* ---- the checking half: librachnoel_verifier */
+
+/* Commitment, tree, leaf commitments and q from an opening. The host compares the commitment with the one that it was given. Refusals 1 to 6. */
+size_t rachnoel_reconstruct(size_t tau, size_t k, size_t w, size_t t, size_t row_bits, const uint8_t *iv, size_t iv_len, const uint8_t *challenge,
+    size_t challenge_len, const uint8_t *corrections, size_t corrections_len, const uint8_t *opening, size_t opening_len, uint8_t *commitment,
+    size_t commitment_len, uint8_t *tree, size_t tree_len, uint8_t *leaf_commitments, size_t leaf_commitments_len, uint8_t *q, size_t q_len, uint8_t *count,
+    size_t count_len);
+
+/* The same with the corrections cut to bytes first to first + width - 1, and these bytes of each column of q. Refusals 1, 2, 8, 3, 4, 5, 6. */
+size_t rachnoel_reconstruct_stretch(size_t tau, size_t k, size_t w, size_t t, size_t row_bits, size_t first, size_t width, const uint8_t *iv, size_t iv_len,
+    const uint8_t *challenge, size_t challenge_len, const uint8_t *corrections, size_t corrections_len, const uint8_t *opening, size_t opening_len,
+    uint8_t *commitment, size_t commitment_len, uint8_t *tree, size_t tree_len, uint8_t *leaf_commitments, size_t leaf_commitments_len, uint8_t *q, size_t q_len,
+    uint8_t *count, size_t count_len);
+
+#ifdef __cplusplus
+}
+#endif
+
+#endif

@@ -1,0 +1,23 @@
+//! Asks pkg-config where the archives of the chosen halves are installed: PKG_CONFIG_PATH names the folder lib/pkgconfig of the install.
+
+use std::env;
+use std::process::Command;
+
+fn main() {
+    println!("cargo:rerun-if-env-changed=PKG_CONFIG_PATH");
+    for half in ["planning", "signer", "verifier"] {
+        if env::var_os(format!("CARGO_FEATURE_{}", half.to_uppercase())).is_none() {
+            continue;
+        }
+        let package = format!("rachnoel-{half}");
+        let asked = Command::new("pkg-config").args(["--variable=libdir", &package]).output();
+        let folder = match asked {
+            Ok(output) if output.status.success() => String::from_utf8(output.stdout).expect("a path"),
+            _ => panic!("pkg-config does not find {package}: set PKG_CONFIG_PATH to lib/pkgconfig of the install"),
+        };
+        let folder = folder.trim();
+        println!("cargo:rerun-if-changed={folder}/librachnoel_{half}.a");
+        println!("cargo:rustc-link-search=native={folder}");
+        println!("cargo:rustc-link-lib=static=rachnoel_{half}");
+    }
+}

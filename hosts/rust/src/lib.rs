@@ -1,0 +1,162 @@
+//! The calls of the proved archives, on slices. Lists of numbers and counts are bytes, four to a number, least byte first, as for a C host. A borrow shows what a C
+//! host must promise, so these functions are safe; the stack is still the caller's duty (`STACK`, `STACK_RECONSTRUCT`). They test no length: the calls do.
+//!
+//! A call returns 0, or the number of the first refusal that applies. With 0 the outputs and the count are written; with 5 and 6 the count alone; with any other
+//! number nothing.
+
+/// tau, k, w and t are no shape.
+pub const SHAPE: usize = 1;
+/// The row length is no multiple of 8 from 8 to 65,536.
+pub const ROW: usize = 2;
+/// A slice of another length.
+pub const BUFFER: usize = 3;
+/// One of the last w bits of the challenge is 1.
+pub const GRINDING: usize = 4;
+/// The challenge needs more than t nodes.
+pub const NODES: usize = 5;
+/// A byte in an unused slot of the opening is not 0.
+pub const SLOTS: usize = 6;
+/// A stretch of no bytes, or one that ends behind the row.
+pub const STRETCH: usize = 8;
+
+/// Bytes of a root, an IV, a challenge.
+pub const BLOCK: usize = 16;
+/// Bytes of a commitment.
+pub const COMMITMENT: usize = 32;
+/// Bytes of a count.
+pub const COUNT: usize = 4;
+
+/// Bytes of stack for any call but the two forms of reconstruct.
+pub const STACK: usize = 16 * 1024;
+/// Bytes of stack for the two forms of reconstruct.
+pub const STACK_RECONSTRUCT: usize = 112 * 1024;
+
+/// A shape: tau vectors, the first 128 - w - tau k of depth k + 1 and the others of depth k, w grinding bits, at most t nodes.
+#[derive(Clone, Copy, Debug, PartialEq, Eq)]
+pub struct Shape {
+    pub tau: usize,
+    pub k: usize,
+    pub w: usize,
+    pub t: usize,
+}
+
+/// Four zeros stand for FAEST-128f, which is 16, 7, 8, 110.
+pub const DEFAULT: Shape = Shape { tau: 0, k: 0, w: 0, t: 0 };
+pub const FAEST_128S: Shape = Shape { tau: 11, k: 11, w: 7, t: 102 };
+
+/// The lengths of a shape's slices, in bytes.
+#[derive(Clone, Copy, Debug, PartialEq, Eq)]
+pub struct Lengths {
+    pub indices: usize,
+    pub nodes: usize,
+    pub tree: usize,
+    pub leaf_commitments: usize,
+    pub u: usize,
+    /// Of V and of Q.
+    pub matrix: usize,
+    pub corrections: usize,
+    pub opening: usize,
+}
+
+impl Shape {
+    /// The lengths with rows of so many bytes: row_bits / 8, or the width of a stretch. None where this is no shape.
+    pub fn lengths(self, row_bytes: usize) -> Option<Lengths> {
+        let Shape { tau, k, w, t } = if self == DEFAULT { Shape { tau: 16, k: 7, w: 8, t: 110 } } else { self };
+        if !(1..=32).contains(&tau) || !(1..=12).contains(&k) || w > 127 || !(1..=512).contains(&t) {
+            return None;
+        }
+        let deeper = 128usize.checked_sub(w + tau * k)?;
+        if deeper >= tau || (deeper > 0 && k > 11) {
+            return None;
+        }
+        let leaves = (tau + deeper) << k;
+        Some(Lengths {
+            indices: 4 * tau,
+            nodes: 4 * t,
+            tree: 16 * (2 * leaves - 1),
+            leaf_commitments: 48 * leaves,
+            u: row_bytes,
+            matrix: 128 * row_bytes,
+            corrections: (tau - 1) * row_bytes,
+            opening: 48 * tau + 16 * t,
+        })
+    }
+}
+
+/// The number in four bytes of a list or of a count.
+pub fn number(bytes: [u8; 4]) -> u32 {
+    u32::from_le_bytes(bytes)
+}
+
+/// A call: its numbers, the slices that it reads and those that it writes. In C a slice is a pointer and a length.
+macro_rules! call {
+    ($half:literal, $(#[$doc:meta])* $name:ident = $symbol:ident ($($number:ident)*; $($read:ident $read_len:ident),*; $($write:ident $write_len:ident),*)) => {
+        $(#[$doc])*
+        #[cfg(feature = $half)]
+        #[allow(clippy::too_many_arguments)]
+        pub fn $name(shape: Shape, $($number: usize,)* $($read: &[u8],)* $($write: &mut [u8],)*) -> usize {
+            extern "C" {
+                fn $symbol(
+                    tau: usize,
+                    k: usize,
+                    w: usize,
+                    t: usize,
+                    $($number: usize,)*
+                    $($read: *const u8, $read_len: usize,)*
+                    $($write: *mut u8, $write_len: usize,)*
+                ) -> usize;
+            }
+            // SAFETY: each slice is borrowed, so it has its bytes, is not null, and overlaps no other if it is written.
+            unsafe {
+                $symbol(
+                    shape.tau,
+                    shape.k,
+                    shape.w,
+                    shape.t,
+                    $($number,)*
+                    $($read.as_ptr(), $read.len(),)*
+                    $($write.as_mut_ptr(), $write.len(),)*
+                )
+            }
+        }
+    };
+}
+
+call! { "planning",
+    /// The hidden indices of a challenge.
+    decode = rachnoel_decode(; challenge challenge_len; indices indices_len, count count_len)
+}
+
+call! { "planning",
+    /// The nodes that an opening reveals, at the front of the list.
+    plan = rachnoel_plan(; challenge challenge_len; nodes nodes_len, count count_len)
+}
+
+call! { "signer",
+    /// The commitment to the tree of a root.
+    commit = rachnoel_commit(row_bits; root root_len, iv iv_len; commitment commitment_len, tree tree_len, leaf_commitments leaf_commitments_len,
+        u u_len, v v_len, corrections corrections_len, count count_len)
+}
+
+call! { "signer",
+    /// The same with `width` bytes from byte `first` on of u, of each correction and of each column.
+    commit_stretch = rachnoel_commit_stretch(row_bits first width; root root_len, iv iv_len; commitment commitment_len, tree tree_len,
+        leaf_commitments leaf_commitments_len, u u_len, v v_len, corrections corrections_len, count count_len)
+}
+
+call! { "signer",
+    /// The opening of a challenge.
+    open = rachnoel_open(; challenge challenge_len, tree tree_len, leaf_commitments leaf_commitments_len; opening opening_len, count count_len)
+}
+
+call! { "verifier",
+    /// Commitment, tree, leaf commitments and Q from an opening. The host compares the commitment with the one that it was given.
+    reconstruct = rachnoel_reconstruct(row_bits; iv iv_len, challenge challenge_len, corrections corrections_len, opening opening_len;
+        commitment commitment_len, tree tree_len, leaf_commitments leaf_commitments_len, q q_len, count count_len)
+}
+
+call! { "verifier",
+    /// The same with `width` bytes from byte `first` on of each correction and of each column.
+    reconstruct_stretch = rachnoel_reconstruct_stretch(row_bits first width; iv iv_len, challenge challenge_len, corrections corrections_len,
+        opening opening_len; commitment commitment_len, tree tree_len, leaf_commitments leaf_commitments_len, q q_len, count count_len)
+}
