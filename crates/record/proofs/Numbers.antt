@@ -1,4 +1,4 @@
--- Numbers of several bytes, the greatest first: bytes and number determine each other. From the laws of digits, the list the other way round.
+-- Numbers of several bytes, most significant first: bytes and number determine each other. From the laws of digits, the list the other way round.
 use Prim.Native.Nat.{ℕ, zero, suc, _+_, _*_, _^_, _<_, _≤_}
 use mathlib.Core.Path.{_≡_, sym, ap, _∙_}
 use mathlib.Core.List.{List, [], _∷_, reverse, reverseAux, reverse-reverse}

@@ -1,4 +1,4 @@
--- Document 02, E6: a field is a length of four bytes, the greatest first, and that many bytes.
+-- Document 02, E6: a field is a length of four bytes, most significant first, and that many bytes.
 use Prim.Native.Nat.{ℕ, _+_}
 use mathlib.Core.Bool.{Bool, _&&_}
 use mathlib.Core.List.{List, _++_, reverse}
@@ -6,7 +6,7 @@ use lib.Dec.{leb, eqb}
 use lib.ListN.{length}
 use Rattle.spec.specs.Bytes.{part, number, digits}
 
--- the number that bytes write, the greatest first; and the n bytes of a number
+-- the number that bytes write, most significant first; and the n bytes of a number
 unfoldable pub bigEndian : List ℕ → ℕ
 bigEndian bytes = number 8 (reverse bytes)
 

@@ -18,7 +18,7 @@ fn wide(b: u8) -> usize
     b as usize
 }
 
-// The number in two bytes, the greatest first.
+// The number in two bytes, most significant first.
 fn number2(bytes: &[u8], at: usize) -> usize
     requires { ⌜ at + 2 ≤ length (now bytes) ⌝ }
     ensures { λ r. ⌜ r ≡ bigEndian (part (now (bytes .entry)) at 2) ⌝ }

@@ -20,7 +20,7 @@ fn low_byte(n: usize) -> u8
     (n % 256) as u8
 }
 
-// A number in four bytes, the greatest first.
+// A number in four bytes, most significant first.
 fn four_bytes(n: usize) -> [u8; 4]
     ensures { λ r. ⌜ r ≡ bigEndianBytes 4 n ⌝ }
 {
