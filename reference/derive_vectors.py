@@ -1,5 +1,5 @@
 #!/usr/bin/env python3
-"""What the second implementation prints for the cases of crates/vectors and crates/vectors_stretches, the programs that make the calls.
+"""What the second implementation prints for the cases of crates/vectors, crates/vectors_stretches and crates/vectors_records, the programs that make the calls.
 
     derive_vectors.py            compares it with the file `stdout` of each; exit status 1 at the first line that differs
     derive_vectors.py --write    writes these files
@@ -15,6 +15,7 @@ The cases are the calls of these forms in the src/main.rt of each, whose first l
     probe_decode(..), probe_plan(..)                           the command of this name
     stretch(TAU, K, W, T, ROWBITS, FIRST, WIDTH, ROOTIV, CHALLENGE, CHALLENGE)  commit_stretch, open_stretch, reconstruct_stretch
     probe_commit_stretch(..), probe_reconstruct_stretch(..)    the command of this name
+    record(TAU, K, W, T, ROWBITS, ROOTIV, CHALLENGE, CHALLENGE), prefixes(..), flips(..), pairs(..)  the command of this name
 
 A number may be a constant of that file, `const NAME: usize = NUMBER`.
 The roots and IVs are the lines `DIGIT => words(WORD, WORD)` of crates/vectors_calls/src/inputs.rt.
@@ -31,7 +32,8 @@ CRATES = HERE.parent / 'crates'
 INPUTS = (CRATES / 'vectors_calls' / 'src' / 'inputs.rt').read_text()
 LENGTHS = {'case': 7, 'uneven': 8, 'refused_shape': 5, 'flipped': 5, 'probe_commit': 7, 'probe_open': 7, 'probe_reconstruct': 9,
            'decode': 6, 'plan': 6, 'probe_decode': 7, 'probe_plan': 7,
-           'stretch': 10, 'probe_commit_stretch': 9, 'probe_reconstruct_stretch': 11}
+           'stretch': 10, 'probe_commit_stretch': 9, 'probe_reconstruct_stretch': 11,
+           'record': 8, 'prefixes': 8, 'flips': 8, 'pairs': 8}
 
 
 def cases(name):
@@ -58,6 +60,8 @@ def commands(form, case):
         return [[form, *map(str, case)]]
     if form in ('decode', 'plan'):
         return [[form, *map(str, case[:4]), words(*case[4:])]]
+    if form in ('record', 'prefixes', 'flips', 'pairs'):
+        return [[form, *map(str, case[:5]), NUMBERED[case[5] // 10], NUMBERED[case[5] % 10], words(*case[6:])]]
     known, challenge, flip = 13, (0, 0), []
     if form == 'stretch':
         signer = [*map(str, case[:7]), NUMBERED[case[7] // 10], NUMBERED[case[7] % 10]]
@@ -102,7 +106,7 @@ def check(name, write):
 def main():
     if sys.argv[1:] not in ([], ['--write']):
         sys.exit(__doc__)
-    for name in 'vectors', 'vectors_stretches':
+    for name in 'vectors', 'vectors_stretches', 'vectors_records':
         check(name, write=bool(sys.argv[1:]))
 
 

@@ -10,7 +10,7 @@ use crate::stretch::{cut, spread, Stretch};
 use crate::vole::{vole_commit, vole_reconstruct, Row};
 use crate::Block;
 
-/// Document 01, "When a call is turned down", and document 02, E1.
+/// Document 01, "When a call is turned down", and document 02, E1 and E6.
 #[derive(Clone, Copy, Debug, PartialEq, Eq)]
 pub enum Refusal {
     Shape = 1,
@@ -21,6 +21,9 @@ pub enum Refusal {
     Slots = 6,
     Line = 7,
     Stretch = 8,
+    Version = 9,
+    Field = 10,
+    Commitment = 11,
 }
 
 /// The answer of a call: 0 or the number of a refusal, and the node count.

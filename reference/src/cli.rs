@@ -7,6 +7,7 @@ use crate::calls::{
     commit, commit_stretch, decode, open, plan, reconstruct, reconstruct_stretch, Answer,
 };
 use crate::listing::list;
+use crate::record_commands::{check_command, record_command};
 use crate::shake::shake128;
 use crate::shape::{row_bytes, Shape};
 use crate::stretch::Stretch;
@@ -18,12 +19,17 @@ usage: reference decode      TAU K W T CHALLENGE
        reference open        TAU K W T ROWBITS ROOT IV CHALLENGE
        reference reconstruct TAU K W T ROWBITS ROOT IV CHALLENGE [FLIP]
        reference roundtrip   TAU K W T ROWBITS ROOT IV CHALLENGE
+       reference record      TAU K W T ROWBITS ROOT IV CHALLENGE
+       reference prefixes    TAU K W T ROWBITS ROOT IV CHALLENGE
+       reference flips       TAU K W T ROWBITS ROOT IV CHALLENGE
+       reference pairs       TAU K W T ROWBITS ROOT IV CHALLENGE
        reference probe_commit      TAU K W T ROWBITS WHICH MORE
        reference probe_open        TAU K W T BYTE WHICH MORE
        reference probe_reconstruct TAU K W T ROWBITS BYTE WHICH MORE SET
        reference probe_decode      TAU K W T BYTE WHICH MORE
        reference probe_plan        TAU K W T BYTE WHICH MORE
        reference list        (its line on standard input)
+       reference check       (a record on standard input)
 Each with ROWBITS is also there for a stretch of the rows: _stretch behind its
 name, FIRST WIDTH behind ROWBITS.
 Numbers are decimal; ROOT, IV and CHALLENGE are hexadecimal, byte 0 first.
@@ -43,13 +49,13 @@ pub fn from_hex(digits: &str) -> Option<Vec<u8>> {
 }
 
 /// The lines `number` and `count`.
-fn answer_lines(answer: Answer) -> String {
+pub fn answer_lines(answer: Answer) -> String {
     format!("number {}\ncount {}\n", answer.number, answer.count)
 }
 
 /// The line of an output buffer: name, length in bytes, and the bytes, or where
 /// there are more than 64 their SHAKE128 digest of 32 bytes.
-fn buffer_line(name: &str, bytes: &[u8]) -> String {
+pub fn buffer_line(name: &str, bytes: &[u8]) -> String {
     let content = match bytes.len() {
         0 => String::new(),
         1..=64 => format!(" {}", to_hex(bytes)),
@@ -66,12 +72,19 @@ fn list_line(name: &str, numbers: &[u32]) -> String {
 
 /// The row length of a call in bits, and the stretch where it is a call of one.
 #[derive(Clone, Copy)]
-struct Rows {
+pub struct Rows {
     bits: usize,
     stretch: Option<Stretch>,
 }
 
 impl Rows {
+    pub fn whole(bits: usize) -> Rows {
+        Rows {
+            bits,
+            stretch: None,
+        }
+    }
+
     /// The bytes of a row that a call writes; of a refused stretch at most a row.
     fn width(self) -> usize {
         let b = row_bytes(self.bits).unwrap_or(0);
@@ -127,15 +140,15 @@ fn call_reconstruct(
 
 /// The buffers of commit, open and reconstruct, and the answers of these calls
 /// made one after another up to the first that is refused.
-struct Run {
-    answers: Vec<Answer>,
-    commitment: Vec<u8>,
+pub struct Run {
+    pub answers: Vec<Answer>,
+    pub commitment: Vec<u8>,
     tree: Vec<u8>,
     leaf_commitments: Vec<u8>,
     u: Vec<u8>,
     v: Vec<u8>,
-    corrections: Vec<u8>,
-    opening: Vec<u8>,
+    pub corrections: Vec<u8>,
+    pub opening: Vec<u8>,
     again_commitment: Vec<u8>,
     again_tree: Vec<u8>,
     again_leaf_commitments: Vec<u8>,
@@ -144,7 +157,7 @@ struct Run {
 
 impl Run {
     /// Buffers of the exact lengths; empty ones where there is no exact length.
-    fn new(shape: Shape, rows: Rows) -> Run {
+    pub fn new(shape: Shape, rows: Rows) -> Run {
         let shape = shape.resolve();
         let bytes = |length: fn(&Shape) -> usize| vec![0; shape.as_ref().map_or(0, length)];
         let b = rows.width();
@@ -169,7 +182,7 @@ impl Run {
         self.answers.iter().all(|answer| answer.number == 0)
     }
 
-    fn commit(&mut self, shape: Shape, rows: Rows, root: &[u8], iv: &[u8]) {
+    pub fn commit(&mut self, shape: Shape, rows: Rows, root: &[u8], iv: &[u8]) {
         self.answers.push(call_commit(
             shape,
             rows,
@@ -184,7 +197,7 @@ impl Run {
         ));
     }
 
-    fn open(&mut self, shape: Shape, challenge: &[u8]) {
+    pub fn open(&mut self, shape: Shape, challenge: &[u8]) {
         if self.well() {
             let (tree, coms) = (&self.tree, &self.leaf_commitments);
             let answer = open(shape, challenge, tree, coms, &mut self.opening);
@@ -221,10 +234,10 @@ impl Run {
 }
 
 /// The arguments after the command, taken from the front.
-struct Arguments<'a>(std::slice::Iter<'a, String>);
+pub struct Arguments<'a>(std::slice::Iter<'a, String>);
 
 impl Arguments<'_> {
-    fn number(&mut self) -> Option<usize> {
+    pub fn number(&mut self) -> Option<usize> {
         self.0.next()?.parse().ok()
     }
 
@@ -236,11 +249,11 @@ impl Arguments<'_> {
         }
     }
 
-    fn bytes(&mut self) -> Option<Vec<u8>> {
+    pub fn bytes(&mut self) -> Option<Vec<u8>> {
         from_hex(self.0.next()?)
     }
 
-    fn shape(&mut self) -> Option<Shape> {
+    pub fn shape(&mut self) -> Option<Shape> {
         Some(Shape {
             tau: self.number()?,
             k: self.number()?,
@@ -258,14 +271,14 @@ impl Arguments<'_> {
         Some(Rows { bits, stretch })
     }
 
-    fn end(mut self) -> Option<()> {
+    pub fn end(mut self) -> Option<()> {
         self.0.next().is_none().then_some(())
     }
 }
 
 /// The text to print, and whether all is well: only a round trip that does not
 /// come out as it must is not.
-type Outcome = (Vec<u8>, bool);
+pub type Outcome = (Vec<u8>, bool);
 
 /// `list`, with its line from the input.
 fn list_command(rest: Arguments, input: &mut impl Read) -> Option<Outcome> {
@@ -359,7 +372,7 @@ fn bytes_command(command: &str, of_stretch: bool, mut rest: Arguments) -> Option
 }
 
 /// The byte that a probe fills the outputs with.
-const PATTERN: u8 = 0xa5;
+pub const PATTERN: u8 = 0xa5;
 
 /// The length of a buffer of a probe: the exact one, or where it is the one that
 /// is changed one less, or more where MORE is not 0.
@@ -519,6 +532,8 @@ pub fn run(args: &[String], input: &mut impl Read) -> Option<Outcome> {
         "probe_commit" | "probe_reconstruct" => probe_command(command, of_stretch, rest),
         _ if of_stretch => None,
         "list" => list_command(rest, input),
+        "check" => check_command(rest, input),
+        "record" | "prefixes" | "flips" | "pairs" => record_command(command, rest),
         "decode" | "plan" => numbers_command(command, rest),
         "probe_open" => probe_command(command, false, rest),
         "probe_decode" | "probe_plan" => probe_numbers_command(command, rest),

@@ -4,7 +4,7 @@
 //! "Document 000" is the FAEST v2.0 specification; its figures and sections
 //! are named beside the functions that carry them out. "Document 01" is the
 //! requirements paper with the five calls and their refusals, "document 02" the
-//! later changes to it.
+//! later requests.
 
 pub mod aes;
 pub mod bavc;
@@ -13,6 +13,8 @@ pub mod cli;
 pub mod field;
 pub mod listing;
 pub mod prg;
+pub mod record;
+mod record_commands;
 pub mod shake;
 pub mod shape;
 pub mod stretch;

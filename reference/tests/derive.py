@@ -183,6 +183,16 @@ class Signer:
         ]
 
 
+def record(numbers, row_bits, fields):
+    """Document 02, E6: a version byte, then each field behind its length."""
+    tau, k, w, t = numbers
+    head = bytes([tau, k, w]) + t.to_bytes(2, "big") + row_bits.to_bytes(4, "big")
+    text = b"\x01"
+    for field in [head] + fields:
+        text += len(field).to_bytes(4, "big") + field
+    return text
+
+
 def show(command, arguments, count, lines):
     print("$", command, *arguments)
     print("number 0")
@@ -249,6 +259,12 @@ def main():
         long.append(challenge.hex())
         show("open", long, len(revealed), signer.open(challenge))
         show("reconstruct", long, len(revealed), signer.reconstruct(challenge))
+        committed = dict(signer.commit())
+        fields = [iv, challenge, committed["corrections"]]
+        fields += [value for _, value in signer.open(challenge)] + [signer.commitment]
+        lines = [("record", record(numbers, row_bits, fields))]
+        lines += signer.reconstruct(challenge)[1:]
+        show("record", long, len(revealed), lines)
         signer.take(*stretch)
         show("commit_stretch", part, 0, signer.commit())
         part.append(challenge.hex())

@@ -46,7 +46,7 @@ fn lengths(s: Shape, rows: Rows, places: Lengths, which: usize, more: usize) -> 
 }
 
 // Whether each byte is 0xa5.
-fn is_kept(a: &[u8; 512]) -> bool {
+pub fn is_kept(a: &[u8; 512]) -> bool {
     let mut i = 0;
     while i < 512 {
         if a[i] != 0xa5 {

@@ -3,8 +3,15 @@
 use std::io::Write;
 use std::process::{Command, Stdio};
 
+use crate::support::hex;
+
 /// Runs the program and gives its exit status and standard output.
 fn program(args: &str, input: &str) -> (i32, String) {
+    program_on(args, input.as_bytes())
+}
+
+/// The same with any bytes as its input.
+fn program_on(args: &str, input: &[u8]) -> (i32, String) {
     let mut child = Command::new(env!("CARGO_BIN_EXE_reference"))
         .args(args.split_whitespace())
         .stdin(Stdio::piped())
@@ -13,7 +20,7 @@ fn program(args: &str, input: &str) -> (i32, String) {
         .spawn()
         .unwrap();
     // A command that reads no input may have ended already.
-    let _ = child.stdin.take().unwrap().write_all(input.as_bytes());
+    let _ = child.stdin.take().unwrap().write_all(input);
     let output = child.wait_with_output().unwrap();
     let text = String::from_utf8(output.stdout).unwrap();
     (output.status.code().unwrap(), text)
@@ -221,6 +228,54 @@ fn probes() {
 }
 
 #[test]
+fn records() {
+    let args = format!("1 1 127 1 8 {ROOT} {ROOT} {CHALLENGE_ZERO}");
+    let (status, text) = program(&format!("record {args}"), "");
+    let lines: Vec<&str> = text.lines().collect();
+    assert_eq!((status, lines.len()), (0, 6));
+    assert_eq!(lines[..2], ["number 0", "count 1"]);
+    let (_, text) = program(&format!("prefixes {args}"), "");
+    let lines: Vec<&str> = text.lines().collect();
+    assert_eq!(lines.len(), 162);
+    assert_eq!(lines[0], "prefix 0 9/0-");
+    assert!(lines[1..].iter().all(|line| line.ends_with(" 10/0-")));
+    let (_, text) = program(&format!("flips {args}"), "");
+    assert_eq!(text.lines().count(), 162);
+    let commitment = text.lines().skip(130);
+    assert_eq!(
+        commitment
+            .filter(|line| line.ends_with(&" 11/1+".repeat(8)))
+            .count(),
+        32
+    );
+    let (_, text) = program(&format!("pairs {args}"), "");
+    let first = |line: &str| String::from(line.split(' ').nth(2).unwrap());
+    let firsts: Vec<String> = text.lines().map(first).collect();
+    let numbers = "9/0- 10/0- 1/0- 2/0- 10/0- 10/0- 3/0- 3/0- 3/0- 4/0- 11/1+ 11/1+";
+    assert_eq!(firsts.join(" "), numbers);
+    let refused = format!("record 2 2 124 3 8 {ROOT} {ROOT} {CHALLENGE_0C}");
+    assert_eq!(program(&refused, ""), (0, "number 5\ncount 4\n".into()));
+}
+
+#[test]
+fn a_record_on_standard_input() {
+    assert_eq!(program("check", ""), (0, "number 9\ncount 0\n".into()));
+    assert_eq!(
+        program_on("check", &[1]),
+        (0, "number 10\ncount 0\n".into())
+    );
+    // A record of zeros: its commitment is another.
+    let head = "01 00000009 01 01 7f 0001 00000008 00000010";
+    let [zeros, opening] = [16, 64].map(|n| "00".repeat(n));
+    let rest =
+        format!("{zeros} 00000010 {zeros} 00000000 00000040 {opening} 00000020 {zeros}{zeros}");
+    let (status, text) = program_on("check", &hex(&format!("{head} {rest}")));
+    let lines: Vec<&str> = text.lines().collect();
+    assert_eq!((status, lines.len()), (0, 5));
+    assert_eq!(lines[..2], ["number 11", "count 1"]);
+}
+
+#[test]
 fn arguments_that_cannot_be_read() {
     for args in [
         String::new(),
@@ -246,6 +301,9 @@ fn arguments_that_cannot_be_read() {
         format!("plan_stretch 1 1 127 1 8 0 1 {ROOT}"),
         "list_stretch".into(),
         "probe_open_stretch 1 1 127 1 8 0 1 0 0 0".into(),
+        format!("record 1 1 127 1 8 {ROOT} {ROOT}"),
+        format!("pairs 1 1 127 1 8 {ROOT} {ROOT} {ROOT} 0"),
+        "check more".into(),
     ] {
         assert_eq!(program(&args, ""), (2, String::new()), "{args}");
     }

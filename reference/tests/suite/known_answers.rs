@@ -16,6 +16,6 @@ fn every_known_answer() {
         assert_eq!(String::from_utf8(output).unwrap(), expected, "{command}");
         compared += 1;
     }
-    // Sixteen shapes with the five calls and the two of a stretch each.
-    assert_eq!(compared, 112);
+    // Sixteen shapes with the five calls, the two of a stretch and a record each.
+    assert_eq!(compared, 128);
 }

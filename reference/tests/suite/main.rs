@@ -9,6 +9,7 @@ mod limits;
 mod listing;
 mod primitives;
 mod proved_examples;
+mod records;
 mod refusals;
 mod roundtrip;
 mod support;

@@ -1,0 +1,57 @@
+-- The numbers that a head and its fields have room for. By the shape rules and the row rule.
+use Prim.Native.Nat.{ℕ, _-_, _%_, _≤_}
+use mathlib.Core.Path.{_≡_, refl, ap}
+use mathlib.Core.Bool.{Bool, true, false, cond}
+use mathlib.Core.List.{[], _∷_}
+use native.Mathlib.Omega.{arith}
+use native.Mathlib.Nat.{mul-le-mul}
+use lib.Dec.{eqb, leb}
+use borrow.Author.Tests.{eqb-true, leb-true}
+use Rattle.spec.specs.declared.Shape.{Shape}
+use Rattle.spec.specs.Bytes.{allZero}
+use Rattle.spec.specs.Shapes.{faest128f, resolved, level, nodeBytes, leafCommitmentBytes, shapeOk, openingBytes, correctionsBytes}
+use Rattle.spec.specs.Calls.{rowOk}
+use Rattle.laws.proofs.Conjunctions.{both-true}
+use Rattle.planning_laws.proofs.ShapeFacts.{ShapeFacts, shape-facts}
+
+-- the numbers of a shape as given, which is resolved to an allowed one
+pub record Small (s : Shape) : Type 0 where
+  pub tau : s .tau ≤ 32
+  pub k : s .k ≤ 12
+  pub w : s .w ≤ 127
+  pub t : s .t ≤ 512
+
+pub given-small : (s : Shape) → shapeOk (resolved s) ≡ true → Small s
+unfolding resolved allZero
+given-small s ok = go (allZero (s .tau ∷ s .k ∷ s .w ∷ s .t ∷ [])) refl
+  where
+    go : (z : Bool) → allZero (s .tau ∷ s .k ∷ s .w ∷ s .t ∷ []) ≡ z → Small s
+    go true e =
+        let a = both-true (eqb (s .tau) 0) _ e in
+        let b = both-true (eqb (s .k) 0) _ (a .1) in
+        let c = both-true (eqb (s .w) 0) _ (b .1) in
+        let d = both-true (eqb (s .t) 0) true (c .1) in
+        let p = eqb-true (s .tau) 0 (a .0) in
+        let q = eqb-true (s .k) 0 (b .0) in
+        let r = eqb-true (s .w) 0 (c .0) in
+        let t = eqb-true (s .t) 0 (d .0) in
+        record { tau = omega arith; k = omega arith; w = omega arith; t = omega arith }
+    go false e =
+        let same : resolved s ≡ s = ap (λ (z : Bool). cond z faest128f s) e in
+        let f : ShapeFacts s = shape-facts s (rw same at ok) in
+        record { tau = f .tau-max; k = f .k-max; w = f .w-max; t = f .t-max }
+
+pub row-small : (n : ℕ) → rowOk n ≡ true → n ≤ 65536
+unfolding rowOk
+row-small n h = leb-true n 65536 (both-true (leb 8 n) (leb n 65536) (both-true (eqb (n % 8) 0) _ h .1) .1)
+
+pub corrections-small : (s : Shape) (b : ℕ) → shapeOk s ≡ true → b ≤ 8192 → correctionsBytes s b ≤ 262144
+unfolding correctionsBytes
+corrections-small s b ok h =
+    let f = shape-facts s ok in
+    let l : s .tau - 1 ≤ 32 = omega arith in
+    mul-le-mul h l
+
+pub opening-small : (s : Shape) → shapeOk s ≡ true → openingBytes s ≤ 9728
+unfolding level nodeBytes leafCommitmentBytes openingBytes
+opening-small s ok = (let f = shape-facts s ok in omega arith)

@@ -1,0 +1,9 @@
+-- What the definitions compute, and laws of records.
+pub mod Examples
+pub mod Numbers
+pub mod Fields
+pub mod Bounds
+pub mod Refusals
+pub mod SameBytes
+pub mod ReadBack
+pub mod Reconstructing

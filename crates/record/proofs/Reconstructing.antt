@@ -1,0 +1,128 @@
+-- Reconstruct on the fields of a record: its contract in the names of check_record's contract, and of its tests those that reading leaves open. What depends on the
+-- form of reconstruct's contract stands here alone.
+use Prim.Native.Nat.{ℕ, _/_}
+use mathlib.Core.Path.{_≡_, refl, _∙_}
+use mathlib.Core.Bool.{Bool, true, false}
+use mathlib.Core.List.{List, [], _∷_}
+use lib.Dec.{eqb}
+use lib.ListN.{length}
+use borrow.Author.Tests.{eq-eqb, ne-eqb}
+use Rattle.spec.specs.declared.Shape.{Shape}
+use Rattle.spec.specs.declared.Answer.{Answer}
+use Rattle.spec.specs.Shapes.{resolved, shapeOk, ivBytes, challengeBytes, hashBytes, openingBytes, correctionsBytes, grindingOk, plannedCount}
+use Rattle.spec.specs.Primitives.{Primitives}
+use Rattle.spec.specs.Verifier.{slotsOk}
+use Rattle.spec.specs.Calls.{firstRefusal, fits, rowOk, nodesOk, countWith, written, Reconstructed, reconstructLengths, reconstructNumber, Reconstruct}
+use Rattle.laws.specs.Lengths.{Sized}
+use Rattle.laws.proofs.Lengths.{fits-sized}
+use Rattle.record.specs.Record.{Contents, contentsOf, readNumber}
+use Rattle.record.specs.RecordCalls.{Work, workLengths, workOf, Reconstructs, fieldsNumber, made}
+use Rattle.record.proofs.Refusals.{none-failed}
+use Rattle.record.proofs.ReadBack.{read-shape, read-row, read-sized}
+
+abbrev countOf : Contents → ℕ
+countOf c = plannedCount (resolved (c .shape)) (c .challenge)
+
+-- ---- what it says
+
+module _ (P : Primitives) (c : Contents) (x y : Reconstructed) (a : Answer) (w : Reconstructs P c x y a) where
+  pub ran-number : a .number ≡ fieldsNumber c x
+  unfolding fieldsNumber
+  ran-number = w .number
+
+  pub ran-count : a .count ≡ countWith (a .number) (plannedCount (resolved (c .shape)) (c .challenge))
+  ran-count = w .count
+
+  pub ran-made : a .number ≡ 0 → y ≡ made P c
+  unfolding made
+  ran-made z = w .buffers ∙ rw z refl
+
+  pub ran-kept : (a .number ≡ 0 → ⊥) → y ≡ x
+  ran-kept n = w .buffers ∙ rw (ne-eqb (a .number) 0 n) refl
+
+-- with arguments that are the fields
+pub on-fields : (P : Primitives) (c : Contents) {s : Shape} {n : ℕ} {iv ch cs op : List ℕ} {x y : Reconstructed} {a : Answer}
+    → s ≡ c .shape
+    → n ≡ c .row
+    → iv ≡ c .iv
+    → ch ≡ c .challenge
+    → cs ≡ c .corrections
+    → op ≡ c .opening
+    → Reconstruct P s n iv ch cs op x y a
+    → Reconstructs P c x y a
+on-fields P c e₁ e₂ e₃ e₄ e₅ e₆ w = rw (e₁, e₂, e₃, e₄, e₅, e₆) at w
+
+-- it answers
+pub reconstructs : (P : Primitives) (c : Contents) (x : Reconstructed)
+    → Reconstructs P c x (written (fieldsNumber c x) (made P c) x) (record { number = fieldsNumber c x; count = countWith (fieldsNumber c x) (countOf c) })
+unfolding fieldsNumber made
+reconstructs P c x = record { number = refl; count = refl; buffers = refl }
+
+-- ---- its number
+
+pub not-eleven : (c : Contents) (x : Reconstructed) → eqb (fieldsNumber c x) 11 ≡ false
+unfolding fieldsNumber reconstructNumber
+not-eleven c x =
+    let s = resolved (c .shape) in
+    go (shapeOk s) (rowOk (c .row)) (fits (reconstructLengths s (c .row / 8) (c .iv) (c .challenge) (c .corrections) (c .opening) x))
+    (grindingOk s (c .challenge)) (nodesOk s (c .challenge)) (slotsOk s (c .challenge) (c .opening))
+  where
+    go : (a b c d e f : Bool) → eqb (firstRefusal ((a, 1) ∷ (b, 2) ∷ (c, 3) ∷ (d, 4) ∷ (e, 5) ∷ (f, 6) ∷ [])) 11 ≡ false
+    go false b c d e f = refl
+    go true false c d e f = refl
+    go true true false d e f = refl
+    go true true true false e f = refl
+    go true true true true false f = refl
+    go true true true true true false = refl
+    go true true true true true true = refl
+
+-- its tests that reading leaves open
+abbrev pub openTests : Contents → Work → List (Bool × ℕ)
+openTests c x =
+    let s = resolved (c .shape) in
+    (fits (workLengths s (c .row / 8) x), 3)
+    ∷ (grindingOk s (c .challenge), 4)
+    ∷ (nodesOk s (c .challenge), 5)
+    ∷ (slotsOk s (c .challenge) (c .opening), 6)
+    ∷ []
+
+pub open-decide : (rec : List ℕ) (x : Reconstructed) → readNumber rec ≡ 0 → length (x .commitment) ≡ hashBytes (resolved (contentsOf rec .shape))
+    → fieldsNumber (contentsOf rec) x ≡ firstRefusal (openTests (contentsOf rec) (workOf x))
+unfolding fieldsNumber reconstructNumber
+open-decide rec x ok e =
+    let q = read-sized rec ok in
+    rw (
+      read-shape rec ok,
+      read-row rec ok,
+      eq-eqb _ _ (q .0),
+      eq-eqb _ _ (q .1 .0),
+      eq-eqb _ _ (q .1 .1 .0),
+      eq-eqb _ _ (q .1 .1 .1 .0),
+      eq-eqb _ _ e,
+    )
+    refl
+
+-- where it is 0 the shape and the row length are allowed and the fields have their lengths
+pub fields-fit : (c : Contents) (x : Reconstructed) → fieldsNumber c x ≡ 0
+    → (shapeOk (resolved (c .shape)) ≡ true)
+    × (rowOk (c .row) ≡ true)
+    × Sized
+    ((length (c .iv), ivBytes)
+    ∷ (length (c .challenge), challengeBytes (resolved (c .shape)))
+    ∷ (length (c .corrections), correctionsBytes (resolved (c .shape)) (c .row / 8))
+    ∷ (length (c .opening), openingBytes (resolved (c .shape)))
+    ∷ [])
+unfolding fieldsNumber reconstructNumber
+fields-fit c x z =
+    let s = resolved (c .shape) in
+    let lengths = reconstructLengths s (c .row / 8) (c .iv) (c .challenge) (c .corrections) (c .opening) x in
+    let t = none-failed
+    ((shapeOk s, 1)
+    ∷ (rowOk (c .row), 2)
+    ∷ (fits lengths, 3)
+    ∷ (grindingOk s (c .challenge), 4)
+    ∷ (nodesOk s (c .challenge), 5)
+    ∷ (slotsOk s (c .challenge) (c .opening), 6)
+    ∷ []) (refl, (refl, (refl, (refl, (refl, (refl, tt)))))) z in
+    let q = fits-sized lengths (t .1 .1 .0) in
+    (t .0, t .1 .0, (q .0, (q .1 .0, (q .1 .1 .0, (q .1 .1 .1 .0, tt)))))

@@ -1,0 +1,28 @@
+-- Document 02, E6: a field is a length of four bytes, most significant first, and that many bytes.
+use Prim.Native.Nat.{ℕ, _+_}
+use mathlib.Core.Bool.{Bool, _&&_}
+use mathlib.Core.List.{List, _++_, reverse}
+use lib.Dec.{leb, eqb}
+use lib.ListN.{length}
+use Rattle.spec.specs.Bytes.{part, number, digits}
+
+-- the number that bytes write, most significant first; and the n bytes of a number
+unfoldable pub bigEndian : List ℕ → ℕ
+bigEndian bytes = number 8 (reverse bytes)
+
+unfoldable pub bigEndianBytes : ℕ → ℕ → List ℕ
+bigEndianBytes n x = reverse (digits 8 n x)
+
+-- a field that begins at place `at`: it has n bytes and they are there; its bytes; the place behind it
+unfoldable pub fieldOk : List ℕ → ℕ → ℕ → Bool
+fieldOk rec at n = leb (at + 4 + n) (length rec) && eqb (bigEndian (part rec at 4)) n
+
+abbrev pub fieldAt : List ℕ → ℕ → ℕ → List ℕ
+fieldAt rec at n = part rec (at + 4) n
+
+abbrev pub behind : ℕ → ℕ → ℕ
+behind at n = at + 4 + n
+
+-- the field that has these bytes
+unfoldable pub fieldOf : List ℕ → List ℕ
+fieldOf bytes = bigEndianBytes 4 (length bytes) ++ bytes

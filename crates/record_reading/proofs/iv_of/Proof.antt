@@ -1,0 +1,16 @@
+-- Reading tests the field and its place.
+use Rattle.record.specs.Record.{contentsOf}
+use Rattle.record.proofs.Fields.{field-room}
+use Rattle.record.proofs.ReadBack.{read-rest}
+use Rattle.record_reading.proofs.iv_of.Statement.{statement}
+use Rattle.record_reading.proofs.iv_of.Tie as tie
+
+field-of-requires : tie.Need-field-of-requires
+field-of-requires c κs = field-room _ _ _ (read-rest _ (c .before .pre) .0)
+
+returns : tie.Need-returns
+unfolding contentsOf
+returns c = c .field-of .ensures
+
+pub iv-of-spec : {M : Type 1} → statement M
+iv-of-spec = tie.close (tie.spec field-of-requires returns)

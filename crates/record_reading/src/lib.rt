@@ -1,0 +1,135 @@
+// What reading a record gives: its number, its shape and row length, and of a record that is read the other fields, each handed out by a reader.
+ghost use mathlib.Core.Path.{_≡_};
+ghost use mathlib.Core.Bool.{true};
+ghost use Prim.Native.Nat.{_/_, _≤_};
+ghost use Rattle.spec.specs.Shapes.{resolved, shapeOk};
+ghost use Rattle.record.specs.Fields.{fieldOk};
+ghost use Rattle.record.specs.Record.{contentsOf, headNumber, readNumber, restOk};
+use spec::Shape;
+
+// The shape, as the head writes it.
+pub fn shape_of(bytes: &[u8]) -> Shape
+    requires { ⌜ fieldOk (now bytes) 1 9 ≡ true ⌝ }
+    ensures { λ r. ⌜ r ≡ contentsOf (now (bytes .entry)) .shape ⌝ }
+{
+    record_fields::shape_in(record_reader::field_of(bytes, 1, 9))
+}
+
+// The row length in bits.
+pub fn row_of(bytes: &[u8]) -> usize
+    requires { ⌜ fieldOk (now bytes) 1 9 ≡ true ⌝ }
+    ensures { λ r. ⌜ r ≡ contentsOf (now (bytes .entry)) .row ⌝ }
+{
+    record_fields::row_in(record_reader::field_of(bytes, 1, 9))
+}
+
+// The front: 9, 10, 1 or 2, or 0.
+pub fn head_number(bytes: &[u8]) -> usize
+    ensures { λ r. ⌜ r ≡ headNumber (now (bytes .entry)) ⌝ }
+{
+    if !record_fields::version_ok(bytes) {
+        return 9;
+    }
+    if !record_fields::field_fits(bytes, 1, 9) {
+        return 10;
+    }
+    if !rules::is_shape(rules::resolve(shape_of(bytes))) {
+        return 1;
+    }
+    if !rules::is_row_length(row_of(bytes)) {
+        return 2;
+    }
+    0
+}
+
+// The resolved shape of a record whose front is read, and the bytes of its rows.
+pub fn resolved_shape(bytes: &[u8]) -> Shape
+    requires { ⌜ headNumber (now bytes) ≡ 0 ⌝ }
+    ensures { λ r. ⌜ (r ≡ resolved (contentsOf (now (bytes .entry)) .shape)) × (shapeOk r ≡ true) ⌝ }
+{
+    rules::resolve(shape_of(bytes))
+}
+
+pub fn row_bytes(bytes: &[u8]) -> usize
+    requires { ⌜ headNumber (now bytes) ≡ 0 ⌝ }
+    ensures { λ r. ⌜ (r ≡ contentsOf (now (bytes .entry)) .row / 8) × (r ≤ 8192) ⌝ }
+{
+    row_of(bytes) / 8
+}
+
+// Whether fields two to six are there.
+fn rest_ok(bytes: &[u8], s: Shape, b: usize) -> bool
+    requires { ⌜ (shapeOk s ≡ true) × (b ≤ 8192) ⌝ }
+    ensures { λ r. ⌜ r ≡ restOk s b (now (bytes .entry)) ⌝ }
+{
+    let corrections = record_fields::corrections_length(s, b);
+    let opening = record_fields::opening_length(s);
+    record_fields::field_fits(bytes, 14, 16)
+        & record_fields::field_fits(bytes, 34, 16)
+        & record_fields::field_fits(bytes, 54, corrections)
+        & record_fields::field_fits(bytes, record_fields::opening_place(s, b), opening)
+        & record_fields::field_fits(bytes, record_fields::commitment_place(s, b), 32)
+}
+
+// The front, then 10 for the rest and for bytes left over, or 0: the record is read.
+pub fn read_number(bytes: &[u8]) -> usize
+    ensures { λ r. ⌜ r ≡ readNumber (now (bytes .entry)) ⌝ }
+{
+    let number = head_number(bytes);
+    if number != 0 {
+        return number;
+    }
+    let s = resolved_shape(bytes);
+    let b = row_bytes(bytes);
+    if !rest_ok(bytes, s, b) {
+        return 10;
+    }
+    if bytes.len() != record_fields::record_length(s, b) {
+        return 10;
+    }
+    0
+}
+
+// ---- the fields of a record that is read
+
+pub fn iv_of(bytes: &[u8]) -> &[u8]
+    requires { ⌜ readNumber (now bytes) ≡ 0 ⌝ }
+    ensures { λ f. ⌜ now f ≡ contentsOf (now (bytes .entry)) .iv ⌝ }
+{
+    record_reader::field_of(bytes, 14, 16)
+}
+
+pub fn challenge_of(bytes: &[u8]) -> &[u8]
+    requires { ⌜ readNumber (now bytes) ≡ 0 ⌝ }
+    ensures { λ f. ⌜ now f ≡ contentsOf (now (bytes .entry)) .challenge ⌝ }
+{
+    record_reader::field_of(bytes, 34, 16)
+}
+
+pub fn corrections_of(bytes: &[u8]) -> &[u8]
+    requires { ⌜ readNumber (now bytes) ≡ 0 ⌝ }
+    ensures { λ f. ⌜ now f ≡ contentsOf (now (bytes .entry)) .corrections ⌝ }
+{
+    let s = resolved_shape(bytes);
+    let b = row_bytes(bytes);
+    record_reader::field_of(bytes, 54, record_fields::corrections_length(s, b))
+}
+
+pub fn opening_of(bytes: &[u8]) -> &[u8]
+    requires { ⌜ readNumber (now bytes) ≡ 0 ⌝ }
+    ensures { λ f. ⌜ now f ≡ contentsOf (now (bytes .entry)) .opening ⌝ }
+{
+    let s = resolved_shape(bytes);
+    let b = row_bytes(bytes);
+    let at = record_fields::opening_place(s, b);
+    record_reader::field_of(bytes, at, record_fields::opening_length(s))
+}
+
+pub fn commitment_of(bytes: &[u8]) -> &[u8]
+    requires { ⌜ readNumber (now bytes) ≡ 0 ⌝ }
+    ensures { λ f. ⌜ now f ≡ contentsOf (now (bytes .entry)) .commitment ⌝ }
+{
+    let s = resolved_shape(bytes);
+    let b = row_bytes(bytes);
+    record_reader::field_of(bytes, record_fields::commitment_place(s, b), 32)
+}

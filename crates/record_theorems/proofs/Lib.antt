@@ -1,0 +1,2 @@
+-- What the calls on records give together.
+pub mod Claims

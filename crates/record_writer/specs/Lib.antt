@@ -1,0 +1,2 @@
+-- How a function puts a string.
+pub mod Put

@@ -1,0 +1,100 @@
+// Records of fixed cases, written, changed and checked. `stdout` holds what the second implementation (reference/) prints for each: reference/derive_vectors.py derives it
+// from the lines of this file.
+//
+//     record(TAU, K, W, T, ROWBITS, ROOTIV, CHALLENGE, CHALLENGE)    the record is written and checked, and its bytes and the work buffers are printed
+//     prefixes(..)                                                   each prefix of the record is checked
+//     flips(..)                                                      each bit of the record is flipped, and the record checked
+//     pairs(..)                                                      each of twelve edits is made, and every two of them, and the record checked
+//
+// ROOTIV is that of crates/vectors; the challenge is two words, the least byte first.
+use record_cases::flips;
+use record_cases::pairs;
+use record_cases::prefixes;
+use record_cases::record;
+
+// One vector, so that the corrections have no bytes; two depths; the worked example of README.md.
+fn small_records() {
+    record(1, 1, 127, 1, 8, 13, 0, 0);
+    record(1, 1, 127, 1, 65536, 24, 1, 0);
+    record(2, 1, 125, 4, 16, 13, 7, 0);
+    record(3, 1, 123, 5, 128, 24, 0x12, 0);
+    record(2, 2, 124, 4, 8, 13, 0xc, 0);
+}
+
+// Four zeros in the first field, and FAEST-128f and FAEST-128s written out.
+fn named_sets() {
+    record(0, 0, 0, 0, 8, 95, 0, 0);
+    record(0, 0, 0, 0, 1680, 13, 0x512bd1311072231, 0x8ca59966ceab36);
+    record(
+        16,
+        7,
+        8,
+        110,
+        1680,
+        24,
+        0xae66267594c9c950,
+        0xffed92288bc781,
+    );
+    record(
+        11,
+        11,
+        7,
+        102,
+        1680,
+        13,
+        0x74bf589bc79e23da,
+        0x1405f609b751151,
+    );
+}
+
+// The largest tree, and the largest corrections and opening.
+fn large_records() {
+    record(
+        10,
+        12,
+        8,
+        112,
+        128,
+        29,
+        0xfc377c61075dce9e,
+        0x5190fe277a4c28,
+    );
+    record(
+        32,
+        4,
+        0,
+        512,
+        65536,
+        14,
+        0x2459e7a10bf638dc,
+        0x10293db768cfe45a,
+    );
+}
+
+// Refused before there is a record.
+fn refused() {
+    record(2, 2, 122, 4, 8, 13, 0, 0);
+    record(2, 2, 124, 4, 12, 13, 0, 0);
+    record(2, 2, 124, 4, 8, 13, 0x10, 0);
+    record(2, 2, 124, 3, 8, 13, 0xc, 0);
+}
+
+// Edits of records that are accepted, and of one with 5; no slot is unused in the last.
+fn edited_records() {
+    pairs(2, 2, 124, 4, 8, 13, 0, 0);
+    pairs(2, 2, 124, 3, 8, 13, 0xc, 0);
+    pairs(1, 1, 127, 1, 8, 13, 1, 0);
+}
+
+fn main() {
+    small_records();
+    named_sets();
+    large_records();
+    refused();
+    edited_records();
+    prefixes(1, 1, 127, 1, 8, 13, 0, 0);
+    prefixes(2, 2, 124, 4, 8, 13, 0, 0);
+    flips(1, 1, 127, 1, 8, 13, 0, 0);
+    flips(2, 2, 124, 4, 8, 13, 0xc, 0);
+    flips(2, 1, 125, 4, 8, 24, 2, 0);
+}

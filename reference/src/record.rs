@@ -1,0 +1,181 @@
+//! The signing record of document 02, E6: its reader, its writer, and the check
+//! that a broker makes of it.
+
+use crate::calls::{reconstruct, Answer, Refusal};
+use crate::shape::{row_bytes, Shape};
+use crate::Digest;
+
+/// The one version byte.
+pub const VERSION: u8 = 1;
+
+/// The bytes of the first field: τ, k, w in one byte each, T in two, the row
+/// length in four.
+const HEAD: usize = 9;
+
+/// What a record says: the numbers of its first field, and its other fields,
+/// which are parts of the record.
+#[derive(Clone, Copy, Debug, PartialEq, Eq)]
+pub struct Record<'a> {
+    pub shape: Shape,
+    pub row_bits: usize,
+    pub iv: &'a [u8],
+    pub challenge: &'a [u8],
+    pub corrections: &'a [u8],
+    pub opening: &'a [u8],
+    pub commitment: &'a [u8],
+}
+
+/// The number that these bytes write, the greatest first.
+fn number(bytes: &[u8]) -> usize {
+    bytes
+        .iter()
+        .fold(0, |sum, byte| 256 * sum + usize::from(*byte))
+}
+
+/// Goes over a record: holds what is still to be read.
+struct Reader<'a> {
+    rest: &'a [u8],
+}
+
+impl<'a> Reader<'a> {
+    fn take(&mut self, n: usize) -> Option<&'a [u8]> {
+        let (taken, rest) = (self.rest.get(..n)?, self.rest.get(n..)?);
+        self.rest = rest;
+        Some(taken)
+    }
+
+    fn version(&mut self) -> Result<(), Refusal> {
+        match self.take(1) {
+            Some([VERSION]) => Ok(()),
+            _ => Err(Refusal::Version),
+        }
+    }
+
+    /// The next field, which must have this length.
+    fn field(&mut self, length: usize) -> Result<&'a [u8], Refusal> {
+        let written = self.take(4).ok_or(Refusal::Field)?;
+        if number(written) != length {
+            return Err(Refusal::Field);
+        }
+        self.take(length).ok_or(Refusal::Field)
+    }
+
+    /// Version and first field: the shape as written, the shape meant, the row
+    /// length in bits and in bytes.
+    fn front(&mut self) -> Result<(Shape, Shape, usize, usize), Refusal> {
+        self.version()?;
+        let head = self.field(HEAD)?;
+        let part = |from: usize, to: usize| number(&head[from..to]);
+        let shape = Shape::new(part(0, 1), part(1, 2), part(2, 3), part(3, 5));
+        let row_bits = part(5, 9);
+        let meant = shape.resolve().ok_or(Refusal::Shape)?;
+        let b = row_bytes(row_bits).ok_or(Refusal::RowLength)?;
+        Ok((shape, meant, row_bits, b))
+    }
+
+    fn end(&self) -> Result<(), Refusal> {
+        match self.rest {
+            [] => Ok(()),
+            _ => Err(Refusal::Field),
+        }
+    }
+}
+
+/// Reads a whole record: 9; 10 of field one, 1, 2; 10 of the rest.
+pub fn read(bytes: &[u8]) -> Result<Record<'_>, Refusal> {
+    let mut reader = Reader { rest: bytes };
+    let (shape, meant, row_bits, b) = reader.front()?;
+    let record = Record {
+        shape,
+        row_bits,
+        iv: reader.field(16)?,
+        challenge: reader.field(16)?,
+        corrections: reader.field((meant.tau - 1) * b)?,
+        opening: reader.field(meant.opening_bytes())?,
+        commitment: reader.field(32)?,
+    };
+    reader.end()?;
+    Ok(record)
+}
+
+/// The bytes of the record of a shape that is meant, with rows of b bytes.
+pub fn record_bytes(meant: &Shape, b: usize) -> usize {
+    let fields = [HEAD, 16, 16, (meant.tau - 1) * b, meant.opening_bytes(), 32];
+    1 + fields.iter().map(|length| 4 + length).sum::<usize>()
+}
+
+/// The lengths of the work buffers that a record asks for by its front: tree,
+/// leaf commitments, Q.
+pub fn work_lengths(bytes: &[u8]) -> Result<[usize; 3], Refusal> {
+    let (_, meant, _, b) = Reader { rest: bytes }.front()?;
+    Ok([meant.tree_bytes(), meant.leaf_commitments_bytes(), 128 * b])
+}
+
+/// Check: reads the record, reconstructs from its fields with the lent work
+/// buffers and compares the commitment. With 11 the buffers stay as reconstruct
+/// wrote them.
+pub fn check_record(
+    bytes: &[u8],
+    tree: &mut [u8],
+    leaf_commitments: &mut [u8],
+    q: &mut [u8],
+) -> Answer {
+    let record = match read(bytes) {
+        Ok(record) => record,
+        Err(refusal) => return Answer::refused(refusal, 0),
+    };
+    let mut commitment = Digest::default();
+    let answer = reconstruct(
+        record.shape,
+        record.row_bits,
+        record.iv,
+        record.challenge,
+        record.corrections,
+        record.opening,
+        &mut commitment,
+        tree,
+        leaf_commitments,
+        q,
+    );
+    if answer.number == 0 && commitment != *record.commitment {
+        return Answer::refused(Refusal::Commitment, answer.count as usize);
+    }
+    answer
+}
+
+/// Write: checks 1, 2, 3. The shape is written as it is given, zeros too.
+pub fn write_record(record: &Record, out: &mut [u8]) -> Answer {
+    let Some(meant) = record.shape.resolve() else {
+        return Answer::refused(Refusal::Shape, 0);
+    };
+    let Some(b) = row_bytes(record.row_bits) else {
+        return Answer::refused(Refusal::RowLength, 0);
+    };
+    if record.iv.len() != 16
+        || record.challenge.len() != 16
+        || record.corrections.len() != (meant.tau - 1) * b
+        || record.opening.len() != meant.opening_bytes()
+        || record.commitment.len() != 32
+        || out.len() != record_bytes(&meant, b)
+    {
+        return Answer::refused(Refusal::Buffer, 0);
+    }
+    let Shape { tau, k, w, t } = record.shape;
+    let mut head = vec![tau as u8, k as u8, w as u8];
+    head.extend((t as u16).to_be_bytes());
+    head.extend((record.row_bits as u32).to_be_bytes());
+    let mut bytes = vec![VERSION];
+    for field in [
+        &head,
+        record.iv,
+        record.challenge,
+        record.corrections,
+        record.opening,
+        record.commitment,
+    ] {
+        bytes.extend((field.len() as u32).to_be_bytes());
+        bytes.extend(field);
+    }
+    out.copy_from_slice(&bytes);
+    Answer::done(0)
+}

@@ -1,0 +1,178 @@
+//! The commands on records: what was committed and opened is written as a
+//! record, and the record, or what is made of it, is checked.
+
+use std::io::Read;
+
+use crate::calls::Answer;
+use crate::cli::{answer_lines, buffer_line, Arguments, Outcome, Rows, Run, PATTERN};
+use crate::record::{check_record, record_bytes, work_lengths, write_record, Record};
+use crate::shape::{row_bytes, Shape};
+
+/// The work buffers of the check, with the pattern in each byte.
+#[derive(Clone)]
+struct Work {
+    tree: Vec<u8>,
+    leaf_commitments: Vec<u8>,
+    q: Vec<u8>,
+}
+
+impl Work {
+    fn new([tree, leaf_commitments, q]: [usize; 3]) -> Work {
+        Work {
+            tree: vec![PATTERN; tree],
+            leaf_commitments: vec![PATTERN; leaf_commitments],
+            q: vec![PATTERN; q],
+        }
+    }
+
+    fn check(&mut self, record: &[u8]) -> Answer {
+        let (tree, coms) = (&mut self.tree, &mut self.leaf_commitments);
+        check_record(record, tree, coms, &mut self.q)
+    }
+
+    fn kept(&self) -> bool {
+        let bytes = self.tree.iter().chain(&self.leaf_commitments);
+        bytes.chain(&self.q).all(|byte| *byte == PATTERN)
+    }
+
+    fn lines(&self) -> String {
+        buffer_line("tree", &self.tree)
+            + &buffer_line("leaf_commitments", &self.leaf_commitments)
+            + &buffer_line("q", &self.q)
+    }
+}
+
+/// The check of a record in a few characters: its number, a slash, its count,
+/// and a plus where a byte of a work buffer was written, otherwise a minus.
+fn verdict(record: &[u8], mut work: Work) -> String {
+    let answer = work.check(record);
+    let sign = if work.kept() { '-' } else { '+' };
+    format!(" {}/{}{sign}", answer.number, answer.count)
+}
+
+/// How many edits there are.
+const EDITS: usize = 12;
+
+/// One of the edits of `pairs`, each of which the check must refuse: of a byte of
+/// the record, which had so many bytes, or of the length of what is lent.
+fn edit(number: usize, long: usize, record: &mut Vec<u8>, work: &mut Work) {
+    match number {
+        // version, the first field's length, τ, the row length, the IV's length
+        0 => record[0] ^= 3,
+        1 => record[4] ^= 1,
+        2 => record[5] ^= 0x20,
+        3 => record[13] ^= 4,
+        4 => record[17] ^= 1,
+        // a byte left over
+        5 => record.push(0),
+        // the work buffers
+        6 => work.tree.truncate(work.tree.len() - 1),
+        7 => work.leaf_commitments.push(PATTERN),
+        8 => work.q.truncate(work.q.len() - 1),
+        // the last byte of challenge and opening, the first of the commitment
+        9 => record[53] ^= 0x80,
+        10 => record[long - 37] ^= 1,
+        _ => record[long - 32] ^= 1,
+    }
+}
+
+/// Every prefix of the record.
+fn prefixes(record: &[u8], work: &Work) -> String {
+    let line = |n| format!("prefix {n}{}\n", verdict(&record[..n], work.clone()));
+    (0..record.len()).map(line).collect()
+}
+
+/// Every bit of the record flipped, a line for each byte.
+fn flips(record: &[u8], work: &Work) -> String {
+    let flipped = |n: usize, bit: u8| {
+        let mut other = record.to_vec();
+        other[n] ^= 1 << bit;
+        verdict(&other, work.clone())
+    };
+    let line = |n| {
+        let verdicts: String = (0..8).map(|bit| flipped(n, bit)).collect();
+        format!("byte {n}{verdicts}\n")
+    };
+    (0..record.len()).map(line).collect()
+}
+
+/// Every edit, and every two of them.
+fn pairs(record: &[u8], work: &Work) -> String {
+    let edited = |first: usize, second: usize| {
+        let (mut record, mut work) = (record.to_vec(), work.clone());
+        let long = record.len();
+        edit(first, long, &mut record, &mut work);
+        if first != second {
+            edit(second, long, &mut record, &mut work);
+        }
+        verdict(&record, work)
+    };
+    let line = |first| {
+        let verdicts: String = (first..EDITS).map(|second| edited(first, second)).collect();
+        format!("edit {first}{verdicts}\n")
+    };
+    (0..EDITS).map(line).collect()
+}
+
+/// `record`, `prefixes`, `flips` and `pairs`. The last three check what is made
+/// of the record also where the opening was refused; it is zeros then.
+pub fn record_command(command: &str, mut rest: Arguments) -> Option<Outcome> {
+    let (shape, row_bits) = (rest.shape()?, rest.number()?);
+    let (root, iv, challenge) = (rest.bytes()?, rest.bytes()?, rest.bytes()?);
+    rest.end()?;
+
+    let rows = Rows::whole(row_bits);
+    let mut run = Run::new(shape, rows);
+    run.commit(shape, rows, &root, &iv);
+    run.open(shape, &challenge);
+    let refused = run.answers.iter().find(|answer| answer.number != 0);
+    if let Some(answer) = refused.filter(|answer| command == "record" || answer.number != 5) {
+        return Some((answer_lines(*answer).into_bytes(), true));
+    }
+    let record = Record {
+        shape,
+        row_bits,
+        iv: &iv,
+        challenge: &challenge,
+        corrections: &run.corrections,
+        opening: &run.opening,
+        commitment: &run.commitment,
+    };
+    let mut bytes = vec![PATTERN; exact_length(shape, row_bits)];
+    let answer = write_record(&record, &mut bytes);
+    if answer.number != 0 {
+        return Some((answer_lines(answer).into_bytes(), true));
+    }
+    let mut work = Work::new(work_lengths(&bytes).ok()?);
+    let text = match command {
+        "prefixes" => prefixes(&bytes, &work),
+        "flips" => flips(&bytes, &work),
+        "pairs" => pairs(&bytes, &work),
+        _ => {
+            let answer = work.check(&bytes);
+            answer_lines(answer) + &buffer_line("record", &bytes) + &work.lines()
+        }
+    };
+    Some((text.into_bytes(), true))
+}
+
+/// The length of a record, 0 where there is none.
+fn exact_length(shape: Shape, row_bits: usize) -> usize {
+    let meant = shape.resolve().zip(row_bytes(row_bits));
+    meant.map_or(0, |(meant, b)| record_bytes(&meant, b))
+}
+
+/// `check`: the record on standard input, with work buffers of the lengths that
+/// it asks for.
+pub fn check_command(rest: Arguments, input: &mut impl Read) -> Option<Outcome> {
+    rest.end()?;
+    let mut record = Vec::new();
+    input.read_to_end(&mut record).ok()?;
+    let mut work = Work::new(work_lengths(&record).unwrap_or_default());
+    let answer = work.check(&record);
+    let mut text = answer_lines(answer);
+    if matches!(answer.number, 0 | 11) {
+        text += &work.lines();
+    }
+    Some((text.into_bytes(), true))
+}
