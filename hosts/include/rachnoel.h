@@ -9,7 +9,8 @@
  * - the stack has room for the call: RACHNOEL_STACK_RECONSTRUCT bytes for the two forms of reconstruct, RACHNOEL_STACK for any other.
  * The calls use no heap and keep nothing between calls; several threads may call at once, each with slices of its own.
  *
- * `indices`, `nodes` and `count` hold numbers of four bytes, least byte first: tau of them, t of them, and one. rachnoel_number reads one.
+ * `indices`, `nodes` and `count` hold numbers of four bytes, least byte first: tau of them, t of them (of the default where the four are zeros), and one.
+ * rachnoel_number reads one.
  *
  * A call returns 0, or the number of the first refusal that applies. With 0 the outputs and the count are written; with 5 and 6 the count alone; with any other number
  * nothing. A slice of another length, the count's too, is refusal 3. */

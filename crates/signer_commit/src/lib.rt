@@ -113,8 +113,8 @@ fn write_commitment(
     );
 }
 
-// COMMIT, of a stretch: the commitment to the tree of a root, with rows of row_bits bits of which u, V and the corrections have the stretch alone. What the buffers
-// held before does not matter.
+// COMMIT, of a stretch: the commitment to the tree of a root, with rows of row_bits bits of which u, V and the corrections have the stretch alone. With answer 0
+// what the buffers held before does not matter.
 pub fn commit_stretch(
     shape: Shape,
     row_bits: usize,

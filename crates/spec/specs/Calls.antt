@@ -1,7 +1,7 @@
 -- Document 01, "The five calls" and "When a call is turned down", and document 02, E1: for each call its number, its count and every buffer that it may write,
 -- after it.
 -- The record with the call's name is its contract, with P at `faest`; buffers that a call only reads are lent to it shared, and do not change.
--- The shape a caller gives is resolved here and nowhere below.
+-- The shape a caller gives is resolved in the contracts of the calls, and in nothing that they are built from.
 use Prim.Native.Nat.{ℕ, _+_, _/_, _%_}
 use mathlib.Core.Path.{_≡_}
 use mathlib.Core.Bool.{Bool, true, _&&_, _||_, cond}

@@ -1,4 +1,4 @@
--- Document 02, E4: the calls as a C host makes them. Shape and number go as numbers, lists of numbers and the count as bytes.
+-- Document 02, E4: the calls as a C host makes them. Shape, row length, stretch and the answer's number go as numbers, lists of numbers and the count as bytes.
 -- The record with the call's name is the exported call's contract, as in `Calls`; the count slice is among the lengths that 3 compares.
 use Prim.Native.Nat.{ℕ, _*_, _/_}
 use mathlib.Core.Path.{_≡_}

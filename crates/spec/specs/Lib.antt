@@ -25,7 +25,7 @@ pub mod Leaves
 pub mod Rows
 pub mod Signer
 pub mod Verifier
--- the five calls of document 01
+-- the five calls of document 01, and document 02, E1: commit and reconstruct of a stretch of the rows
 pub mod Calls
 -- document 02, E4: the calls for a C host
 pub mod HostCalls

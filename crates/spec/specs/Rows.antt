@@ -1,4 +1,4 @@
--- Document 000, sections 5.4 and 5.5.2; document 01, "Rows and matrices": the rows of a vector, its u, its columns, and the matrix of all columns. u and columns are
+-- Document 000, sections 5.4, 5.5.2 and 5.5.3; document 01, "Rows and matrices": the rows of a vector, its u, its columns, and the matrix of all columns. u and columns are
 -- those of any rows: `row i e p` is byte p of the row of entry e of vector i. b is the length of these rows in bytes.
 use Prim.Native.Nat.{ℕ, _+_, _*_, _^_}
 use mathlib.Core.List.{List, _++_}

@@ -1,5 +1,5 @@
 -- Document 01, "The shape and the tree", and document 02, E2: shapes, the numbers and widths that a shape gives, and what it makes of a challenge. Behind `resolved`, s is a
--- resolved shape. Other levels change only definitions of this file: all others use their names.
+-- resolved shape. What a level changes of FAEST's definitions stands in this file: all others use its names.
 use Prim.Native.Nat.{ℕ, _+_, _-_, _*_, _/_, _^_, min}
 use mathlib.Core.Bool.{Bool, _&&_, cond}
 use mathlib.Core.List.{List, [], _∷_}

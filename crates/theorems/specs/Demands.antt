@@ -1,5 +1,5 @@
 -- Demand 3 over the contracts of commit, open and reconstruct together, also of a stretch of the rows (document 02, E1), and what an opening may depend on (document 01, "Challenge, nodes and opening").
--- ../proofs/Demand3.antt proves both.
+-- ../proofs/Demand3.antt proves both, for every record of primitives.
 use Prim.Native.Nat.{ℕ, _-_, _*_, _/_, _≤_, _<_}
 use mathlib.Core.Path.{_≡_}
 use mathlib.Core.Bool.{true, false}

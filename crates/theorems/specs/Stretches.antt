@@ -1,4 +1,5 @@
--- Document 02, E1: a stretch equals the same bytes of the full result, for both halves, over the contracts of the calls. ../proofs/Stretches.antt proves it.
+-- Document 02, E1: a stretch equals the same bytes of the full result, for both halves, over the contracts of the calls. ../proofs/Stretches.antt proves it for every record of
+-- primitives.
 use Prim.Native.Nat.{ℕ, _+_, _-_, _*_, _/_, _<_}
 use mathlib.Core.Path.{_≡_}
 use mathlib.Core.List.{List}

@@ -57,7 +57,7 @@ fn count_nodes(s: Shape, ch: &[u8]) -> usize
     planning::revealed_nodes(s, ch, &mut nodes)
 }
 
-// RECONSTRUCT, of a stretch: the commitment, the tree without its covered nodes, the leaf commitments and the stretch of every column of Q, from an opening and
+// RECONSTRUCT, of a stretch: the commitment, the tree with zeros for its covered nodes, the leaf commitments and the stretch of every column of Q, from an opening and
 // corrections that have the stretch alone. Every test comes before the first write.
 pub fn reconstruct_stretch(
     shape: Shape,

@@ -378,10 +378,7 @@ fn the_lengths_of_a_stretch_are_not_those_of_the_rows() {
 
 #[test]
 fn stretches_that_are_refused() {
-    let refused = Answer {
-        number: 8,
-        count: 0,
-    };
+    let refused = |number: u32| Answer { number, count: 0 };
     for call in &CALLS[5..] {
         let (lent, _) = lent_with(call, &[]);
         for (first, width) in [
@@ -406,9 +403,14 @@ fn stretches_that_are_refused() {
             (1 << 32, 1),
             (1, (1 << 32) + 1),
         ] {
+            let what = format!("{first} {width}");
             let mut other = lent.clone();
             other.stretch = Stretch::new(first, width);
-            expect(call, &other, refused, &format!("{first} {width}"));
+            expect(call, &other, refused(8), &what);
+            other.row_bits = 12;
+            expect(call, &other, refused(2), &what);
+            other.shape.k = 3;
+            expect(call, &other, refused(1), &what);
         }
     }
 }
