@@ -4,13 +4,13 @@ ghost use mathlib.Core.Bool.{Bool, true};
 ghost use Prim.Native.Nat.{ℕ, _+_, _-_, _*_, _<_, _≤_};
 ghost use lib.ListN.{length, getD};
 ghost use Rattle.spec.specs.Tree.{covered};
-ghost use Rattle.spec.specs.Shapes.{shapeOk, leaves, hiddenLeaf, hiddenLeaves};
+ghost use Rattle.spec.specs.Shapes.{challengeBytes, shapeOk, leaves, hiddenLeaf, hiddenLeaves};
 ghost use Rattle.cover.specs.Cover.{Marks, ByChildren, oneOf};
 use spec::Shape;
 
 // Marks the hidden leaves in a map of zeros.
 fn mark_leaves(s: Shape, ch: &[u8], map: &mut [u8])
-    requires { ⌜ (shapeOk s ≡ true) × (length (now ch) ≡ 16) × (2 * leaves s ≤ length (now map) + 1) × ((x : ℕ) → getD (now map) x 0 ≡ 0) ⌝ }
+    requires { ⌜ (shapeOk s ≡ true) × (length (now ch) ≡ challengeBytes s) × (2 * leaves s ≤ length (now map) + 1) × ((x : ℕ) → getD (now map) x 0 ≡ 0) ⌝ }
     ensures { λ r. ⌜ Marks (oneOf (s .tau) (hiddenLeaf s (now (ch .entry)))) 0 (length (now (map .entry))) (now (map .exit)) ⌝ }
 {
     let tau = s.tau;
@@ -36,7 +36,7 @@ fn mark_parents(map: &mut [u8], inner: usize)
 
 // Marks the covered nodes in a map of zeros, a byte for each node.
 pub fn mark_covered(s: Shape, ch: &[u8], map: &mut [u8])
-    requires { ⌜ (shapeOk s ≡ true) × (length (now ch) ≡ 16) × (length (now map) + 1 ≡ 2 * leaves s) × ((x : ℕ) → getD (now map) x 0 ≡ 0) ⌝ }
+    requires { ⌜ (shapeOk s ≡ true) × (length (now ch) ≡ challengeBytes s) × (length (now map) + 1 ≡ 2 * leaves s) × ((x : ℕ) → getD (now map) x 0 ≡ 0) ⌝ }
     ensures { λ r. ⌜ Marks (covered (hiddenLeaves s (now (ch .entry)))) 0 (2 * leaves s - 1) (now (map .exit)) ⌝ }
 {
     mark_leaves(s, ch, map);
