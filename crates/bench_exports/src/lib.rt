@@ -17,7 +17,8 @@ ghost use Rattle.spec.specs.Shapes.{leaves};
 ghost use Rattle.spec.specs.Primitives.{faest};
 ghost use Rattle.spec.specs.Signer.{signerTree};
 ghost use Rattle.spec.specs.Calls.{Plan};
-ghost use Rattle.field.specs.Field.{Multiples, p384};
+ghost use Rattle.field_limbs.specs.Multiples.{Multiples};
+ghost use Rattle.field_384.specs.Field.{p384};
 ghost use Rattle.columns.specs.Columns.{Xored};
 use spec::Answer;
 use spec::Shape;
@@ -86,7 +87,7 @@ pub extern "C" fn rattle_h1(message: &[u8], out: &mut [u8])
 pub extern "C" fn rattle_multiples(key: &[u8; 48], m: &mut [[u64; 6]; 16])
     ensures { λ _. ⌜ Multiples 384 p384 (number 8 (now (key .entry))) (now (m .exit)) ⌝ }
 {
-    let r = field::multiples(key);
+    let r = field_384::multiples(key);
     *m = r;
 }
 
@@ -94,7 +95,7 @@ pub extern "C" fn rattle_multiples(key: &[u8; 48], m: &mut [[u64; 6]; 16])
 pub extern "C" fn rattle_leaf_hash(m: &[[u64; 6]; 16], stretched: &[u8; 64], out: &mut [u8; 48])
     ensures { λ _. ⌜ ((u : List ℕ) → Multiples 384 p384 (number 8 u) (now (m .entry)) → now (out .exit) ≡ tabulate 48 (leafHashByte 384 p384 u (take 16 (now (stretched .entry))) (drop 16 (now (stretched .entry))))) ⌝ }
 {
-    field::leaf_hash(m, stretched, out);
+    field_384::leaf_hash(m, stretched, out);
 }
 
 // The tree of a root, for l leaves.

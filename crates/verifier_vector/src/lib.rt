@@ -14,7 +14,8 @@ ghost use Rattle.spec.specs.Primitives.{faest};
 ghost use Rattle.spec.specs.Leaves.{hashKey, leafKey, leafCommitment};
 ghost use Rattle.spec.specs.Rows.{stretchByte, columnByte};
 ghost use Rattle.spec.specs.Verifier.{hiddenLeafCommitment};
-ghost use Rattle.field.specs.Field.{p384, Multiples};
+ghost use Rattle.field_limbs.specs.Multiples.{Multiples};
+ghost use Rattle.field_384.specs.Field.{p384};
 ghost use Rattle.verifier_vector.specs.Vector.{given, Converted};
 use spec::Shape;
 use spec::Stretch;
@@ -80,7 +81,7 @@ pub fn convert(
     ensures { λ _. ⌜ ((ch opening : List ℕ) → d ≡ hiddenIndex s ch i → now (hidden .entry) ≡ hiddenLeafCommitment s opening i
         → Converted s z iv ch opening (now (tree .entry)) i (now (lcs .exit)) (now (cols .exit)) (now (hash .exit))) ⌝ }
 {
-    let m = field::multiples(&keys[48 * i..48 * i + 48]);
+    let m = field_384::multiples(&keys[48 * i..48 * i + 48]);
     add_visible(t, &m, s, i, d, z, iv, tree, hidden, lcs, cols);
     hash_vector(lcs, d, hidden, hash);
 }

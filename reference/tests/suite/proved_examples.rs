@@ -1,9 +1,10 @@
 //! The examples of the primitives and of a challenge's indices that are proved of
-//! the definitions, in `crates/standards/proofs` and `crates/spec/proofs`: the same
-//! inputs, derived here.
+//! the definitions, in `crates/standards/proofs`, `crates/spec/proofs` and
+//! `crates/field_576/proofs` and `crates/field_768/proofs`: the same inputs, derived
+//! here.
 
 use reference::shake::shake128;
-use reference::{bavc, prg, shape};
+use reference::{bavc, field, prg, shape};
 
 /// The numbers of a list as a file of `crates` writes it, `1 ∷ 2 ∷ []`, after `mark`.
 fn numbers(file: &str, mark: &str) -> Vec<usize> {
@@ -75,6 +76,18 @@ fn leaf_hash() {
         &proved("\nx₁ ="),
     );
     assert_eq!(hashed[..], proved("u x₀ x₁\n    ≡ number 8\n    "));
+}
+
+fn check_wide_leaf_hash<const N: usize>() {
+    let listed = |mark: &str| bytes(&format!("field_{}/proofs/KnownAnswers.antt", 64 * N), mark);
+    let hashed = field::leaf_hash::<N>(&listed("\nu ="), &listed("\nx₀ ="), &listed("\nx₁ ="));
+    assert_eq!(hashed, listed("u x₀ x₁\n    ≡ number 8\n    "));
+}
+
+#[test]
+fn leaf_hashes_of_576_and_768_bits() {
+    check_wide_leaf_hash::<9>();
+    check_wide_leaf_hash::<12>();
 }
 
 #[test]
