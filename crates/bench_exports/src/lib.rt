@@ -17,7 +17,8 @@ ghost use Rattle.spec.specs.Shapes.{leaves};
 ghost use Rattle.spec.specs.Primitives.{faest};
 ghost use Rattle.spec.specs.Signer.{signerTree};
 ghost use Rattle.spec.specs.Calls.{Plan};
-ghost use Rattle.field.specs.Field.{Multiples, p384};
+ghost use Rattle.field_limbs.specs.Multiples.{Multiples};
+ghost use Rattle.field_384.specs.Field.{p384};
 ghost use Rattle.columns.specs.Columns.{Xored};
 use spec::Answer;
 use spec::Shape;
@@ -72,21 +73,21 @@ pub extern "C" fn rattle_keccak(a: &mut [u64; 25])
 pub extern "C" fn rattle_h0(iv: &[u8], out: &mut [u8])
     ensures { λ _. ⌜ now (out .exit) ≡ hash0 168 (now (iv .entry)) (length (now (out .entry))) ⌝ }
 {
-    shake::h0(iv, out);
+    shake::h0(168, iv, out);
 }
 
 #[no_mangle]
 pub extern "C" fn rattle_h1(message: &[u8], out: &mut [u8])
     ensures { λ _. ⌜ now (out .exit) ≡ hash1 168 (now (message .entry)) (length (now (out .entry))) ⌝ }
 {
-    shake::h1(message, out);
+    shake::h1(168, message, out);
 }
 
 #[no_mangle]
 pub extern "C" fn rattle_multiples(key: &[u8; 48], m: &mut [[u64; 6]; 16])
     ensures { λ _. ⌜ Multiples 384 p384 (number 8 (now (key .entry))) (now (m .exit)) ⌝ }
 {
-    let r = field::multiples(key);
+    let r = field_384::multiples(key);
     *m = r;
 }
 
@@ -94,7 +95,7 @@ pub extern "C" fn rattle_multiples(key: &[u8; 48], m: &mut [[u64; 6]; 16])
 pub extern "C" fn rattle_leaf_hash(m: &[[u64; 6]; 16], stretched: &[u8; 64], out: &mut [u8; 48])
     ensures { λ _. ⌜ ((u : List ℕ) → Multiples 384 p384 (number 8 u) (now (m .entry)) → now (out .exit) ≡ tabulate 48 (leafHashByte 384 p384 u (take 16 (now (stretched .entry))) (drop 16 (now (stretched .entry))))) ⌝ }
 {
-    field::leaf_hash(m, stretched, out);
+    field_384::leaf_hash(m, stretched, out);
 }
 
 // The tree of a root, for l leaves.

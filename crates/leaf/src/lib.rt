@@ -8,7 +8,8 @@ ghost use Rattle.spec.specs.Gf256.{SboxTable};
 ghost use Rattle.spec.specs.Shapes.{leaves};
 ghost use Rattle.spec.specs.Primitives.{faest};
 ghost use Rattle.spec.specs.Leaves.{hashKey, leafSeed, leafCommitment};
-ghost use Rattle.field.specs.Field.{p384, Multiples};
+ghost use Rattle.field_limbs.specs.Multiples.{Multiples};
+ghost use Rattle.field_384.specs.Field.{p384};
 
 // The tweak of the leaves of vector i, in a tree of n leaves.
 pub fn leaf_tweak(i: usize, n: usize) -> u32
@@ -34,6 +35,6 @@ pub fn commit_leaf(
 {
     let mut stretched = [0u8; 64];
     generator::fill(t, key, iv, tweak, 0, &mut stretched);
-    field::leaf_hash(m, &stretched, out);
+    field_384::leaf_hash(m, &stretched, out);
     generator::load_iv(&stretched[..16])
 }

@@ -34,9 +34,9 @@ fn convert(
     requires { ⌜ (length (now lcs) ≡ 48 * entriesOf s i) × (length (now total) ≡ z .width) × (length (now cols) ≡ z .width * depthOf s i) × (length (now hash) ≡ 32) ⌝ }
     ensures { λ _. ⌜ Converted s z iv (now (tree .entry)) i (now (total .entry)) (now (total .exit)) (now (lcs .exit)) (now (cols .exit)) (now (hash .exit)) ⌝ }
 {
-    let m = field::multiples(&keys[48 * i..48 * i + 48]);
+    let m = field_384::multiples(&keys[48 * i..48 * i + 48]);
     vector::add_entries(t, &m, s, i, 0, 0, z, iv, tree, lcs, total, cols);
-    shake::h1(lcs, hash);
+    shake::h1(168, lcs, hash);
 }
 
 // Vector i, whose rows make u, in the parts at the front of the buffers.

@@ -12,7 +12,8 @@ ghost use Rattle.spec.specs.Shapes.{shapeOk, depthOf, entriesOf, firstBit, firs
 ghost use Rattle.spec.specs.Primitives.{faest};
 ghost use Rattle.spec.specs.Leaves.{hashKey, leafKey, leafCommitment};
 ghost use Rattle.spec.specs.Rows.{stretchByte, uByte, columnByte};
-ghost use Rattle.field.specs.Field.{p384, Multiples};
+ghost use Rattle.field_limbs.specs.Multiples.{Multiples};
+ghost use Rattle.field_384.specs.Field.{p384};
 ghost use Rattle.columns.specs.Columns.{Xored, Added, Running};
 ghost use Rattle.vector.specs.Entries.{Written};
 use spec::Shape;

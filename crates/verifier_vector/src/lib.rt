@@ -14,7 +14,8 @@ ghost use Rattle.spec.specs.Primitives.{faest};
 ghost use Rattle.spec.specs.Leaves.{hashKey, leafKey, leafCommitment};
 ghost use Rattle.spec.specs.Rows.{stretchByte, columnByte};
 ghost use Rattle.spec.specs.Verifier.{hiddenLeafCommitment};
-ghost use Rattle.field.specs.Field.{p384, Multiples};
+ghost use Rattle.field_limbs.specs.Multiples.{Multiples};
+ghost use Rattle.field_384.specs.Field.{p384};
 ghost use Rattle.verifier_vector.specs.Vector.{given, Converted};
 use spec::Shape;
 use spec::Stretch;
@@ -24,11 +25,11 @@ fn hash_vector(lcs: &[u8], d: usize, hidden: &[u8], hash: &mut [u8])
     requires { ⌜ 48 * d + 48 ≤ length (now lcs) ⌝ }
     ensures { λ _. ⌜ now (hash .exit) ≡ hash1 168 (take (48 * d) (now (lcs .entry)) ++ (now (hidden .entry) ++ drop (48 * d + 48) (now (lcs .entry)))) (length (now (hash .entry))) ⌝ }
 {
-    let s = shake::h1_start();
-    let t = shake::h1_absorb(s, &lcs[0..48 * d]);
-    let u = shake::h1_absorb(t, hidden);
-    let v = shake::h1_absorb(u, &lcs[48 * d + 48..]);
-    shake::h1_finish(v, hash);
+    let s = shake::new();
+    let t = shake::absorb(s, 168, &lcs[0..48 * d]);
+    let u = shake::absorb(t, 168, hidden);
+    let v = shake::absorb(u, 168, &lcs[48 * d + 48..]);
+    shake::h1_finish(v, 168, hash);
 }
 
 // The entries of vector i: writes their leaf commitments, that of entry d as lent, and the columns of the rows of the others, each under its own number xored
@@ -80,7 +81,7 @@ pub fn convert(
     ensures { λ _. ⌜ ((ch opening : List ℕ) → d ≡ hiddenIndex s ch i → now (hidden .entry) ≡ hiddenLeafCommitment s opening i
         → Converted s z iv ch opening (now (tree .entry)) i (now (lcs .exit)) (now (cols .exit)) (now (hash .exit))) ⌝ }
 {
-    let m = field::multiples(&keys[48 * i..48 * i + 48]);
+    let m = field_384::multiples(&keys[48 * i..48 * i + 48]);
     add_visible(t, &m, s, i, d, z, iv, tree, hidden, lcs, cols);
     hash_vector(lcs, d, hidden, hash);
 }

@@ -13,7 +13,7 @@ use Rattle.spec.specs.Generator.{generatorByte}
 use Rattle.spec.specs.LeafHash.{leafHashByte}
 use Rattle.spec.specs.Primitives.{faest, prg}
 use Rattle.spec.specs.Leaves.{hashKey, stretched, leafSeed, leafCommitment}
-use Rattle.field.specs.Field.{p384}
+use Rattle.field_384.specs.Field.{p384}
 use Rattle.leaf.proofs.commit_leaf.Statement.{statement}
 use Rattle.leaf.proofs.commit_leaf.Tie as tie
 

@@ -10,7 +10,8 @@ use Rattle.spec.specs.declared.Shape.{Shape}
 use Rattle.spec.specs.Bytes.{number}
 use Rattle.spec.specs.Shapes.{depthOf, entriesOf}
 use Rattle.planning_laws.proofs.ShapeFacts.{shape-facts}
-use Rattle.field.specs.Field.{p384, Multiples}
+use Rattle.field_limbs.specs.Multiples.{Multiples}
+use Rattle.field_384.specs.Field.{p384}
 use Rattle.vector.proofs.HashKeys.{keys-length, key-of}
 use Rattle.signer_vectors.proofs.Steps.{converted}
 use Rattle.signer_vectors.proofs.convert.Statement.{statement}

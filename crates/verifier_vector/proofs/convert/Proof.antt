@@ -16,7 +16,8 @@ use Rattle.spec.specs.Rows.{stretchByte, columnByte}
 use Rattle.spec.specs.Verifier.{verifierLeafCommitment}
 use Rattle.laws.proofs.Lists.{length-tabulate}
 use Rattle.planning_laws.proofs.ShapeFacts.{shape-facts}
-use Rattle.field.specs.Field.{p384, Multiples}
+use Rattle.field_limbs.specs.Multiples.{Multiples}
+use Rattle.field_384.specs.Field.{p384}
 use Rattle.vector.proofs.HashKeys.{h0-length}
 use Rattle.verifier_vector.specs.Vector.{given}
 use Rattle.verifier_vector.proofs.Hidden.{hashed-whole}
