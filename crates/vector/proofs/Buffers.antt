@@ -90,7 +90,7 @@ module _ (s : Shape) (ok : shapeOk s ≡ true) where
   all-commitments = ap (λ (n : ℕ). 48 * n) (shape-laws s ok .entry-all)
 
   pub all-columns : (b : ℕ) → b * firstBit s (s .tau) + b * s .w ≡ matrixBytes s b
-  unfolding level matrixBytes
+  unfolding matrixBytes
   all-columns b = sym (mul-add b (firstBit s (s .tau)) (s .w)) ∙ ap (λ (n : ℕ). b * n) (bit-all s (shape-facts s ok))
 
   -- each ends within its buffer: w is where, d the buffer's length
