@@ -13,7 +13,7 @@ returns : tie.Need-returns
 returns c =
     let g = c .before .before .args in
     let p = c .before .before .pre in
-    sym (after-none (g .nodes .now) (g .x) (p .0) (sym (p .1) ∙ c .if1 .taken))
+    sym (after-none (g .nodes .now) (g .x) (p .0) (omega arith))
 
 mul-wide : tie.Need-mul-wide
 mul-wide c = (let g = c .before .before .args in let m = after-most (g .nodes .now) (g .x) in omega arith)

@@ -41,6 +41,12 @@ sub-next c =
     let r = other-read (g .nodes .now) (g .slots .now) (g .n) (g .p .read) (g .c) (sym (c .before .is-next .ensures) ∙ c .if1 .left) in
     omega arith
 
+mul-slot : tie.Need-mul-copy-part
+mul-slot c =
+    let g = c .before .before .before .before .before .args in
+    let r = other-read (g .nodes .now) (g .slots .now) (g .n) (g .p .read) (g .c) (sym (c .before .is-next .ensures) ∙ c .if1 .left) in
+    omega arith
+
 copy-part-requires : tie.Need-copy-part-requires
 copy-part-requires c κs =
     let g = c .before .before .before .before .before .before .args in
@@ -77,7 +83,7 @@ write-child-spec =
     returns
     add-next
     sub-next
-    (λ c. search needs)
+    mul-slot
     (λ c. search needs)
     copy-part-requires
     (λ c. search needs)
