@@ -3,7 +3,7 @@ ghost use mathlib.Core.Path.{_≡_};
 ghost use mathlib.Core.Bool.{true};
 ghost use Prim.Native.Nat.{_+_, _*_, _≤_};
 ghost use lib.ListN.{length};
-ghost use Rattle.spec.specs.Shapes.{challengeBytes, shapeOk, plannedCount, treeBytes, leafCommitmentsBytes, openingBytes, matrixBytes, correctionsBytes};
+ghost use Rattle.spec.specs.Shapes.{challengeBytes, hashBytes, ivBytes, shapeOk, plannedCount, treeBytes, leafCommitmentsBytes, openingBytes, matrixBytes, correctionsBytes};
 ghost use Rattle.spec.specs.Primitives.{faest};
 ghost use Rattle.spec.specs.Calls.{Reconstructed, reconstructed};
 use spec::Shape;
@@ -26,8 +26,8 @@ fn write_all(
     q: &mut [u8],
 )
     requires { ⌜ (shapeOk s ≡ true) × (z .first + z .width ≤ 8192) × (n ≡ plannedCount s (now ch)) × (n ≤ s .t) × (length (now keys) ≡ 48 * s .tau) × (length (now hashes) ≡ 32 * s .tau) ⌝ }
-    requires { ⌜ (length (now iv) ≡ 16) × (length (now ch) ≡ challengeBytes s) × (length (now corrections) ≡ correctionsBytes s (z .width)) × (length (now opening) ≡ openingBytes s) ⌝ }
-    requires { ⌜ (length (now commitment) ≡ 32) × (length (now tree) ≡ treeBytes s) × (length (now lcs) ≡ leafCommitmentsBytes s) × (length (now q) ≡ matrixBytes s (z .width)) ⌝ }
+    requires { ⌜ (length (now iv) ≡ ivBytes) × (length (now ch) ≡ challengeBytes s) × (length (now corrections) ≡ correctionsBytes s (z .width)) × (length (now opening) ≡ openingBytes s) ⌝ }
+    requires { ⌜ (length (now commitment) ≡ hashBytes s) × (length (now tree) ≡ treeBytes s) × (length (now lcs) ≡ leafCommitmentsBytes s) × (length (now q) ≡ matrixBytes s (z .width)) ⌝ }
     ensures { λ _. ⌜ _≡_ {A = Reconstructed} (record { commitment = now (commitment .exit); tree = now (tree .exit); leafCommitments = now (lcs .exit); q = now (q .exit) })
         (reconstructed faest s z (now (iv .entry)) (now (ch .entry)) (now (corrections .entry)) (now (opening .entry))) ⌝ }
 {
@@ -67,8 +67,8 @@ pub fn write_reconstruction(
     q: &mut [u8],
 )
     requires { ⌜ (shapeOk s ≡ true) × (z .first + z .width ≤ 8192) × (n ≡ plannedCount s (now ch)) × (n ≤ s .t) ⌝ }
-    requires { ⌜ (length (now iv) ≡ 16) × (length (now ch) ≡ challengeBytes s) × (length (now corrections) ≡ correctionsBytes s (z .width)) × (length (now opening) ≡ openingBytes s) ⌝ }
-    requires { ⌜ (length (now commitment) ≡ 32) × (length (now tree) ≡ treeBytes s) × (length (now lcs) ≡ leafCommitmentsBytes s) × (length (now q) ≡ matrixBytes s (z .width)) ⌝ }
+    requires { ⌜ (length (now iv) ≡ ivBytes) × (length (now ch) ≡ challengeBytes s) × (length (now corrections) ≡ correctionsBytes s (z .width)) × (length (now opening) ≡ openingBytes s) ⌝ }
+    requires { ⌜ (length (now commitment) ≡ hashBytes s) × (length (now tree) ≡ treeBytes s) × (length (now lcs) ≡ leafCommitmentsBytes s) × (length (now q) ≡ matrixBytes s (z .width)) ⌝ }
     ensures { λ _. ⌜ _≡_ {A = Reconstructed} (record { commitment = now (commitment .exit); tree = now (tree .exit); leafCommitments = now (lcs .exit); q = now (q .exit) })
         (reconstructed faest s z (now (iv .entry)) (now (ch .entry)) (now (corrections .entry)) (now (opening .entry))) ⌝ }
 {

@@ -100,7 +100,7 @@ slots-clear-requires c κs =
     let st = ft .before .before in
     let ro = st .before .before in
     let sh = ro .before .before in
-    let g = c .before .before .before .before .before .before .before .before .before .before .before .before .before .before .before .before .before .before .before .before .before .before .before .args in
+    let g = c .before .before .before .before .before .before .before .before .before .before .before .before .before .before .before .before .before .before .before .before .before .before .args in
     let q =
     fits-sized
     (Lengths (sh .before .resolve .result) _ (g .iv .now) (g .challenge .now) (g .corrections .now) (g .opening .now)
@@ -111,43 +111,43 @@ slots-clear-requires c κs =
 
 returns-7 : tie.Need-returns-7
 returns-7 c =
-    let cn = c .before .before .before .before .before .before in
+    let cn = c .before .before .before .before .before in
     let gr = cn .before .before in
     let ft = gr .before .before in
     let st = ft .before .before in
     let ro = st .before .before in
     let sh = ro .before .before in
-    reconstruct-6 _ _ (sh .before .resolve .ensures) _ _ _ _ _ _ _ _ (cn .count-nodes .result) (passed (sh .is-shape .ensures) (ro .before .if1 .left)) (passed (ro .is-row-length .ensures) (st .before .if2 .left)) (passed (st .is-stretch .ensures) (ft .before .if3 .left)) (passed (ft .reconstruct-lengths .ensures) (gr .before .if4 .left)) (passed (gr .grinding-ok .ensures) (cn .before .if5 .left)) (cn .count-nodes .ensures) (let h = c .before .before .before .before .if6 .left in omega arith)
+    reconstruct-6 _ _ (sh .before .resolve .ensures) _ _ _ _ _ _ _ _ (cn .count-nodes .result) (passed (sh .is-shape .ensures) (ro .before .if1 .left)) (passed (ro .is-row-length .ensures) (st .before .if2 .left)) (passed (st .is-stretch .ensures) (ft .before .if3 .left)) (passed (ft .reconstruct-lengths .ensures) (gr .before .if4 .left)) (passed (gr .grinding-ok .ensures) (cn .before .if5 .left)) (cn .count-nodes .ensures) (let h = c .before .before .before .if6 .left in omega arith)
     (failed (c .before .before .slots-clear .ensures) (c .before .if7 .taken)) (c .answer7 .ensures)
 
 write-reconstruction-requires : tie.Need-write-reconstruction-requires
 write-reconstruction-requires c κs =
-    let cn = c .before .before .before .before .before .before .before .before .before in
+    let cn = c .before .before .before .before .before .before .before .before in
     let gr = cn .before .before in
     let ft = gr .before .before in
     let st = ft .before .before in
     let ro = st .before .before in
     let sh = ro .before .before in
-    let g = c .before .before .before .before .before .before .before .before .before .before .before .before .before .before .before .before .before .before .before .before .before .before .before .before .before .before .before .before .before .args in
+    let g = c .before .before .before .before .before .before .before .before .before .before .before .before .before .before .before .before .before .before .before .before .before .before .before .before .before .before .before .before .args in
     let q =
     fits-sized
     (Lengths (sh .before .resolve .result) _ (g .iv .now) (g .challenge .now) (g .corrections .now) (g .opening .now)
     (record { commitment = g .commitment .now; tree = g .tree .now; leafCommitments = g .leaf-commitments .now; q = g .q .now }))
     (passed (ft .reconstruct-lengths .ensures) (gr .before .if4 .left)) in
-    let within = c .before .before .before .before .before .before .before .if6 .left in (
+    let within = c .before .before .before .before .before .before .if6 .left in (
       ((passed (sh .is-shape .ensures) (ro .before .if1 .left)), stretch-max (g .row-bits) (g .stretch) (passed (ro .is-row-length .ensures) (st .before .if2 .left)) (passed (st .is-stretch .ensures) (ft .before .if3 .left)), cn .count-nodes .ensures, omega arith),
       ((q .0, q .1 .0, q .1 .1 .0, q .1 .1 .1 .0), (q .1 .1 .1 .1 .0, q .1 .1 .1 .1 .1 .0, q .1 .1 .1 .1 .1 .1 .0, q .1 .1 .1 .1 .1 .1 .1 .0)),
     )
 
 returns-8 : tie.Need-returns-8
 returns-8 c =
-    let cn = c .before .before .before .before .before .before .before .before .before .before .before .before .before .before .before .before .before .before .before in
+    let cn = c .before .before .before .before .before .before .before .before .before .before .before .before .before .before .before .before .before .before in
     let gr = cn .before .before in
     let ft = gr .before .before in
     let st = ft .before .before in
     let ro = st .before .before in
     let sh = ro .before .before in
-    reconstruct-0 _ _ (sh .before .resolve .ensures) _ _ _ _ _ _ _ _ (cn .count-nodes .result) _ (passed (sh .is-shape .ensures) (ro .before .if1 .left)) (passed (ro .is-row-length .ensures) (st .before .if2 .left)) (passed (st .is-stretch .ensures) (ft .before .if3 .left)) (passed (ft .reconstruct-lengths .ensures) (gr .before .if4 .left)) (passed (gr .grinding-ok .ensures) (cn .before .if5 .left)) (cn .count-nodes .ensures) (let h = c .before .before .before .before .before .before .before .before .before .before .before .before .before .before .before .before .before .if6 .left in omega arith)
+    reconstruct-0 _ _ (sh .before .resolve .ensures) _ _ _ _ _ _ _ _ (cn .count-nodes .result) _ (passed (sh .is-shape .ensures) (ro .before .if1 .left)) (passed (ro .is-row-length .ensures) (st .before .if2 .left)) (passed (st .is-stretch .ensures) (ft .before .if3 .left)) (passed (ft .reconstruct-lengths .ensures) (gr .before .if4 .left)) (passed (gr .grinding-ok .ensures) (cn .before .if5 .left)) (cn .count-nodes .ensures) (let h = c .before .before .before .before .before .before .before .before .before .before .before .before .before .before .before .before .if6 .left in omega arith)
     (passed (c .before .before .before .before .before .before .before .before .before .before .before .before .before .before .before .slots-clear .ensures) (c .before .before .before .before .before .before .before .before .before .before .before .before .before .before .if7 .left)) (c .before .before .before .before .before .before .before .before .before .write-reconstruction .ensures) (c .answer8 .ensures)
 
 pub reconstruct-stretch-spec : {M : Type 1} → statement M
