@@ -1,11 +1,12 @@
 // FAEST.LeafCommit of document 000, section 5.1: from the leaf of an entry its seed and its commitment.
 ghost use mathlib.Core.Path.{_≡_};
+ghost use mathlib.Core.List.{List};
 ghost use Prim.Native.Nat.{ℕ, _+_, _-_, _^_, _≤_};
 ghost use lib.ListN.{length};
 ghost use Rattle.spec.specs.Gf256.{SboxTable};
 ghost use Rattle.spec.specs.Shapes.{nodeBytes, leafCommitmentBytes, leaves};
 ghost use Rattle.spec.specs.Primitives.{faest};
-ghost use Rattle.spec.specs.Leaves.{leafSeed, leafCommitment};
+ghost use Rattle.spec.specs.Leaves.{hashKey, leafSeed, leafCommitment};
 ghost use Rattle.leaf.specs.HashKeys.{HashMultiples};
 use spec::Shape;
 
@@ -15,6 +16,14 @@ pub fn leaf_tweak(i: usize, n: usize) -> u32
     ensures { λ r. ⌜ r ≡ i + n - 1 ⌝ }
 {
     (i + n - 1) as u32
+}
+
+// The multiples of a vector's hash key.
+pub fn hash_multiples(s: Shape, key: &[u8]) -> [[u64; 6]; 16]
+    requires { ⌜ length (now key) ≡ leafCommitmentBytes s ⌝ }
+    ensures { λ r. ⌜ ((iv : List ℕ) (i : ℕ) → now (key .entry) ≡ hashKey faest s iv i → HashMultiples s iv i r) ⌝ }
+{
+    field_384::multiples(key)
 }
 
 // The seed and the commitment of the leaf `key` of vector i; m has the multiples of the vector's hash key.

@@ -2,7 +2,7 @@
 ghost use mathlib.Core.Path.{_≡_};
 ghost use mathlib.Core.Bool.{true};
 ghost use Prim.Native.Nat.{_+_, _-_, _*_, _^_, _<_, _≤_};
-ghost use Rattle.spec.specs.Shapes.{resolved, level, nodeBytes, leafCommitmentBytes, hashBytes, shapeOk, deeper, depthOf, entriesOf, firstBit, firstEntry, leaves, leafOf};
+ghost use Rattle.spec.specs.Shapes.{resolved, level, nodeBytes, leafCommitmentBytes, hashBytes, rate, shapeOk, deeper, depthOf, entriesOf, firstBit, firstEntry, leaves, leafOf};
 ghost use mathlib.Core.List.{[], _∷_};
 ghost use Rattle.spec.specs.Calls.{rowOk, stretchOk, fits};
 use spec::Answer;
@@ -174,6 +174,14 @@ pub fn hash_bytes(s: Shape) -> usize
     ensures { λ r. ⌜ (r ≡ hashBytes s) × (r ≤ 64) ⌝ }
 {
     2 * node_bytes(s)
+}
+
+// The rate of SHAKE in bytes.
+pub fn rate_bytes(s: Shape) -> usize
+    requires { ⌜ shapeOk s ≡ true ⌝ }
+    ensures { λ r. ⌜ (r ≡ rate s) × (0 < r) × (r ≤ 168) ⌝ }
+{
+    168
 }
 
 // How many vectors are deeper than the others: r, the first r.
