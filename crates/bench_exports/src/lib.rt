@@ -73,14 +73,14 @@ pub extern "C" fn rattle_keccak(a: &mut [u64; 25])
 pub extern "C" fn rattle_h0(iv: &[u8], out: &mut [u8])
     ensures { λ _. ⌜ now (out .exit) ≡ hash0 168 (now (iv .entry)) (length (now (out .entry))) ⌝ }
 {
-    shake::h0(iv, out);
+    shake::h0(168, iv, out);
 }
 
 #[no_mangle]
 pub extern "C" fn rattle_h1(message: &[u8], out: &mut [u8])
     ensures { λ _. ⌜ now (out .exit) ≡ hash1 168 (now (message .entry)) (length (now (out .entry))) ⌝ }
 {
-    shake::h1(message, out);
+    shake::h1(168, message, out);
 }
 
 #[no_mangle]

@@ -33,7 +33,7 @@ fn write_all(
 {
     let t = aes::table();
     let x = generator::load_iv(iv);
-    shake::h0(iv, keys);
+    shake::h0(168, iv, keys);
     verifier_tree::reconstruct_tree(&t, s, ch, x, n, opening, tree);
     verifier_vectors::write_vectors(
         &t,
@@ -49,7 +49,7 @@ fn write_all(
         q,
         hashes,
     );
-    shake::h1(hashes, commitment);
+    shake::h1(168, hashes, commitment);
 }
 
 // Writes what reconstruct writes, once every test has been passed.

@@ -70,10 +70,10 @@ fn write_all(
 {
     let t = aes::table();
     let x = generator::load_iv(iv);
-    shake::h0(iv, keys);
+    shake::h0(168, iv, keys);
     signer_tree::grow(&t, root, x, rules::leaf_count(s), tree);
     signer_vectors::write_vectors(&t, s, z, x, keys, tree, lcs, u, v, corrections, hashes);
-    shake::h1(hashes, commitment);
+    shake::h1(168, hashes, commitment);
 }
 
 // Writes what commit writes, once every test has been passed.

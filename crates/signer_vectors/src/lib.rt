@@ -36,7 +36,7 @@ fn convert(
 {
     let m = field_384::multiples(&keys[48 * i..48 * i + 48]);
     vector::add_entries(t, &m, s, i, 0, 0, z, iv, tree, lcs, total, cols);
-    shake::h1(lcs, hash);
+    shake::h1(168, lcs, hash);
 }
 
 // Vector i, whose rows make u, in the parts at the front of the buffers.

@@ -25,11 +25,11 @@ fn hash_vector(lcs: &[u8], d: usize, hidden: &[u8], hash: &mut [u8])
     requires { ⌜ 48 * d + 48 ≤ length (now lcs) ⌝ }
     ensures { λ _. ⌜ now (hash .exit) ≡ hash1 168 (take (48 * d) (now (lcs .entry)) ++ (now (hidden .entry) ++ drop (48 * d + 48) (now (lcs .entry)))) (length (now (hash .entry))) ⌝ }
 {
-    let s = shake::h1_start();
-    let t = shake::h1_absorb(s, &lcs[0..48 * d]);
-    let u = shake::h1_absorb(t, hidden);
-    let v = shake::h1_absorb(u, &lcs[48 * d + 48..]);
-    shake::h1_finish(v, hash);
+    let s = shake::new();
+    let t = shake::absorb(s, 168, &lcs[0..48 * d]);
+    let u = shake::absorb(t, 168, hidden);
+    let v = shake::absorb(u, 168, &lcs[48 * d + 48..]);
+    shake::h1_finish(v, 168, hash);
 }
 
 // The entries of vector i: writes their leaf commitments, that of entry d as lent, and the columns of the rows of the others, each under its own number xored

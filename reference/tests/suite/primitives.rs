@@ -1,8 +1,8 @@
-//! AES, SHAKE128, the field, the generator and the hashes.
+//! AES, SHAKE128, SHAKE256, the fields, the generator and the hashes.
 
 use reference::bavc::leaf_hash;
 use reference::prg::{h0, h1, prg};
-use reference::shake::shake128;
+use reference::shake::{shake128, shake256};
 use reference::{aes, field, Block};
 
 use crate::support::hex;
@@ -82,6 +82,43 @@ fn shake128_of_every_length_up_to_400() {
     let all: Vec<u8> = (0..=400).flat_map(|n| shake128(&pattern[..n], n)).collect();
     let expected = "d7c53b313c2092f1fb0cd0951ed5df2ccec18dc31f8612c5093cb7d772bcd71c";
     assert_eq!(shake128(&all, 32), hex(expected));
+}
+
+#[test]
+fn shake256_of_nothing() {
+    // FIPS 202 example values, message of 0 bits.
+    let expected = "46b9dd2b0ba88d13233b3feb743eeb243fcd52ea62b81b82b50c27646ed5762f";
+    assert_eq!(shake256(b"", 32), hex(expected));
+}
+
+#[test]
+fn shake256_of_1600_bits() {
+    // FIPS 202 example values, message of 1600 bits (200 bytes a3), output of
+    // 512 bytes: three blocks and a part. hashlib.shake_256 gives the same.
+    let output = shake256(&[0xa3; 200], 512);
+    assert_eq!(output.len(), 512);
+    assert_eq!(
+        output[..32],
+        hex("cd8a920ed141aa0407a22d59288652e9d9f1a7ee0c1e7c1ca699424da84a904d")
+    );
+    // Bytes 120 to 151, over the end of the first block of 136.
+    assert_eq!(
+        output[120..152],
+        hex("bd6484582a384317d7f47d750b8f5499512bb85a226c4243556e696f6bd072c5")
+    );
+    assert_eq!(
+        output[480..],
+        hex("6a1a9d7846436e4dca5728b6f760eef0ca92bf0be5615e96959d767197a0beeb")
+    );
+}
+
+#[test]
+fn shake256_of_every_length_up_to_400() {
+    // hashlib.shake_256, as above.
+    let pattern: Vec<u8> = (0..400).map(|n| (n % 251) as u8).collect();
+    let all: Vec<u8> = (0..=400).flat_map(|n| shake256(&pattern[..n], n)).collect();
+    let expected = "e9c3750307c2fb43e51042923e8edab6ef56af8bc97f5001f6924ac8ed1c67ac";
+    assert_eq!(shake256(&all, 32), hex(expected));
 }
 
 /// Two elements and their product, from Python integers: carryless product,

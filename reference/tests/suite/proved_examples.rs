@@ -1,9 +1,8 @@
 //! The examples of the primitives and of a challenge's indices that are proved of
-//! the definitions, in `crates/standards/proofs`, `crates/spec/proofs` and
-//! `crates/field_576/proofs` and `crates/field_768/proofs`: the same inputs, derived
-//! here.
+//! the definitions, in the proofs of the crates `standards`, `standards_levels`, `spec`,
+//! `field_576` and `field_768`: the same inputs, derived here.
 
-use reference::shake::shake128;
+use reference::shake::{shake128, shake256};
 use reference::{bavc, field, prg, shape};
 
 /// The numbers of a list as a file of `crates` writes it, `1 ∷ 2 ∷ []`, after `mark`.
@@ -56,6 +55,17 @@ fn shake128_around_the_ends_of_blocks() {
         let mark = format!("part (shake 168 (counting 167) 344) {at} 16\n    ≡ ");
         assert_eq!(output[at..at + 16], listed(&mark), "from byte {at} on");
     }
+}
+
+#[test]
+fn shake256_of_the_empty_message_and_of_300_bytes() {
+    let listed = |mark: &str| bytes("standards_levels/proofs/Shake256.antt", mark);
+    assert_eq!(shake256(&[], 32), listed("shake 136 [] 32\n    ≡ "));
+    let message: Vec<u8> = (0..=255).cycle().take(300).collect();
+    let output = shake256(&message, 144);
+    assert_eq!(output[..32], listed("shake 136 (counting 300) 32\n    ≡ "));
+    let mark = "part (shake 136 (counting 300) 144) 128 16\n    ≡ ";
+    assert_eq!(output[128..], listed(mark));
 }
 
 #[test]
