@@ -1,6 +1,6 @@
 -- The shape rules as facts, and the numbers that follow: a vector's bits lie in the challenge, its leaves in the tree, and no tree is large. By taking the
 -- conjunction of the rules apart.
-use Prim.Native.Nat.{ℕ, zero, suc, _+_, _-_, _*_, _^_, _≤_, _<_}
+use Prim.Native.Nat.{ℕ, zero, suc, _+_, _-_, _*_, _%_, _^_, _≤_, _<_}
 use mathlib.Core.Path.{_≡_, refl, sym, ap, ap₂, _∙_}
 use mathlib.Core.Bool.{Bool, true, false, _&&_, _||_, true≢false}
 use native.Mathlib.Omega.{arith}
@@ -106,6 +106,7 @@ pub record Widths (s : Shape) : Type 0 where
   pub level-max : level s ≤ 256
   pub node-min : 16 ≤ nodeBytes s
   pub node-max : nodeBytes s ≤ 32
+  pub node-eight : nodeBytes s % 8 ≡ 0
   pub node-words : nodeBytes s ≡ 4 * keyWords s
   pub node-bits : level s ≡ 8 * nodeBytes s
   pub challenge-node : challengeBytes s ≡ nodeBytes s
@@ -120,6 +121,7 @@ widths s f =
       level-max = omega arith;
       node-min = omega arith;
       node-max = omega arith;
+      node-eight = refl;
       node-words = refl;
       node-bits = refl;
       challenge-node = refl;

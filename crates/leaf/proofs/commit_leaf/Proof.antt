@@ -40,7 +40,7 @@ returns c = λ i tweak multiples.
     let start = c .before .before .before .before .before .before .before .before .before .before .before .before .before .before .before .before in
     let args = start .args in
     let out : ℕ → List ℕ = λ n. tabulate 64 (generatorByte 4 (args .key .now) (args .iv) n) in
-    let filled = c .before .before .before .before .before .before .before .before .before .before .before .fill .ensures ∙ tabulate-from-0 64 (generatorByte 4 (args .key .now) (args .iv) (args .tweak)) ∙ ap out tweak in
+    let filled = c .before .before .before .before .before .before .before .before .before .before .before .fill .ensures 4 (start .pre .1 .0) ∙ tabulate-from-0 64 (generatorByte 4 (args .key .now) (args .iv) (args .tweak)) ∙ ap out tweak in
     let u = hashKey faest (args .s) (args .iv) i in (
       c .before .before .copy-part .ensures ∙ over 16 (args .seed .now) _ (start .pre .1 .1) ∙ ap (λ (l : List ℕ). take 16 l) filled,
       c .before .before .before .before .before .before .before .leaf-hash .ensures u multiples

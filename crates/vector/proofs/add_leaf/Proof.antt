@@ -1,15 +1,16 @@
 -- What `commit_leaf` and `add_row` ensure, of the leaf that `leaf_of` finds.
 use borrow.Author.Needs.{needs}
 use mathlib.Core.Path.{_≡_, refl, ap, ap₂, _∙_}
-use Prim.Native.Nat.{ℕ, _+_, _-_, _*_}
+use Prim.Native.Nat.{ℕ, _+_, _-_, _*_, _%_}
 use native.Mathlib.Omega.{arith}
+use lib.ListN.{length}
 use Rattle.spec.specs.Bytes.{part}
-use Rattle.spec.specs.Shapes.{level, nodeBytes, leaves, keyWords, treeBytes}
+use Rattle.spec.specs.Shapes.{nodeBytes, leaves, keyWords, treeBytes}
 use Rattle.spec.specs.Primitives.{faest}
 use Rattle.spec.specs.Leaves.{nodeAt, leafKey, leafSeed, leafCommitment}
 use Rattle.spec.specs.Rows.{rowByte, stretchByte}
 use Rattle.laws.proofs.Concat.{mul-within, mul-limit}
-use Rattle.planning_laws.proofs.ShapeFacts.{shape-facts}
+use Rattle.planning_laws.proofs.ShapeFacts.{shape-facts, widths}
 use Rattle.vector.proofs.Buffers.{lent}
 use Rattle.vector.proofs.add_leaf.Statement.{statement}
 use Rattle.vector.proofs.add_leaf.Tie as tie
@@ -58,15 +59,19 @@ add-add-row c =
     let f = shape-facts (start .args .s) (start .pre .1 .0 .0) in
     omega arith
 
+-- the seed has a node's length
+seed-size : (c : tie.After-slice-known5) → length (c .before .before .before .before .commit-leaf .last .1 .1 .1 .1 .1 .1 .0) ≡ nodeBytes (c .before .before .before .before .before .before .before .before .before .before .before .before .before .before .before .before .args .s)
+seed-size c = c .before .before .before .before .commit-leaf .kept .1 .1 .1 .1 .1 .1 .0 ∙ c .before .before .before .before .before .before .before .before .before .before .before .before .before .before .before .before .pre .1 .1 .0 .0
+
 add-row-requires : tie.Need-add-row-requires
-unfolding level nodeBytes
 add-row-requires c κs =
     let start = c .before .before .before .before .before .before .before .before .before .before .before .before .before .before .before .before .before .before in
-    let p = start .pre .1 .1 .0 in
-    (start .pre .0, (c .before .before .before .before .before .before .commit-leaf .kept .1 .1 .1 .1 .1 .1 .0 ∙ p .0, p .2))
+    let w = widths (start .args .s) (shape-facts (start .args .s) (start .pre .1 .0 .0)) in
+    let e = seed-size (c .before .before) in
+    (start .pre .0, (omega (arith, w .node-min), omega (arith, w .node-max), ap (λ (n : ℕ). n % 8) e ∙ w .node-eight, start .pre .1 .1 .0 .2))
 
 returns : tie.Need-returns
-unfolding level nodeBytes keyWords faest nodeAt leafKey rowByte stretchByte
+unfolding faest nodeAt leafKey rowByte stretchByte
 returns c =
     let start = c .before .before .before .before .before .before .before .before .before .before .before .before .before .before .before .before .before .before .before .before .before in
     let g = start .args in
@@ -80,8 +85,9 @@ returns c =
     let a = n .result * leaf .result in
     let one : a + n .result - a ≡ n .result = omega arith in
     let key = ap (part x a) one ∙ ap₂ (λ (w k : ℕ). part x (w * k) w) (n .ensures .0) (leaf .ensures .0) in
+    let w = widths (g .s) (shape-facts (g .s) (start .pre .1 .0 .0)) in
     let seed = made .0 ∙ ap (leafSeed faest (g .s) (g .iv) (g .i)) key in
-    (made .1 ∙ ap (leafCommitment faest (g .s) (g .iv) (g .i)) key, rw seed at (c .before .before .add-row .ensures))
+    (made .1 ∙ ap (leafCommitment faest (g .s) (g .iv) (g .i)) key, rw seed at (c .before .before .add-row .ensures (keyWords (g .s)) (seed-size (c .before .before .before .before .before) ∙ w .node-words)))
 
 pub add-leaf-spec : {M : Type 1} → statement M
 add-leaf-spec =
