@@ -112,7 +112,33 @@ fn store(block: [u8; 16], from: usize, p: usize, out: &mut [u8]) -> usize
     store_part(block, from, p, out)
 }
 
-// Fills out with the output from byte `first` on: byte p of the output is byte p % 16 of block p / 16.
+// Fills out with the output from byte `first` on, for the round keys of any key: byte p of the output is byte p % 16 of block p / 16.
+pub fn fill_keyed(
+    t: &[u8; 256],
+    keys: &[[[u8; 4]; 4]; 15],
+    rounds: usize,
+    iv: [u8; 16],
+    tweak: u32,
+    first: usize,
+    out: &mut [u8],
+)
+    requires { ⌜ SboxTable (now t) ⌝ }
+    requires { ⌜ (10 ≤ rounds) × (rounds ≤ 14) × (first + length (now out) < 2 ^ 32) ⌝ }
+    ensures { λ _. ⌜ ((nk : ℕ) (key : List ℕ) → rounds ≡ nk + 6 → Keyed nk key (now (keys .entry))
+        → now (out .exit) ≡ tabulate (length (now (out .entry))) (λ p. generatorByte nk key iv tweak (first + p))) ⌝ }
+{
+    let mut p = 0;
+    while p < out.len() {
+        let at = first + p;
+        let pair = block_pair(t, keys, rounds, iv, tweak, (at / 16) as u32);
+        let one = pair.first;
+        let two = pair.second;
+        let mid = store(one, at % 16, p, out);
+        p = store(two, 0, mid, out);
+    }
+}
+
+// The same for a key.
 pub fn fill(t: &[u8; 256], key: &[u8], iv: [u8; 16], tweak: u32, first: usize, out: &mut [u8])
     requires { ⌜ SboxTable (now t) ⌝ }
     requires { ⌜ (16 ≤ length (now key)) × (length (now key) ≤ 32) × (length (now key) % 8 ≡ 0) × (first + length (now out) < 2 ^ 32) ⌝ }
@@ -120,14 +146,5 @@ pub fn fill(t: &[u8; 256], key: &[u8], iv: [u8; 16], tweak: u32, first: usize, o
         → now (out .exit) ≡ tabulate (length (now (out .entry))) (λ p. generatorByte nk (now (key .entry)) iv tweak (first + p))) ⌝ }
 {
     let keys = aes::key_schedule(t, key);
-    let rounds = key.len() / 4 + 6;
-    let mut p = 0;
-    while p < out.len() {
-        let at = first + p;
-        let pair = block_pair(t, &keys, rounds, iv, tweak, (at / 16) as u32);
-        let one = pair.first;
-        let two = pair.second;
-        let mid = store(one, at % 16, p, out);
-        p = store(two, 0, mid, out);
-    }
+    fill_keyed(t, &keys, key.len() / 4 + 6, iv, tweak, first, out);
 }
