@@ -4,7 +4,7 @@ ghost use mathlib.Core.Bool.{true};
 ghost use mathlib.Core.List.{[], _∷_};
 ghost use Prim.Native.Nat.{_+_, _*_, _≤_};
 ghost use lib.ListN.{length};
-ghost use Rattle.spec.specs.Shapes.{nodeBytes, hashBytes, ivBytes, shapeOk, treeBytes, leafCommitmentsBytes, matrixBytes, correctionsBytes};
+ghost use Rattle.spec.specs.Shapes.{nodeBytes, leafCommitmentBytes, hashBytes, ivBytes, shapeOk, treeBytes, leafCommitmentsBytes, matrixBytes, correctionsBytes};
 ghost use Rattle.spec.specs.Primitives.{faest};
 ghost use Rattle.spec.specs.Calls.{fits, Committed, committed, Commit, CommitStretch};
 use spec::Answer;
@@ -62,17 +62,18 @@ fn write_all(
     v: &mut [u8],
     corrections: &mut [u8],
 )
-    requires { ⌜ (shapeOk s ≡ true) × (z .first + z .width ≤ 8192) × (length (now root) ≡ nodeBytes s) × (length (now iv) ≡ ivBytes) × (length (now keys) ≡ 48 * s .tau) × (length (now hashes) ≡ 32 * s .tau) ⌝ }
+    requires { ⌜ (shapeOk s ≡ true) × (z .first + z .width ≤ 8192) × (length (now root) ≡ nodeBytes s) × (length (now iv) ≡ ivBytes) × (length (now keys) ≡ leafCommitmentBytes s * s .tau) × (length (now hashes) ≡ hashBytes s * s .tau) ⌝ }
     requires { ⌜ (length (now commitment) ≡ hashBytes s) × (length (now tree) ≡ treeBytes s) × (length (now lcs) ≡ leafCommitmentsBytes s) × (length (now u) ≡ z .width) × (length (now v) ≡ matrixBytes s (z .width)) × (length (now corrections) ≡ correctionsBytes s (z .width)) ⌝ }
     ensures { λ _. ⌜ _≡_ {A = Committed} (record { commitment = now (commitment .exit); tree = now (tree .exit); leafCommitments = now (lcs .exit); u = now (u .exit); v = now (v .exit); corrections = now (corrections .exit) })
         (committed faest s z (now (root .entry)) (now (iv .entry))) ⌝ }
 {
+    let r = rules::rate_bytes(s);
     let t = aes::table();
     let x = generator::load_iv(iv);
-    shake::h0(168, iv, keys);
-    signer_tree::grow(&t, root, x, rules::leaf_count(s), tree);
+    shake::h0(r, iv, keys);
+    signer_tree::grow(&t, s, root, x, tree);
     signer_vectors::write_vectors(&t, s, z, x, keys, tree, lcs, u, v, corrections, hashes);
-    shake::h1(168, hashes, commitment);
+    shake::h1(r, hashes, commitment);
 }
 
 // Writes what commit writes, once every test has been passed.
@@ -94,15 +95,17 @@ fn write_commitment(
         (committed faest s z (now (root .entry)) (now (iv .entry))) ⌝ }
 {
     let tau = s.tau;
-    let mut keys = [0u8; 1536];
-    let mut hashes = [0u8; 1024];
+    let w = rules::commitment_bytes(s);
+    let h = rules::hash_bytes(s);
+    let mut keys = [0u8; 3072];
+    let mut hashes = [0u8; 2048];
     write_all(
         s,
         z,
         root,
         iv,
-        &mut keys[0..48 * tau],
-        &mut hashes[0..32 * tau],
+        &mut keys[0..w * tau],
+        &mut hashes[0..h * tau],
         commitment,
         tree,
         lcs,

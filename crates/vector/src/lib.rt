@@ -84,19 +84,7 @@ fn add_entry(
 {
     let n = rules::node_bytes(s);
     let mut seed = [0u8; 32];
-    add_leaf(
-        t,
-        m,
-        s,
-        i,
-        e,
-        z,
-        iv,
-        tree,
-        &mut seed[0..n],
-        commitment,
-        sum,
-    );
+    add_leaf(t, m, s, i, e, z, iv, tree, &mut seed[0..n], commitment, sum);
 }
 
 // The entries of vector i whose numbers are from `from` on and below `to`, in the order of their numbers: number x is that of entry x xor the mask. There are
