@@ -25,9 +25,6 @@ room c =
     let all : w .result * n ≡ leafCommitmentBytes (g .s) * n = ap (λ (m : ℕ). m * n) (w .ensures .0) in
     block-end (w .result) (g .d) n (length (g .lcs .now)) (start .pre .1 .0 .2) (let l = start .pre .1 .1 .0 .1 in omega arith)
 
-copy-part-requires : tie.Need-copy-part-requires
-copy-part-requires c κs = (let w = c .before .commitment-bytes .ensures .0 in let h = c .before .before .before .before .before .before .pre .1 .1 .0 .0 in (omega arith, room c))
-
 add-entries-requires : tie.Need-add-entries-requires
 add-entries-requires c κs =
     let start = c .before .before .before .before .before .before .before .before .before .before .before .before in
@@ -62,7 +59,7 @@ add-visible-spec =
     (tie.spec
     (λ c κs. search needs)
     (λ c. start-fits _ _ _ (room c) (c .before .before .before .before .before .before .good .1 .1 .1 .1 .1 .1 .1 .1 .1 .0 .0))
-    copy-part-requires
+    (λ c κs. (let w = c .before .commitment-bytes .ensures .0 in let h = c .before .before .before .before .before .before .pre .1 .1 .0 .0 in let l = room c in (omega arith, omega arith)))
     (λ c. search needs)
     (λ c. search needs)
     (λ c. search needs)
