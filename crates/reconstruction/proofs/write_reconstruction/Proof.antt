@@ -45,13 +45,13 @@ hashes-end c =
 
 write-all-requires : tie.Need-write-all-requires
 write-all-requires c κs =
-    let start = c .before .before .before .before .before .before .before .before .before .before .before .before .before .before .before .before .before .before in
+    let start = c .before .before .before .before .before .before .before .before .before .before .before .before .before .before .before .before in
     let p = start .pre .0 in
     let tau = start .args .s .tau in
-    let w = c .before .before .before .before .before .before .before .before .before .commitment-bytes in
-    let h = c .before .before .before .before .before .before .before .before .hash-bytes in
-    let keys = lent 0 (w .result * tau) _ (replicate 3072 0) (ap (λ (n : ℕ). n * tau) (w .ensures .0) ∙ sym (zero-add _)) (keys-end (c .before .before .before .before .before .before .before .before)) in
-    let hashes = lent 0 (h .result * tau) _ (replicate 2048 0) (ap (λ (n : ℕ). n * tau) (h .ensures .0) ∙ sym (zero-add _)) (hashes-end (c .before .before .before .before .before .before .before)) in
+    let w = c .before .before .before .before .before .before .before .commitment-bytes in
+    let h = c .before .before .before .before .before .before .hash-bytes in
+    let keys = lent 0 (w .result * tau) _ (replicate 3072 0) (ap (λ (n : ℕ). n * tau) (w .ensures .0) ∙ sym (zero-add _)) (keys-end (c .before .before .before .before .before .before)) in
+    let hashes = lent 0 (h .result * tau) _ (replicate 2048 0) (ap (λ (n : ℕ). n * tau) (h .ensures .0) ∙ sym (zero-add _)) (hashes-end (c .before .before .before .before .before)) in
     ((p .0, p .1, p .2, p .3, keys, hashes), start .pre .1)
 
 pub write-reconstruction-spec : {M : Type 1} → statement M
