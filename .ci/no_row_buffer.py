@@ -5,8 +5,8 @@ It reads the .rt files of every crate that the signing and the checking half rea
 
 1. Bytes of a row are made in one place: `rows::add_row`, by `generator::block` and `generator::block_pair`. No other function makes blocks with the rows' tweak
    (the number 2^31 stands once, in `vector::add_entry`, which passes it to `rows::add_row`); `generator::fill` is called for nodes and leaves alone.
-2. In what `rows::add_row` and the functions of `columns` reach, every array has at most 16 bytes, but for the S-box, which is lent, and the round keys, which are made of the
-   seed. The functions of `columns` see sums of rows.
+2. In what `rows::add_row` and the functions of `columns` reach, every array has at most 16 bytes, but for the S-box, which is lent, and the round keys and what they are laid out of, which are
+   made of the seed. The functions of `columns` see sums of rows.
 3. What they write into is lent: from call to call their destination is a part of a parameter, up to a buffer of the public call, or an array of at most 16 bytes.
 4. Of all that commit, commit_stretch, reconstruct and reconstruct_stretch reach, every array above 16 bytes stands in the table below with what it holds.
 
@@ -26,7 +26,12 @@ KIT = {'bytes::copy', 'std::num::wrapping_add_u32'}
 # each array above 16 bytes: its type, what it holds, and the functions, or the crates, that have it by value; others have it lent
 TABLE = {
     '[u8; 256]': ('the S-box of AES', {'aes_steps::SBOX', 'aes_steps::table', 'signer_commit::write_all', 'reconstruction::write_all'}),
-    '[[[u8; 4]; 4]; 11]': ('the round keys of a key', {'aes::key_schedule', 'generator::fill', 'rows::add_row'}),
+    '[[[u8; 4]; 4]; 15]': ('the round keys of a key', {'aes_keys', 'generator::fill', 'rows::add_row'}),
+    '[[[u8; 4]; 4]; 8]': ('the first round keys of a key of 8 words', {'aes_keys'}),
+    '[[[u8; 4]; 4]; 7]': ('the later ones', {'aes_keys'}),
+    '[[[u8; 4]; 6]; 8]': ('the words of a key schedule, for a key of 6 words', {'aes_keys'}),
+    '[[u8; 4]; 6]': ('six of them', {'aes_keys'}),
+    '[[[u8; 4]; 4]; 3]': ('the round keys that twelve of them are', {'aes_keys'}),
     '[u8; 64]': ('a leaf stretched: its seed, and what the leaf hash is xored to', {'leaf::commit_leaf'}),
     '[[u64; 6]; 16]': ('the multiples of a hash key', {'field_384::multiples', 'signer_vectors::convert', 'verifier_vector::convert'}),
     '[u64; 6]': ('an element of the field of the leaf hash', {'field_384'}),
@@ -41,7 +46,7 @@ TABLE = {
     '[usize; 32]': ('numbers of covered nodes', {'planning::revealed_nodes'}),
 }
 # in what sees bytes of rows only these go beyond 16 bytes
-BESIDE_ROWS = {'[u8; 256]', '[[[u8; 4]; 4]; 11]'}
+BESIDE_ROWS = {'[u8; 256]', '[[[u8; 4]; 4]; 15]', '[[[u8; 4]; 4]; 8]', '[[[u8; 4]; 4]; 7]', '[[[u8; 4]; 6]; 8]', '[[u8; 4]; 6]', '[[[u8; 4]; 4]; 3]'}
 # who calls what makes blocks
 CALLERS = {
     'rows::add_row': {'vector::add_entry'},
@@ -487,7 +492,7 @@ def crates():
 # crate, old text, new text, a part of the reason
 EDITS = [
     ('rows', '    let b = sum.len();', '    let b = sum.len();\n    let mut row = [0u8; 8192];', '[u8; 8192] in rows::add_row'),
-    ('rows', 'let block = generator::block(t, &keys, iv, tweak, (p / 16) as u32);',
+    ('rows', 'let block = generator::block(t, &keys, rounds, iv, tweak, (p / 16) as u32);',
      'let mut block = [0u8; 16];\n            generator::fill(t, seed, iv, tweak, p, &mut block);', 'generator::fill is called by'),
     ('aes', '    pub first: [u8; 16],\n    pub second: [u8; 16],', '    pub both: [[u8; 16]; 2],', '[[u8; 16]; 2] in'),
     ('vector', 'let tweak = leaf::leaf_tweak', 'let pair = [0u8; 32];\n    let tweak = leaf::leaf_tweak', '[u8; 32] in vector::add_entry'),

@@ -38,7 +38,7 @@ pub extern "C" fn rattle_schedule_and_block(t: &[u8; 256], key: &[u8; 16], out: 
     ensures { λ _. ⌜ now (out .exit) ≡ encrypt 4 (now (key .entry)) (now (key .entry)) ⌝ }
 {
     let keys = aes::key_schedule(t, key);
-    let r = aes::bytes_of(aes::encrypt(t, &keys, aes::load_state(key)));
+    let r = aes::bytes_of(aes::encrypt(t, &keys, 10, aes::load_state(key)));
     *out = r;
 }
 

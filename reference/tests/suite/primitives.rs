@@ -28,13 +28,43 @@ fn aes_of_fips_197_appendix_c_1() {
 }
 
 #[test]
+fn aes_of_fips_197_appendix_a() {
+    // A.2 and A.3: the last round keys.
+    let keys = aes::key_expansion(&hex("8e73b0f7da0e6452c810f32b809079e562f8ead2522c6b7b"));
+    assert_eq!(keys[12], block("e98ba06f448c773c8ecc720401002202"));
+    let key = "603deb1015ca71be2b73aef0857d77811f352c073b6108d72d9810a30914dff4";
+    let keys = aes::key_expansion(&hex(key));
+    assert_eq!(keys[14], block("fe4890d1e6188d0b046df344706c631e"));
+}
+
+#[test]
+fn aes_of_fips_197_appendices_c_2_and_c_3() {
+    let key: Vec<u8> = (0..32).collect();
+    let text = block("00112233445566778899aabbccddeeff");
+    let output = aes::encrypt(&aes::key_expansion(&key[..24]), &text);
+    assert_eq!(output, block("dda97ca4864cdfe06eaf70a0ec0d7191"));
+    let output = aes::encrypt(&aes::key_expansion(&key), &text);
+    assert_eq!(output, block("8ea2b7ca516745bfeafc49904b496089"));
+}
+
+#[test]
 fn aes_chained_a_thousand_times() {
-    // The same loop with AES-128 of the Python package cryptography.
-    let (mut key, mut text) = ([0; 16], [0; 16]);
-    for _ in 0..1000 {
-        (key, text) = (text, aes::encrypt(&aes::key_expansion(&key), &text));
+    // The same loop with AES of the Python package cryptography: the text is
+    // encrypted, and goes in front of the key, which keeps its length.
+    let expected = [
+        (16, "fdf42d6fc7a3aaee56d44e2053f50dbc"),
+        (24, "08e4e3538ab7978804658a4d21fa6073"),
+        (32, "ad75750abeb8fe691467f92e1debc82f"),
+    ];
+    for (length, last) in expected {
+        let (mut key, mut text) = (vec![0; length], [0; 16]);
+        for _ in 0..1000 {
+            let next = aes::encrypt(&aes::key_expansion(&key), &text);
+            key = [&text[..], &key[..length - 16]].concat();
+            text = next;
+        }
+        assert_eq!(text, block(last), "keys of {length} bytes");
     }
-    assert_eq!(text, block("fdf42d6fc7a3aaee56d44e2053f50dbc"));
 }
 
 #[test]

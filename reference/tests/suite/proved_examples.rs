@@ -3,7 +3,7 @@
 //! `field_576` and `field_768`: the same inputs, derived here.
 
 use reference::shake::{shake128, shake256};
-use reference::{bavc, field, prg, shape};
+use reference::{aes, bavc, field, prg, shape};
 
 /// The numbers of a list as a file of `crates` writes it, `1 ∷ 2 ∷ []`, after `mark`.
 fn numbers(file: &str, mark: &str) -> Vec<usize> {
@@ -35,6 +35,22 @@ fn generator_blocks_5_and_511() {
     let output = prg::prg(&key, &iv, (1 << 31) + 3, 512 * 128);
     assert_eq!(output[80..96], proved("(2 ^ 31 + 3) 5\n    ≡ "));
     assert_eq!(output[8176..], proved("(2 ^ 31 + 3) 511\n    ≡ "));
+}
+
+#[test]
+fn aes_of_24_and_32_byte_keys() {
+    let listed = |mark: &str| bytes("standards_levels/proofs/Aes.antt", mark);
+    let text = array(listed("\nplaintext ="));
+    let encrypted = |key: &[u8]| aes::encrypt(&aes::key_expansion(key), &text);
+    let (key24, key32) = (listed("\nkey24 ="), listed("\nkey32 ="));
+    assert_eq!(
+        encrypted(&key24)[..],
+        listed("encrypt 6 key24 plaintext\n    ≡ ")
+    );
+    assert_eq!(
+        encrypted(&key32)[..],
+        listed("encrypt 8 key32 plaintext\n    ≡ ")
+    );
 }
 
 #[test]

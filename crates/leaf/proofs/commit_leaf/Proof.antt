@@ -20,14 +20,14 @@ use Rattle.leaf.proofs.commit_leaf.Tie as tie
 first-16 : tie.Need-slice-aggregate-load-iv
 first-16 c =
     let filled = c .before .before .before .before .before .before .before .fill in
-    sym (length-take-le 16 (filled .last .1 .1 .1 .1 .1 .0) (rw (filled .ensures) (rw length-tabulate (omega arith))))
+    sym (length-take-le 16 (filled .last .1 .1 .1 .1 .1 .0) (rw (filled .ensures 4 (search needs)) (rw length-tabulate (omega arith))))
 
 returns : tie.Need-returns
 unfolding level nodeBytes leafCommitmentBytes keyWords fieldWidth fieldPolynomial faest prg stretched leafSeed leafCommitment
 returns c = λ s i tweak multiples.
     let args = c .before .before .before .before .before .before .before .before .before .before .before .before .args in
     let out : ℕ → List ℕ = λ n. tabulate 64 (generatorByte 4 (args .key .now) (args .iv) n) in
-    let filled = c .before .before .before .before .before .before .before .before .fill .ensures ∙ tabulate-from-0 64 (generatorByte 4 (args .key .now) (args .iv) (args .tweak)) ∙ ap out tweak in
+    let filled = c .before .before .before .before .before .before .before .before .fill .ensures 4 (search needs) ∙ tabulate-from-0 64 (generatorByte 4 (args .key .now) (args .iv) (args .tweak)) ∙ ap out tweak in
     let u = hashKey faest s (args .iv) i in (
       c .load-iv .ensures ∙ ap (λ (l : List ℕ). take 16 l) filled,
       c .before .before .before .before .leaf-hash .ensures u multiples

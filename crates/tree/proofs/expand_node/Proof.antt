@@ -28,7 +28,7 @@ returns c = λ s.
     ap (λ (n : ℕ). length (part x (32 * a + 16) n)) two ∙ length-take-le 32 (drop (32 * a + 16) x) (rw length-drop (omega arith))
     in
     let made =
-    c .before .before .fill .ensures
+    c .before .before .fill .ensures 4 (search needs)
     ∙ ap₂ (λ (n : ℕ) (k : List ℕ). tabulate n (λ p. generatorByte 4 k (g .iv) a (0 + p))) long key
     ∙ tabulate-from-0 32 (generatorByte 4 (part x (16 * a) 16) (g .iv) a)
     in

@@ -3,6 +3,7 @@ use borrow.Author.Needs.{needs}
 use mathlib.Core.Path.{_≡_, ap, ap₂, _∙_}
 use Prim.Native.Nat.{ℕ, _+_, _-_, _*_}
 use native.Mathlib.Omega.{arith}
+use lib.ListN.{length}
 use Rattle.spec.specs.Bytes.{part}
 use Rattle.spec.specs.Shapes.{level, nodeBytes, keyWords, treeBytes}
 use Rattle.spec.specs.Primitives.{faest}
@@ -28,6 +29,9 @@ add-add-row c =
     let f = shape-facts (start .args .s) (start .pre .1 .0 .0) in
     omega arith
 
+seed-long : (c : tie.After-commit-leaf) → length (c .commit-leaf .result) ≡ 16
+seed-long c = search needs
+
 returns : tie.Need-returns
 unfolding level nodeBytes keyWords faest nodeAt leafKey rowByte stretchByte
 returns c =
@@ -43,7 +47,7 @@ returns c =
     let one : a + 16 - a ≡ 16 = omega arith in
     let key = ap₂ (λ (n m : ℕ). part x (16 * n) m) (leaf .ensures .0) one in
     let seed = made .0 ∙ ap (leafSeed faest (g .s) (g .iv) (g .i)) key in
-    (made .1 ∙ ap (leafCommitment faest (g .s) (g .iv) (g .i)) key, rw seed at (c .before .before .add-row .ensures))
+    (made .1 ∙ ap (leafCommitment faest (g .s) (g .iv) (g .i)) key, rw seed at (c .before .before .add-row .ensures 4 (seed-long (c .before .before .before .before .before .before .before))))
 
 pub add-entry-spec : {M : Type 1} → statement M
 add-entry-spec =
