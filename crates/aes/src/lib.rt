@@ -83,16 +83,17 @@ pub fn last_round(t: &[u8; 256], s: [[u8; 4]; 4], k: [[u8; 4]; 4]) -> [[u8; 4]; 
     add_round_key(shift_rows(sub_bytes(t, s)), k)
 }
 
-// CIPHER in n rounds, for the round keys of any key.
+// CIPHER in n rounds, for the round keys of any key. The first round is a call of `round`, as those of `later_rounds` are, and the others stand here by their steps: then
+// the compiler inlines these alone, which is quickest.
 pub fn encrypt(t: &[u8; 256], keys: &[[[u8; 4]; 4]; 15], n: usize, s: [[u8; 4]; 4]) -> [[u8; 4]; 4]
     requires { ⌜ SboxTable (now t) ⌝ }
-    requires { ⌜ (1 ≤ n) × (n ≤ 14) ⌝ }
+    requires { ⌜ (10 ≤ n) × (n ≤ 14) ⌝ }
     ensures { λ r. ⌜ ((nk : ℕ) (key : List ℕ) → n ≡ nk + 6 → Keyed nk key (now (keys .entry)) → r ≡ cipher (nk + 6) (keyExpansion nk key) s) ⌝ }
 {
-    let mut x = add_round_key(s, keys[0]);
-    let mut i = 1;
+    let mut x = round(t, add_round_key(s, keys[0]), keys[1]);
+    let mut i = 2;
     while i < n {
-        let y = round(t, x, keys[i]);
+        let y = add_round_key(mix_columns(shift_rows(sub_bytes(t, x))), keys[i]);
         x = y;
         i += 1;
     }
