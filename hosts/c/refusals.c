@@ -3,11 +3,7 @@
 #define _DEFAULT_SOURCE
 #include <rachnoel.h>
 
-#include <stdio.h>
-#include <stdlib.h>
-#include <string.h>
-#include <sys/mman.h>
-#include <unistd.h>
+#include "guarded.h"
 
 enum call { DECODE, PLAN, COMMIT, COMMIT_STRETCH, OPEN, RECONSTRUCT, RECONSTRUCT_STRETCH, CALLS };
 enum buffer { ROOT, IV, CHALLENGE, TREE, LCS, CORRECTIONS, OPENING, INDICES, NODES, COMMITMENT, U, V, COUNT, BUFFERS, NONE };
@@ -35,39 +31,6 @@ struct given {
     size_t len;
     uint8_t challenge0, challenge15, slot; /* bytes 0 and 15 of the challenge, the last of the opening; all other bytes of inputs are 0 */
 };
-
-/* ---- buffers between forbidden pages */
-
-static size_t page;
-
-struct guarded {
-    uint8_t *map, *at;
-    size_t size;
-};
-
-static struct guarded guard(size_t n, int flush_with_the_end, int fill)
-{
-    const size_t inner = (n + page - 1) / page * page;
-    struct guarded g;
-    g.size = inner + 2 * page;
-    g.map = mmap(NULL, g.size, PROT_NONE, MAP_PRIVATE | MAP_ANONYMOUS, -1, 0);
-    if (g.map == MAP_FAILED || (inner > 0 && mprotect(g.map + page, inner, PROT_READ | PROT_WRITE) != 0)) {
-        perror("mmap");
-        exit(1);
-    }
-    g.at = flush_with_the_end ? g.map + page + inner - n : g.map + page;
-    memset(g.at, fill, n);
-    return g;
-}
-
-/* from here on the buffer may only be read */
-static void shut(struct guarded g)
-{
-    if (g.size > 2 * page && mprotect(g.map + page, g.size - 2 * page, PROT_READ) != 0) {
-        perror("mprotect");
-        exit(1);
-    }
-}
 
 /* ---- one call */
 
@@ -279,7 +242,6 @@ static void try(enum call call)
 
 int main(void)
 {
-    page = (size_t)sysconf(_SC_PAGESIZE);
     for (int call = 0; call < CALLS; call++)
         try((enum call)call);
     printf("%d calls between forbidden pages, %d wrong\n", tried, failed);

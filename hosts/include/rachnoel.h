@@ -6,14 +6,14 @@
  * - a slice has the bytes that its length names;
  * - no pointer is NULL, also where the length is 0;
  * - a slice that may be written overlaps no other slice of the call (slices that are only read may overlap each other);
- * - the stack has room for the call: RACHNOEL_STACK_RECONSTRUCT bytes for the two forms of reconstruct, RACHNOEL_STACK for any other.
+ * - the stack has room for the call: RACHNOEL_STACK_RECONSTRUCT bytes for the two forms of reconstruct and for check_record, RACHNOEL_STACK for any other.
  * The calls use no heap and keep nothing between calls; several threads may call at once, each with slices of its own.
  *
- * `indices`, `nodes` and `count` hold numbers of four bytes, least byte first: tau of them, t of them (of the default where the four are zeros), and one.
+ * `indices`, `nodes`, `count` and lengths hold numbers of four bytes, least byte first: tau of them, t of them (of the default where the four are zeros), one.
  * rachnoel_number reads one.
  *
- * A call returns 0, or the number of the first refusal that applies. With 0 the outputs and the count are written; with 5 and 6 the count alone; with any other number
- * nothing. A slice of another length, the count's too, is refusal 3. */
+ * A call returns 0, or the number of the first refusal that applies. With 0 the outputs and the count are written, and so they are with 11; with 5 and 6 the count alone;
+ * with any other number nothing. A slice of another length, the count's too, is refusal 3. */
 #ifndef RACHNOEL_H
 #define RACHNOEL_H
 
@@ -31,7 +31,10 @@ enum {
     RACHNOEL_GRINDING = 4,  /* one of the last w bits of the challenge is 1 */
     RACHNOEL_NODES = 5,     /* the challenge needs more than t nodes: draw another */
     RACHNOEL_SLOTS = 6,     /* a byte in an unused slot of the opening is not 0 */
-    RACHNOEL_STRETCH = 8    /* width is 0, or first + width exceeds row_bits / 8 */
+    RACHNOEL_STRETCH = 8,   /* width is 0, or first + width exceeds row_bits / 8 */
+    RACHNOEL_VERSION = 9,   /* the first byte of a record is missing, or an unknown version */
+    RACHNOEL_FIELD = 10,    /* a field of a record has another length, bytes are missing, or bytes are left over */
+    RACHNOEL_MISMATCH = 11  /* the reconstructed commitment is not the record's */
 };
 
 /* ---- lengths in bytes */
@@ -39,7 +42,10 @@ enum {
 enum {
     RACHNOEL_BLOCK = 16,       /* a root, an IV, a challenge */
     RACHNOEL_COMMITMENT = 32,
-    RACHNOEL_COUNT = 4
+    RACHNOEL_COUNT = 4,
+    RACHNOEL_RECORD_LENGTH = 4,  /* one number */
+    RACHNOEL_WORK_LENGTHS = 12,  /* three numbers */
+    RACHNOEL_RECORD_MOST = 263778 /* no record has more bytes */
 };
 
 /* stack in bytes; the deepest that was measured is at most seven eighths of it */
@@ -79,7 +85,7 @@ static inline rachnoel_lengths rachnoel_lengths_of(size_t tau, size_t k, size_t 
     return n;
 }
 
-/* The number in four bytes of `indices`, `nodes` or `count`. */
+/* The number in four bytes of `indices`, `nodes`, `count` or of lengths. */
 static inline uint32_t rachnoel_number(const uint8_t bytes[4])
 {
     uint32_t n = bytes[3];
@@ -127,6 +133,29 @@ size_t rachnoel_reconstruct_stretch(size_t tau, size_t k, size_t w, size_t t, si
     const uint8_t *challenge, size_t challenge_len, const uint8_t *corrections, size_t corrections_len, const uint8_t *opening, size_t opening_len,
     uint8_t *commitment, size_t commitment_len, uint8_t *tree, size_t tree_len, uint8_t *leaf_commitments, size_t leaf_commitments_len, uint8_t *q, size_t q_len,
     uint8_t *count, size_t count_len);
+
+/* ---- records, checked: librachnoel_broker
+ *
+ * A record is a version byte, 1, and six fields, each a length of four bytes, greatest first, and that many bytes: tau, k, w in a byte each, t in two and row_bits in four,
+ * greatest first; the IV; the challenge; the corrections; the opening; the commitment. */
+
+/* The lengths of the three work buffers that a record asks for by its front: tree, leaf_commitments, q, three numbers. Refusals 9, 10, 1, 2, 3. */
+size_t rachnoel_work_lengths(const uint8_t *record, size_t record_len, uint8_t *lengths, size_t lengths_len);
+
+/* Whether a record has its form, reconstruct accepts its fields, and gives the record's commitment. The corrections are not bound by it. With 0 and with 11 the work buffers
+ * hold what reconstruct writes, and the count is written; with 5 and 6 the count alone. Refusals 9, 10, 1, 2, 10, 3, 4, 5, 6, 11. */
+size_t rachnoel_check_record(const uint8_t *record, size_t record_len, uint8_t *tree, size_t tree_len, uint8_t *leaf_commitments, size_t leaf_commitments_len,
+    uint8_t *q, size_t q_len, uint8_t *count, size_t count_len);
+
+/* ---- records, written: librachnoel_writer */
+
+/* The length of a record, one number. Refusals 1, 2, 3. */
+size_t rachnoel_record_length(size_t tau, size_t k, size_t w, size_t t, size_t row_bits, uint8_t *length, size_t length_len);
+
+/* The record of a shape as it is given, four zeros too, a row length and the other fields, which are not tested but for their lengths. Refusals 1, 2, 3. */
+size_t rachnoel_write_record(size_t tau, size_t k, size_t w, size_t t, size_t row_bits, const uint8_t *iv, size_t iv_len, const uint8_t *challenge,
+    size_t challenge_len, const uint8_t *corrections, size_t corrections_len, const uint8_t *opening, size_t opening_len, const uint8_t *commitment,
+    size_t commitment_len, uint8_t *record, size_t record_len);
 
 #ifdef __cplusplus
 }

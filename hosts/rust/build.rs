@@ -5,7 +5,7 @@ use std::process::Command;
 
 fn main() {
     println!("cargo:rerun-if-env-changed=PKG_CONFIG_PATH");
-    for half in ["planning", "signer", "verifier"] {
+    for half in ["planning", "signer", "verifier", "broker", "writer"] {
         if env::var_os(format!("CARGO_FEATURE_{}", half.to_uppercase())).is_none() {
             continue;
         }

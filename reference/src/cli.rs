@@ -7,7 +7,7 @@ use crate::calls::{
     commit, commit_stretch, decode, open, plan, reconstruct, reconstruct_stretch, Answer,
 };
 use crate::listing::list;
-use crate::record_commands::{check_command, record_command};
+use crate::record_commands::{check_command, checks_command, record_command};
 use crate::shake::shake128;
 use crate::shape::{row_bytes, Shape};
 use crate::stretch::Stretch;
@@ -30,6 +30,7 @@ usage: reference decode      TAU K W T CHALLENGE
        reference probe_plan        TAU K W T BYTE WHICH MORE
        reference list        (its line on standard input)
        reference check       (a record on standard input)
+       reference checks      (records and buffers on standard input)
 Each with ROWBITS is also there for a stretch of the rows: _stretch behind its
 name, FIRST WIDTH behind ROWBITS.
 Numbers are decimal; ROOT, IV and CHALLENGE are hexadecimal, byte 0 first.
@@ -533,6 +534,7 @@ pub fn run(args: &[String], input: &mut impl Read) -> Option<Outcome> {
         _ if of_stretch => None,
         "list" => list_command(rest, input),
         "check" => check_command(rest, input),
+        "checks" => checks_command(rest, input),
         "record" | "prefixes" | "flips" | "pairs" => record_command(command, rest),
         "decode" | "plan" => numbers_command(command, rest),
         "probe_open" => probe_command(command, false, rest),

@@ -4,11 +4,11 @@
 use std::io::Read;
 
 use crate::calls::Answer;
-use crate::cli::{answer_lines, buffer_line, Arguments, Outcome, Rows, Run, PATTERN};
+use crate::cli::{answer_lines, buffer_line, to_hex, Arguments, Outcome, Rows, Run, PATTERN};
 use crate::record::{check_record, record_bytes, work_lengths, write_record, Record};
 use crate::shape::{row_bytes, Shape};
 
-/// The work buffers of the check, with the pattern in each byte.
+/// The work buffers of the check, with a pattern in each byte.
 #[derive(Clone)]
 struct Work {
     tree: Vec<u8>,
@@ -17,11 +17,15 @@ struct Work {
 }
 
 impl Work {
-    fn new([tree, leaf_commitments, q]: [usize; 3]) -> Work {
+    fn new(lengths: [usize; 3]) -> Work {
+        Work::filled(lengths, PATTERN)
+    }
+
+    fn filled([tree, leaf_commitments, q]: [usize; 3], fill: u8) -> Work {
         Work {
-            tree: vec![PATTERN; tree],
-            leaf_commitments: vec![PATTERN; leaf_commitments],
-            q: vec![PATTERN; q],
+            tree: vec![fill; tree],
+            leaf_commitments: vec![fill; leaf_commitments],
+            q: vec![fill; q],
         }
     }
 
@@ -30,9 +34,13 @@ impl Work {
         check_record(record, tree, coms, &mut self.q)
     }
 
-    fn kept(&self) -> bool {
+    fn bytes(&self) -> impl Iterator<Item = &u8> {
         let bytes = self.tree.iter().chain(&self.leaf_commitments);
-        bytes.chain(&self.q).all(|byte| *byte == PATTERN)
+        bytes.chain(&self.q)
+    }
+
+    fn kept(&self) -> bool {
+        self.bytes().all(|byte| *byte == PATTERN)
     }
 
     fn lines(&self) -> String {
@@ -173,6 +181,48 @@ pub fn check_command(rest: Arguments, input: &mut impl Read) -> Option<Outcome> 
     let mut text = answer_lines(answer);
     if matches!(answer.number, 0 | 11) {
         text += &work.lines();
+    }
+    Some((text.into_bytes(), true))
+}
+
+/// One of the checks of `checks`, from the front of the input: the fill of the
+/// buffers, the lengths of the work buffers and of the count slice, the length of
+/// the record, four bytes each, the greatest first, and the record. Gives the line
+/// to print: the number, the count slice, and FNV-1a of the work buffers.
+fn one_of_many(input: &mut &[u8]) -> Option<String> {
+    let (head, rest) = input.split_at_checked(21)?;
+    let number =
+        |n: usize| u32::from_be_bytes(head[1 + 4 * n..5 + 4 * n].try_into().unwrap()) as usize;
+    let (record, rest) = rest.split_at_checked(number(4))?;
+    *input = rest;
+    let mut work = Work::filled([number(0), number(1), number(2)], head[0]);
+    let mut count = vec![head[0]; number(3)];
+    // A count slice of another length is refused as a work buffer is.
+    let answer = if count.len() == 4 {
+        work.check(record)
+    } else {
+        check_record(record, &mut [], &mut work.leaf_commitments, &mut work.q)
+    };
+    if matches!(answer.number, 0 | 5 | 6 | 11) {
+        count.copy_from_slice(&answer.count.to_le_bytes());
+    }
+    let step = |sum: u64, byte: &u8| (sum ^ u64::from(*byte)).wrapping_mul(0x0100_0000_01b3);
+    let digest = work.bytes().fold(0xcbf2_9ce4_8422_2325, step);
+    Some(format!(
+        "{} {} {digest:016x}\n",
+        answer.number,
+        to_hex(&count)
+    ))
+}
+
+/// `checks`: many checks, one after another.
+pub fn checks_command(rest: Arguments, input: &mut impl Read) -> Option<Outcome> {
+    rest.end()?;
+    let mut bytes = Vec::new();
+    input.read_to_end(&mut bytes).ok()?;
+    let (mut rest, mut text) = (&bytes[..], String::new());
+    while !rest.is_empty() {
+        text += &one_of_many(&mut rest)?;
     }
     Some((text.into_bytes(), true))
 }

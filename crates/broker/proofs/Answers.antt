@@ -9,48 +9,44 @@ use borrow.Author.Tests.{ne-eqb}
 use Rattle.spec.specs.declared.Answer.{Answer}
 use Rattle.spec.specs.Shapes.{resolved, plannedCount, shapeOk}
 use Rattle.spec.specs.Primitives.{faest}
-use Rattle.spec.specs.Calls.{firstRefusal, rowOk, countWith, Reconstructed}
+use Rattle.spec.specs.Calls.{firstRefusal, rowOk, countGiven, countWith, Reconstructed}
 use Rattle.record.specs.Fields.{fieldOk}
 use Rattle.record.specs.Record.{versionOk, recordBytes, restOk, Contents, contentsOf, readNumber}
-use Rattle.record.specs.RecordCalls.{answered, Work, workOf, lent, Reconstructs, fieldsNumber, made, sameBytes, recordNumber, CheckRecord}
-use Rattle.record.proofs.Reconstructing.{ran-number, ran-count, ran-made, ran-kept, not-eleven}
+use Rattle.record.specs.RecordCalls.{answered, Work, workOf, Reconstructs, made, sameBytes, CheckRecord}
+use Rattle.record.proofs.Reconstructing.{lent, fieldsNumber, ran-number, ran-count, ran-made, ran-kept, not-eleven, number-refused, lent-steps}
 
 -- ---- refused in reading
 
--- a number with which check_record counts and writes nothing
-record Quiet (k : ℕ) : Type 0 where
-  pub count : (n : ℕ) → countWith (answered k) n ≡ 0
-  pub kept : eqb (answered k) 0 ≡ false
-
--- the first of six tests of reading that fails; such a number where one does
+-- the first of the six tests of reading that fails
 abbrev First : Bool → Bool → Bool → Bool → Bool → Bool → ℕ
 First a b c d e f = firstRefusal ((a, 9) ∷ (b, 10) ∷ (c, 1) ∷ (d, 2) ∷ (e, 10) ∷ (f, 10) ∷ [])
 
-read-quiet : (rec : List ℕ) → (readNumber rec ≡ 0 → ⊥) → Quiet (readNumber rec)
-unfolding readNumber countWith
+-- with a number of reading check_record writes nothing and gives no count
+pub read-quiet : (rec : List ℕ) → (readNumber rec ≡ 0 → ⊥) → (eqb (answered (readNumber rec)) 0 ≡ false) × (countGiven (answered (readNumber rec)) ≡ false)
+unfolding readNumber
 read-quiet rec bad =
     let s = resolved (contentsOf rec .shape) in
     let b = contentsOf rec .row / 8 in
     go (versionOk rec) (fieldOk rec 1 9) (shapeOk s) (rowOk (contentsOf rec .row)) (restOk s b rec) (eqb (length rec) (recordBytes s b)) bad
   where
-    go : (a b c d e f : Bool) → (First a b c d e f ≡ 0 → ⊥) → Quiet (First a b c d e f)
-    go false b c d e f n = record { count = λ n. refl; kept = refl }
-    go true false c d e f n = record { count = λ n. refl; kept = refl }
-    go true true false d e f n = record { count = λ n. refl; kept = refl }
-    go true true true false e f n = record { count = λ n. refl; kept = refl }
-    go true true true true false f n = record { count = λ n. refl; kept = refl }
-    go true true true true true false n = record { count = λ n. refl; kept = refl }
+    go : (a b c d e f : Bool) → (First a b c d e f ≡ 0 → ⊥) → (eqb (answered (First a b c d e f)) 0 ≡ false) × (countGiven (answered (First a b c d e f)) ≡ false)
+    go false b c d e f n = (refl, refl)
+    go true false c d e f n = (refl, refl)
+    go true true false d e f n = (refl, refl)
+    go true true true false e f n = (refl, refl)
+    go true true true true false f n = (refl, refl)
+    go true true true true true false n = (refl, refl)
     go true true true true true true n = absurd (n refl)
 
 pub check-read : (rec : List ℕ) (x : Work) (r : Answer) (k : ℕ) → k ≡ readNumber rec → (k ≡ 0 → ⊥) → (r .number ≡ k) × (r .count ≡ 0) → CheckRecord faest rec x x r
-unfolding recordNumber
+unfolding countWith
 check-read rec x r k e bad a =
     let q = read-quiet rec (λ z. bad (e ∙ z)) in
     let n = a .0 ∙ e in
     record {
-      number = n ∙ sym (rw (ne-eqb (readNumber rec) 0 (λ z. bad (e ∙ z))) refl);
-      count = a .1 ∙ sym (rw n (q .count _));
-      buffers = rw (n, q .kept) refl;
+      number = n ∙ sym (number-refused faest rec _ (λ z. bad (e ∙ z)));
+      count = a .1 ∙ sym (rw (n, q .1) refl);
+      buffers = rw (n, q .0) refl;
     }
 
 -- ---- a record that is read; a is what reconstruct answers of its fields, y what it leaves
@@ -63,12 +59,11 @@ module _ (rec : List ℕ) (ok : readNumber rec ≡ 0) (x : Work) (y : Reconstruc
   said = ran-number faest c (lent c x) y a w
 
   pub check-work : (a .number ≡ 0 → ⊥) → CheckRecord faest rec x (workOf y) a
-  unfolding recordNumber lent
   check-work bad =
       let z : eqb (a .number) 0 ≡ false = ne-eqb (a .number) 0 bad in
       let e : eqb (a .number) 11 ≡ false = ap (λ (k : ℕ). eqb k 11) said ∙ not-eleven c (lent c x) in
       record {
-        number = sym (rw (ok, sym said, z) refl);
+        number = sym (lent-steps faest rec x ∙ rw (ok, sym said, z) refl);
         count = rw e (ran-count faest c (lent c x) y a w);
         buffers = rw (e, z) (ap workOf (ran-kept faest c (lent c x) y a w bad));
       }
@@ -82,19 +77,19 @@ module _ (rec : List ℕ) (ok : readNumber rec ≡ 0) (x : Work) (y : Reconstruc
     count = ran-count faest c (lent c x) y a w ∙ rw z refl
 
     pub check-eleven : (r : Answer) → sameBytes (y .commitment) (c .commitment) ≡ false → (r .number ≡ 11) × (r .count ≡ a .count) → CheckRecord faest rec x (workOf y) r
-    unfolding recordNumber countWith
+    unfolding countWith
     check-eleven r f b =
         record {
-          number = b .0 ∙ sym (rw (ok, sym said, z, sym left, f) refl);
+          number = b .0 ∙ sym (lent-steps faest rec x ∙ rw (ok, sym said, z, sym left, f) refl);
           count = b .1 ∙ count ∙ sym (rw (b .0) refl);
           buffers = rw (b .0) (ap workOf left);
         }
 
     pub check-accepted : sameBytes (y .commitment) (c .commitment) ≡ true → CheckRecord faest rec x (workOf y) a
-    unfolding recordNumber countWith
+    unfolding countWith
     check-accepted f =
         record {
-          number = z ∙ sym (rw (ok, sym said, z, sym left, f) refl);
+          number = z ∙ sym (lent-steps faest rec x ∙ rw (ok, sym said, z, sym left, f) refl);
           count = count ∙ sym (rw z refl);
           buffers = rw z (ap workOf left);
         }

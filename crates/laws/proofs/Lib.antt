@@ -21,5 +21,6 @@ pub mod Digits
 pub mod Running
 pub mod Parts
 pub mod Conjunctions
+pub mod Refusals
 pub mod Calls
 pub mod Words

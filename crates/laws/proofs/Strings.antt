@@ -1,15 +1,17 @@
--- Strings of digits: strings of zeros, a string put together of two, the number that a part of a string writes, and the xor of strings that stand side by side.
+-- Strings of digits: strings of zeros, a string put together of two, a part of one, one the other way round, the number that a part of a string writes, and the xor of strings that stand side by side.
 -- By induction on the strings.
 use mathlib.Core.Path.{_≡_, refl, sym, ap, ap₂, _∙_}
-use mathlib.Core.List.{List, [], _∷_, _++_}
+use mathlib.Core.List.{List, [], _∷_, _++_, reverse, reverseAux}
 use Prim.Native.Nat.{ℕ, zero, suc, _+_, _-_, _*_, _^_, _≤_, _<_}
 use native.Mathlib.Nat.{add-comm, zero-mul, sub-zero, zero-sub, suc-sub-suc}
 use native.Mathlib.Omega.{arith}
+use native.Mathlib.Decide.{decLt}
 use lib.Bits.{bitXor, xor-zero-l, xor-zero-r, xor-block}
-use lib.ListN.{length, getD, set, take, drop}
+use lib.ListN.{length, getD, set, take, drop, length-take, List·getD-eq-default}
 use lib.Pow.{pow-pos}
 use lib.Seq.{take-nil, drop-nil}
 use Rattle.spec.specs.Bytes.{part, tabulate, zeros, xorBytes, number}
+use Rattle.laws.proofs.Lists.{getD-part}
 use Rattle.laws.proofs.Numbers.{Digits}
 
 -- strings of zeros
@@ -52,6 +54,24 @@ pub digits-append : (k : ℕ) (a b : List ℕ) → Digits k a → Digits k b →
 digits-append k [] b ha hb i = hb i
 digits-append k (x ∷ a) b ha hb zero = ha zero
 digits-append k (x ∷ a) b ha hb (suc i) = digits-append k a b (λ i. ha (suc i)) hb i
+
+pub digits-part : (k : ℕ) (xs : List ℕ) (at n : ℕ) → Digits k xs → Digits k (part xs at n)
+digits-part k xs at n h i = go (decLt i n)
+  where
+    go : Dec (i < n) → getD (part xs at n) i 0 < 2 ^ k
+    go (yes l) = rw (getD-part xs at n i l) (h (at + i))
+    go (no l) = rw (List·getD-eq-default (part xs at n) 0 {n = i} (omega (arith, length-take n (drop at xs)))) (pow-pos k)
+
+pub digits-reverse : (k : ℕ) (xs : List ℕ) → Digits k xs → Digits k (reverse xs)
+digits-reverse k xs h = go xs [] h (λ i. pow-pos k)
+  where
+    both : (x : ℕ) (ys : List ℕ) → x < 2 ^ k → Digits k ys → Digits k (x ∷ ys)
+    both x ys p q zero = p
+    both x ys p q (suc i) = q i
+
+    go : (xs ys : List ℕ) → Digits k xs → Digits k ys → Digits k (reverseAux xs ys)
+    go [] ys h g = g
+    go (x ∷ xs) ys h g = go xs (x ∷ ys) (λ i. h (suc i)) (both x ys (h 0) g)
 
 -- the number that a part of a string writes, by its lowest digit; past its end a string has zeros
 pub number-part : (k : ℕ) (p : List ℕ) (at n : ℕ) → number k (part p at (suc n)) ≡ getD p at 0 + number k (part p (suc at) n) * 2 ^ k

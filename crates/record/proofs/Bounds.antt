@@ -45,11 +45,11 @@ pub row-small : (n : ℕ) → rowOk n ≡ true → n ≤ 65536
 unfolding rowOk
 row-small n h = leb-true n 65536 (both-true (leb 8 n) (leb n 65536) (both-true (eqb (n % 8) 0) _ h .1) .1)
 
-pub corrections-small : (s : Shape) (b : ℕ) → shapeOk s ≡ true → b ≤ 8192 → correctionsBytes s b ≤ 262144
+pub corrections-small : (s : Shape) (b : ℕ) → shapeOk s ≡ true → b ≤ 8192 → correctionsBytes s b ≤ 253952
 unfolding correctionsBytes
 corrections-small s b ok h =
     let f = shape-facts s ok in
-    let l : s .tau - 1 ≤ 32 = omega arith in
+    let l : s .tau - 1 ≤ 31 = omega arith in
     mul-le-mul h l
 
 pub opening-small : (s : Shape) → shapeOk s ≡ true → openingBytes s ≤ 9728

@@ -12,8 +12,9 @@ use Rattle.spec.specs.Bytes.{part}
 use Rattle.laws.proofs.Conjunctions.{both-true}
 use Rattle.laws.proofs.Lists.{length-part}
 use Rattle.laws.proofs.Numbers.{Digits}
+use Rattle.laws.proofs.Strings.{digits-part}
 use Rattle.record.specs.Fields.{bigEndian, bigEndianBytes, fieldOk, fieldAt, behind, fieldOf}
-use Rattle.record.proofs.Numbers.{digits-part, big-endian-bytes, length-big-endian, bytes-big-endian}
+use Rattle.record.proofs.Numbers.{big-endian-bytes, length-big-endian, bytes-big-endian}
 
 pub length-field : (x : List ℕ) → length (fieldOf x) ≡ 4 + length x
 unfolding fieldOf

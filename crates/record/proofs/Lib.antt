@@ -3,7 +3,7 @@ pub mod Examples
 pub mod Numbers
 pub mod Fields
 pub mod Bounds
-pub mod Refusals
 pub mod SameBytes
 pub mod ReadBack
 pub mod Reconstructing
+pub mod Host

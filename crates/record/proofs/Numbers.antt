@@ -1,25 +1,17 @@
 -- Numbers of several bytes, most significant first: bytes and number determine each other. From the laws of digits, the list the other way round.
-use Prim.Native.Nat.{ℕ, zero, suc, _+_, _*_, _^_, _<_, _≤_}
+use Prim.Native.Nat.{ℕ, suc, _+_, _*_, _^_, _<_, _≤_}
 use mathlib.Core.Path.{_≡_, sym, ap, _∙_}
-use mathlib.Core.List.{List, [], _∷_, reverse, reverseAux, reverse-reverse}
+use mathlib.Core.List.{List, [], _∷_, reverse, reverse-reverse}
 use native.Mathlib.Omega.{arith}
 use native.Mathlib.Numerals.{add-one}
-use native.Mathlib.Decide.{decLt}
-use lib.ListN.{length, getD, take, drop, length-take, length-reverse, List·getD-eq-default}
-use lib.Pow.{pow-pos}
-use lib.Seq.{drop-cons, getD-take, getD-drop}
+use lib.ListN.{length, getD, take, drop, length-reverse}
+use lib.Seq.{drop-cons}
 use Rattle.spec.specs.Bytes.{part, number, digits}
 use Rattle.laws.proofs.Lists.{length-tabulate}
 use Rattle.laws.proofs.Numbers.{Digits}
+use Rattle.laws.proofs.Strings.{digits-reverse}
 use Rattle.laws.proofs.Digits.{digits-number, number-digits}
 use Rattle.record.specs.Fields.{bigEndian, bigEndianBytes}
-
-pub digits-part : (k : ℕ) (xs : List ℕ) (at n : ℕ) → Digits k xs → Digits k (part xs at n)
-digits-part k xs at n h i = go (decLt i n)
-  where
-    go : Dec (i < n) → getD (part xs at n) i 0 < 2 ^ k
-    go (yes l) = rw (getD-take n (drop at xs) i 0 l, getD-drop at xs i 0) (h (at + i))
-    go (no l) = rw (List·getD-eq-default (part xs at n) 0 {n = i} (omega (arith, length-take n (drop at xs)))) (pow-pos k)
 
 pub big-endian-bytes : (n x : ℕ) → x < 2 ^ (8 * n) → bigEndian (bigEndianBytes n x) ≡ x
 unfolding bigEndian bigEndianBytes
@@ -29,19 +21,11 @@ pub length-big-endian : (n x : ℕ) → length (bigEndianBytes n x) ≡ n
 unfolding bigEndianBytes digits
 length-big-endian n x = length-reverse (digits 8 n x) ∙ length-tabulate n _
 
-reversed-digits : (k : ℕ) (xs ys : List ℕ) → Digits k xs → Digits k ys → Digits k (reverseAux xs ys)
-reversed-digits k [] ys h g = g
-reversed-digits k (x ∷ xs) ys h g = reversed-digits k xs (x ∷ ys) (λ i. h (suc i)) (both x ys (h 0) g)
-  where
-    both : (x : ℕ) (ys : List ℕ) → x < 2 ^ k → Digits k ys → Digits k (x ∷ ys)
-    both x ys p q zero = p
-    both x ys p q (suc i) = q i
-
 pub bytes-big-endian : (xs : List ℕ) → Digits 8 xs → bigEndianBytes (length xs) (bigEndian xs) ≡ xs
 unfolding bigEndian bigEndianBytes
 bytes-big-endian xs h =
     ap (λ (n : ℕ). reverse (digits 8 n (number 8 (reverse xs)))) (sym (length-reverse xs))
-    ∙ ap reverse (digits-number 8 (reverse xs) (reversed-digits 8 xs [] h (λ i. omega arith)))
+    ∙ ap reverse (digits-number 8 (reverse xs) (digits-reverse 8 xs h))
     ∙ reverse-reverse xs
 
 -- ---- two and four bytes of a string

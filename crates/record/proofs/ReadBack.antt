@@ -16,11 +16,12 @@ use Rattle.laws.specs.Lengths.{Sized}
 use Rattle.laws.proofs.Conjunctions.{both-true}
 use Rattle.laws.proofs.Lists.{length-part}
 use Rattle.laws.proofs.Numbers.{Digits}
+use Rattle.laws.proofs.Strings.{digits-part}
 use Rattle.record.specs.Fields.{bigEndian, bigEndianBytes, fieldOk, fieldOf}
 use Rattle.record.specs.Record.{versionOk, headBytes, headOf, shapeIn, rowIn, ivPlace, challengePlace, correctionsPlace, openingPlace, commitmentPlace, recordBytes, restOk, Contents, contentsOf, headTests, restTests, readNumber, headFor, recordOf}
-use Rattle.record.proofs.Numbers.{digits-part, big-endian-bytes, length-big-endian, bytes-big-endian}
+use Rattle.record.proofs.Numbers.{big-endian-bytes, length-big-endian, bytes-big-endian}
 use Rattle.record.proofs.Fields.{field-stands, field-read, field-behind, field-end, field-room, field-length, field-written}
-use Rattle.record.proofs.Refusals.{Passed, none-failed, all-passed}
+use Rattle.laws.proofs.Refusals.{Passed, none-failed, all-passed}
 use Rattle.record.proofs.Bounds.{given-small, row-small, corrections-small, opening-small}
 
 -- ---- the head

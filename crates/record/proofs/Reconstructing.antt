@@ -1,29 +1,41 @@
--- Reconstruct on the fields of a record: its contract in the names of check_record's contract, and of its tests those that reading leaves open. What depends on the
--- form of reconstruct's contract stands here alone.
+-- Reconstruct on the fields of a record: its contract in the names of check_record's contract, and with it the number of check_record: reading's, else reconstruct's, else 11.
+-- What depends on the form of reconstruct's contract stands here alone.
 use Prim.Native.Nat.{ℕ, _/_}
-use mathlib.Core.Path.{_≡_, refl, _∙_}
-use mathlib.Core.Bool.{Bool, true, false}
-use mathlib.Core.List.{List, [], _∷_}
+use mathlib.Core.Path.{_≡_, refl, sym, ap, _∙_}
+use mathlib.Core.Bool.{Bool, true, false, cond}
+use mathlib.Core.List.{List, [], _∷_, _++_}
 use lib.Dec.{eqb}
 use lib.ListN.{length}
-use borrow.Author.Tests.{eq-eqb, ne-eqb}
+use borrow.Author.Tests.{eq-eqb, eqb-true, eqb-false, ne-eqb}
 use Rattle.spec.specs.declared.Shape.{Shape}
 use Rattle.spec.specs.declared.Answer.{Answer}
+use Rattle.spec.specs.Bytes.{zeros}
 use Rattle.spec.specs.Shapes.{resolved, shapeOk, ivBytes, challengeBytes, hashBytes, openingBytes, correctionsBytes, grindingOk, plannedCount}
 use Rattle.spec.specs.Primitives.{Primitives}
 use Rattle.spec.specs.Verifier.{slotsOk}
 use Rattle.spec.specs.Calls.{firstRefusal, fits, rowOk, nodesOk, countWith, written, Reconstructed, reconstructLengths, reconstructNumber, Reconstruct}
 use Rattle.laws.specs.Lengths.{Sized}
 use Rattle.laws.proofs.Lengths.{fits-sized}
-use Rattle.record.specs.Record.{Contents, contentsOf, readNumber}
-use Rattle.record.specs.RecordCalls.{Work, workLengths, workOf, Reconstructs, fieldsNumber, made}
-use Rattle.record.proofs.Refusals.{none-failed}
+use Rattle.laws.proofs.Lists.{length-zeros}
+use Rattle.laws.proofs.Refusals.{Numbered, none-failed, then}
+use Rattle.record.specs.Record.{Contents, contentsOf, headTests, restTests, readNumber}
+use Rattle.record.specs.RecordCalls.{Work, workLengths, workOf, Reconstructs, made, sameBytes, workTests, recordNumber}
 use Rattle.record.proofs.ReadBack.{read-shape, read-row, read-sized}
+
+-- the buffers of reconstruct where the one for the commitment holds zeros
+abbrev pub lent : Contents → Work → Reconstructed
+lent c x = record { commitment = zeros (hashBytes (resolved (c .shape))); tree = x .tree; leafCommitments = x .leafCommitments; q = x .q }
+
+-- what reconstruct answers of the fields and its buffers
+unfoldable pub fieldsNumber : Contents → Reconstructed → ℕ
+fieldsNumber c x =
+    let s = resolved (c .shape) in
+    reconstructNumber s (c .row) (c .challenge) (c .opening) (reconstructLengths s (c .row / 8) (c .iv) (c .challenge) (c .corrections) (c .opening) x)
 
 abbrev countOf : Contents → ℕ
 countOf c = plannedCount (resolved (c .shape)) (c .challenge)
 
--- ---- what it says
+-- ---- what its contract says
 
 module _ (P : Primitives) (c : Contents) (x y : Reconstructed) (a : Answer) (w : Reconstructs P c x y a) where
   pub ran-number : a .number ≡ fieldsNumber c x
@@ -76,18 +88,10 @@ not-eleven c x =
     go true true true true true false = refl
     go true true true true true true = refl
 
--- its tests that reading leaves open
-abbrev pub openTests : Contents → Work → List (Bool × ℕ)
-openTests c x =
-    let s = resolved (c .shape) in
-    (fits (workLengths s (c .row / 8) x), 3)
-    ∷ (grindingOk s (c .challenge), 4)
-    ∷ (nodesOk s (c .challenge), 5)
-    ∷ (slotsOk s (c .challenge) (c .opening), 6)
-    ∷ []
-
+-- of its tests those that reading leaves open decide
 pub open-decide : (rec : List ℕ) (x : Reconstructed) → readNumber rec ≡ 0 → length (x .commitment) ≡ hashBytes (resolved (contentsOf rec .shape))
-    → fieldsNumber (contentsOf rec) x ≡ firstRefusal (openTests (contentsOf rec) (workOf x))
+    → fieldsNumber (contentsOf rec) x
+    ≡ (let c = contentsOf rec in firstRefusal (workTests c (workLengths (resolved (c .shape)) (c .row / 8) (workOf x))))
 unfolding fieldsNumber reconstructNumber
 open-decide rec x ok e =
     let q = read-sized rec ok in
@@ -126,3 +130,59 @@ fields-fit c x z =
     ∷ []) (refl, (refl, (refl, (refl, (refl, (refl, tt)))))) z in
     let q = fits-sized lengths (t .1 .1 .0) in
     (t .0, t .1 .0, (q .0, (q .1 .0, (q .1 .1 .0, (q .1 .1 .1 .0, tt)))))
+
+-- ---- the number of check_record
+
+module _ (P : Primitives) (rec : List ℕ) where
+  abbrev c : Contents
+  c = contentsOf rec
+
+  numbered : Numbered (headTests rec ++ restTests rec)
+  numbered = (refl, (refl, (refl, (refl, (refl, (refl, tt))))))
+
+  abbrev Last : List (Bool × ℕ)
+  Last = (sameBytes (made P c .commitment) (c .commitment), 11) ∷ []
+
+  pub number-refused : (lengths : List (ℕ × ℕ)) → (readNumber rec ≡ 0 → ⊥) → recordNumber P rec lengths ≡ readNumber rec
+  unfolding recordNumber readNumber
+  number-refused lengths bad =
+      then (headTests rec ++ restTests rec) (workTests c lengths ++ Last) numbered
+      ∙ ap (λ (t : Bool). cond t (firstRefusal (workTests c lengths ++ Last)) (readNumber rec)) (ne-eqb (readNumber rec) 0 bad)
+
+  pub number-read : (lengths : List (ℕ × ℕ)) → readNumber rec ≡ 0
+      → recordNumber P rec lengths
+      ≡ cond (eqb (firstRefusal (workTests (contentsOf rec) lengths)) 0) (cond (sameBytes (made P (contentsOf rec) .commitment) (contentsOf rec .commitment)) 0 11)
+      (firstRefusal (workTests (contentsOf rec) lengths))
+  unfolding recordNumber readNumber
+  number-read lengths ok =
+      then (headTests rec ++ restTests rec) (workTests c lengths ++ Last) numbered
+      ∙ ap (λ (k : ℕ). cond (eqb k 0) (firstRefusal (workTests c lengths ++ Last)) k) ok
+      ∙ then (workTests c lengths) Last (refl, (refl, (refl, (refl, tt))))
+
+  pub number-three : (lengths : List (ℕ × ℕ)) → readNumber rec ≡ 0 → fits lengths ≡ false → recordNumber P rec lengths ≡ 3
+  number-three lengths ok f = number-read lengths ok ∙ rw f refl
+
+  -- reading, then reconstruct with buffers x, then the comparison
+  pub number-steps : (x : Reconstructed) → length (x .commitment) ≡ hashBytes (resolved (contentsOf rec .shape))
+      → recordNumber P rec (workLengths (resolved (contentsOf rec .shape)) (contentsOf rec .row / 8) (workOf x))
+      ≡ firstRefusal
+      ((eqb (readNumber rec) 0, readNumber rec)
+      ∷ (eqb (fieldsNumber (contentsOf rec) x) 0, fieldsNumber (contentsOf rec) x)
+      ∷ (sameBytes (made P (contentsOf rec) .commitment) (contentsOf rec .commitment), 11)
+      ∷ [])
+  number-steps x e = go (eqb (readNumber rec) 0) refl
+    where
+      go : (t : Bool) → eqb (readNumber rec) 0 ≡ t
+          → recordNumber P rec (workLengths (resolved (c .shape)) (c .row / 8) (workOf x))
+          ≡ firstRefusal ((eqb (readNumber rec) 0, readNumber rec) ∷ (eqb (fieldsNumber c x) 0, fieldsNumber c x) ∷ Last)
+      go true t = (let ok = eqb-true (readNumber rec) 0 t in number-read (workLengths (resolved (c .shape)) (c .row / 8) (workOf x)) ok ∙ sym (rw (t, open-decide rec x ok e) refl))
+      go false t = number-refused (workLengths (resolved (c .shape)) (c .row / 8) (workOf x)) (eqb-false (readNumber rec) 0 t) ∙ sym (rw t refl)
+
+  pub lent-steps : (x : Work)
+      → recordNumber P rec (workLengths (resolved (contentsOf rec .shape)) (contentsOf rec .row / 8) x)
+      ≡ firstRefusal
+      ((eqb (readNumber rec) 0, readNumber rec)
+      ∷ (eqb (fieldsNumber (contentsOf rec) (lent (contentsOf rec) x)) 0, fieldsNumber (contentsOf rec) (lent (contentsOf rec) x))
+      ∷ (sameBytes (made P (contentsOf rec) .commitment) (contentsOf rec .commitment), 11)
+      ∷ [])
+  lent-steps x = number-steps (lent c x) (length-zeros (hashBytes (resolved (c .shape))))

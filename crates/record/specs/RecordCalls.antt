@@ -1,20 +1,20 @@
 -- Document 02, E6: for each call on a record its number, its count and every buffer that it may write, after it. The record with the call's name is its
 -- contract, with P at `faest`.
-use Prim.Native.Nat.{ℕ, _/_}
+use Prim.Native.Nat.{ℕ, _/_, _≤_}
 use mathlib.Core.Path.{_≡_}
 use mathlib.Core.Bool.{Bool, true, false, _&&_, cond}
-use mathlib.Core.List.{List, [], _∷_}
+use mathlib.Core.List.{List, [], _∷_, _++_}
 use lib.Dec.{eqb}
 use lib.ListN.{length}
 use Rattle.spec.specs.declared.Shape.{Shape}
 use Rattle.spec.specs.declared.Answer.{Answer}
-use Rattle.spec.specs.Bytes.{zeros}
-use Rattle.spec.specs.Shapes.{resolved, shapeOk, challengeBytes, hashBytes, ivBytes, treeBytes, leafCommitmentsBytes, openingBytes, matrixBytes, correctionsBytes, plannedCount}
+use Rattle.spec.specs.Shapes.{resolved, shapeOk, challengeBytes, hashBytes, ivBytes, treeBytes, leafCommitmentsBytes, openingBytes, matrixBytes, correctionsBytes, grindingOk, plannedCount}
 use Rattle.spec.specs.Primitives.{Primitives}
-use Rattle.spec.specs.Calls.{firstRefusal, fits, rowOk, countWith, written, Reconstructed, reconstructed, reconstructNumber, Reconstruct, wholeRow, reconstructLengths}
+use Rattle.spec.specs.Verifier.{slotsOk}
+use Rattle.spec.specs.Calls.{firstRefusal, fits, rowOk, nodesOk, wholeRow, countWith, written, Reconstructed, reconstructed, Reconstruct}
 use Rattle.record.specs.declared.Lengths.{Lengths}
 use Rattle.record.specs.declared.RecordLength.{RecordLength}
-use Rattle.record.specs.Record.{recordBytes, Contents, contentsOf, headNumber, readNumber, recordOf}
+use Rattle.record.specs.Record.{recordBytes, Contents, contentsOf, headTests, restTests, headNumber, recordOf}
 
 -- ---- the work buffers, lent to check_record
 
@@ -28,36 +28,27 @@ abbrev pub workLengths : Shape → ℕ → Work → List (ℕ × ℕ)
 workLengths s b x =
     (length (x .tree), treeBytes s) ∷ (length (x .leafCommitments), leafCommitmentsBytes s) ∷ (length (x .q), matrixBytes s b) ∷ []
 
--- ---- work_lengths: the lengths that a record asks for
+-- ---- work_lengths: the lengths that a record's front asks for, and the largest that any does
 
 pub record WorkLengths (rec : List ℕ) (r : Lengths) : Type 0 where
   pub number : r .number ≡ headNumber rec
   pub tree : r .tree ≡ written (r .number) (treeBytes (resolved (contentsOf rec .shape))) 0
   pub leafCommitments : r .«leaf_commitments» ≡ written (r .number) (leafCommitmentsBytes (resolved (contentsOf rec .shape))) 0
   pub q : r .q ≡ written (r .number) (matrixBytes (resolved (contentsOf rec .shape)) (contentsOf rec .row / 8)) 0
+  pub most : (r .tree ≤ 1310704) × (r .«leaf_commitments» ≤ 1966080) × (r .q ≤ 1048576)
 
 -- ---- check_record
 
--- the buffers of reconstruct: the work buffers, and one of the call's own for the commitment, which has its length; and the work buffers among them
-unfoldable pub lent : Contents → Work → Reconstructed
-lent c x = record { commitment = zeros (hashBytes (resolved (c .shape))); tree = x .tree; leafCommitments = x .leafCommitments; q = x .q }
-
-abbrev pub workOf : Reconstructed → Work
-workOf y = record { tree = y .tree; leafCommitments = y .leafCommitments; q = y .q }
-
--- the contract of reconstruct on the fields
+-- the contract of reconstruct on the fields, and what it makes of them
 abbrev pub Reconstructs : Primitives → Contents → Reconstructed → Reconstructed → Answer → Type 0
 Reconstructs P c before after r = Reconstruct P (c .shape) (c .row) (c .iv) (c .challenge) (c .corrections) (c .opening) before after r
 
--- what it answers of them and its buffers
-unfoldable pub fieldsNumber : Contents → Reconstructed → ℕ
-fieldsNumber c x =
-    let s = resolved (c .shape) in
-    reconstructNumber s (c .row) (c .challenge) (c .opening) (reconstructLengths s (c .row / 8) (c .iv) (c .challenge) (c .corrections) (c .opening) x)
-
--- what it makes of them
 unfoldable pub made : Primitives → Contents → Reconstructed
 made P c = reconstructed P (resolved (c .shape)) (wholeRow (c .row)) (c .iv) (c .challenge) (c .corrections) (c .opening)
+
+-- the work buffers among the buffers of reconstruct
+abbrev pub workOf : Reconstructed → Work
+workOf y = record { tree = y .tree; leafCommitments = y .leafCommitments; q = y .q }
 
 unfoldable pub sameBytes : List ℕ → List ℕ → Bool
 sameBytes [] [] = true
@@ -65,28 +56,39 @@ sameBytes [] (y ∷ ys) = false
 sameBytes (x ∷ xs) [] = false
 sameBytes (x ∷ xs) (y ∷ ys) = eqb x y && sameBytes xs ys
 
--- reading, then reconstruct, each by its own number; then the comparison
-unfoldable pub recordNumber : Primitives → List ℕ → Work → ℕ
-recordNumber P rec x =
+-- what is tested behind reading: the work buffers, by their lengths, then what reconstruct tests, then the comparison
+abbrev pub workTests : Contents → List (ℕ × ℕ) → List (Bool × ℕ)
+workTests c lengths =
+    let s = resolved (c .shape) in
+    (fits lengths, 3)
+    ∷ (grindingOk s (c .challenge), 4)
+    ∷ (nodesOk s (c .challenge), 5)
+    ∷ (slotsOk s (c .challenge) (c .opening), 6)
+    ∷ []
+
+unfoldable pub recordNumber : Primitives → List ℕ → List (ℕ × ℕ) → ℕ
+recordNumber P rec lengths =
     let c = contentsOf rec in
-    let n = fieldsNumber c (lent c x) in
-    firstRefusal
-    ((eqb (readNumber rec) 0, readNumber rec) ∷ (eqb n 0, n) ∷ (sameBytes (made P c .commitment) (c .commitment), 11) ∷ [])
+    firstRefusal ((headTests rec ++ restTests rec) ++ (workTests c lengths ++ ((sameBytes (made P c .commitment) (c .commitment), 11) ∷ [])))
 
 -- with 11 reconstruct answered 0, and the count and the buffers are as with 0
 abbrev pub answered : ℕ → ℕ
 answered number = cond (eqb number 11) 0 number
 
 pub record CheckRecord (P : Primitives) (rec : List ℕ) (before after : Work) (r : Answer) : Type 0 where
-  pub number : r .number ≡ recordNumber P rec before
+  pub number : r .number ≡ recordNumber P rec (workLengths (resolved (contentsOf rec .shape)) (contentsOf rec .row / 8) before)
   pub count : r .count ≡ countWith (answered (r .number)) (plannedCount (resolved (contentsOf rec .shape)) (contentsOf rec .challenge))
   pub buffers : after ≡ written (answered (r .number)) (workOf (made P (contentsOf rec))) before
 
--- ---- record_length: how long a record is
+-- ---- record_length: how long a record is, and the longest
+
+unfoldable pub lengthNumber : Shape → ℕ → ℕ
+lengthNumber s n = firstRefusal ((shapeOk (resolved s), 1) ∷ (rowOk n, 2) ∷ [])
 
 pub record LengthOf (s : Shape) (n : ℕ) (r : RecordLength) : Type 0 where
-  pub number : r .number ≡ firstRefusal ((shapeOk (resolved s), 1) ∷ (rowOk n, 2) ∷ [])
+  pub number : r .number ≡ lengthNumber s n
   pub bytes : r .bytes ≡ written (r .number) (recordBytes (resolved s) (n / 8)) 0
+  pub most : r .bytes ≤ 263778
 
 -- ---- write_record
 

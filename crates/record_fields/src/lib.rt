@@ -96,7 +96,7 @@ pub fn row_in(head: &[u8]) -> usize
 // The lengths of the corrections and of the opening.
 pub fn corrections_length(s: Shape, b: usize) -> usize
     requires { ⌜ (shapeOk s ≡ true) × (b ≤ 8192) ⌝ }
-    ensures { λ r. ⌜ (r ≡ correctionsBytes s b) × (r ≤ 262144) ⌝ }
+    ensures { λ r. ⌜ (r ≡ correctionsBytes s b) × (r ≤ 253952) ⌝ }
 {
     b * (s.tau - 1)
 }
@@ -111,21 +111,21 @@ pub fn opening_length(s: Shape) -> usize
 // Where the opening and the commitment begin, and where the record ends.
 pub fn opening_place(s: Shape, b: usize) -> usize
     requires { ⌜ (shapeOk s ≡ true) × (b ≤ 8192) ⌝ }
-    ensures { λ r. ⌜ (r ≡ openingPlace s b) × (r ≤ 262202) ⌝ }
+    ensures { λ r. ⌜ (r ≡ openingPlace s b) × (r ≤ 254010) ⌝ }
 {
     58 + corrections_length(s, b)
 }
 
 pub fn commitment_place(s: Shape, b: usize) -> usize
     requires { ⌜ (shapeOk s ≡ true) × (b ≤ 8192) ⌝ }
-    ensures { λ r. ⌜ (r ≡ commitmentPlace s b) × (r ≤ 271934) ⌝ }
+    ensures { λ r. ⌜ (r ≡ commitmentPlace s b) × (r ≤ 263742) ⌝ }
 {
     opening_place(s, b) + 4 + opening_length(s)
 }
 
 pub fn record_length(s: Shape, b: usize) -> usize
     requires { ⌜ (shapeOk s ≡ true) × (b ≤ 8192) ⌝ }
-    ensures { λ r. ⌜ (r ≡ recordBytes s b) × (r ≤ 271970) ⌝ }
+    ensures { λ r. ⌜ (r ≡ recordBytes s b) × (r ≤ 263778) ⌝ }
 {
     commitment_place(s, b) + 36
 }

@@ -12,7 +12,7 @@ use Rattle.spec.specs.Calls.{firstRefusal}
 use Rattle.rules.proofs.RowLength.{row-max}
 use Rattle.record.specs.Fields.{fieldOk}
 use Rattle.record.specs.Record.{recordBytes, restOk, contentsOf, headTests, restTests, headNumber, readNumber}
-use Rattle.record.proofs.Refusals.{Numbered, Passed, none-failed, all-passed, then}
+use Rattle.laws.proofs.Refusals.{Numbered, Passed, none-failed, all-passed, then}
 use Rattle.record.proofs.ReadBack.{read-version, read-head, read-shape, read-row}
 
 module _ (rec : List ℕ) where

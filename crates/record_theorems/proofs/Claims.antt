@@ -1,4 +1,4 @@
--- The claims of ../specs. Reading back by the laws of records; the order of the tests because a record that is read has an allowed shape and fields of their lengths; an
+-- The claims of ../specs. Reading back by the laws of records; the steps of check_record because a record that is read has an allowed shape and fields of their lengths; an
 -- honest record from demand 3.
 use Prim.Native.Nat.{ℕ, _/_, _≤_}
 use mathlib.Core.Path.{_≡_, refl, sym, ap, _∙_}
@@ -7,7 +7,7 @@ use mathlib.Core.List.{List, [], _∷_, _++_}
 use native.Mathlib.Omega.{arith}
 use lib.Dec.{eqb}
 use lib.ListN.{length}
-use borrow.Author.Tests.{eqb-true, eqb-false}
+use borrow.Author.Tests.{eq-eqb, eqb-true, eqb-false}
 use Rattle.spec.specs.declared.Shape.{Shape}
 use Rattle.spec.specs.declared.Answer.{Answer}
 use Rattle.spec.specs.Bytes.{zeros}
@@ -17,17 +17,20 @@ use Rattle.spec.specs.Hashes.{hash1}
 use Rattle.spec.specs.Primitives.{Primitives, faest}
 use Rattle.spec.specs.Leaves.{commitmentOf}
 use Rattle.spec.specs.Calls.{firstRefusal, fits, countWith, written, rowOk, Committed, committed, Commit, Open, Reconstructed}
+use Rattle.spec.specs.HostCalls.{wordBytes, countSlice}
 use Rattle.laws.specs.Lengths.{Sized}
 use Rattle.laws.proofs.Lengths.{sized-fits, fits-sized}
 use Rattle.laws.proofs.Lists.{length-tabulate, length-zeros}
 use Rattle.theorems.proofs.Demand3.{demand3}
-use Rattle.record.specs.Record.{recordBytes, Contents, contentsOf, headTests, restTests, readNumber, recordOf}
-use Rattle.record.specs.RecordCalls.{Work, workLengths, lent, workOf, Reconstructs, fieldsNumber, made, sameBytes, recordNumber, CheckRecord, writeNumber, WriteRecord}
-use Rattle.record.proofs.Refusals.{none-failed, all-passed, then}
+use Rattle.record.specs.Record.{recordBytes, Contents, contentsOf, headNumber, readNumber, recordOf}
+use Rattle.record.specs.RecordCalls.{Work, workLengths, workOf, made, sameBytes, recordNumber, answered, CheckRecord, lengthNumber, writeNumber, WriteRecord}
+use Rattle.record.specs.HostRecordCalls.{HostCheckRecord, workWords}
+use Rattle.laws.proofs.Words.{count-slice}
+use Rattle.laws.proofs.Refusals.{none-failed, all-passed}
 use Rattle.record.proofs.SameBytes.{same-refl, same-equal}
 use Rattle.record.proofs.ReadBack.{Lengths, contents-back, reads-back, read-only}
-use Rattle.record.proofs.Reconstructing.{ran-number, ran-made, reconstructs, openTests, open-decide, fields-fit}
-use Rattle.record_theorems.specs.Claims.{ReadBack, Order, Accepts, AcceptedMeans, Honest, HonestAccepted}
+use Rattle.record.proofs.Reconstructing.{lent, fieldsNumber, ran-number, ran-made, reconstructs, fields-fit, number-steps}
+use Rattle.record_theorems.specs.Claims.{ReadBack, Ran, Steps, Accepts, AcceptedMeans, Honest, HonestAccepted, Exported}
 
 -- ---- reading back
 
@@ -57,7 +60,7 @@ write-zero c x a b d = all-passed (WriteTests c x) (a, (b, (sized-fits (Lengths 
 pub read-back : ReadBack
 read-back = record { back = back; only = λ rec c bytes ok e. read-only rec ok bytes ∙ ap recordOf e }
 
--- ---- the order of the tests
+-- ---- the steps of check_record
 
 -- two numbers and a test, one after another, give 0
 three : (m k : ℕ) (b : Bool) → firstRefusal ((eqb m 0, m) ∷ (eqb k 0, k) ∷ (b, 11) ∷ []) ≡ 0 → (m ≡ 0) × (k ≡ 0) × (b ≡ true)
@@ -70,51 +73,40 @@ three m k b h = go (eqb m 0) (eqb k 0) b refl refl h
     go true true true e f h = (eqb-true m 0 e, eqb-true k 0 f, refl)
 
 module _ (P : Primitives) where
-  abbrev Last : List ℕ → List (Bool × ℕ)
-  Last rec = (sameBytes (made P (contentsOf rec) .commitment) (contentsOf rec .commitment), 11) ∷ []
-
-  order : (rec : List ℕ) (x : Work) → recordNumber P rec x ≡ firstRefusal ((headTests rec ++ restTests rec) ++ (openTests (contentsOf rec) x ++ Last rec))
-  unfolding recordNumber readNumber lent
-  order rec x =
-      go (eqb (readNumber rec) 0) refl
-      ∙ sym (then (headTests rec ++ restTests rec) (openTests (contentsOf rec) x ++ Last rec) (refl, (refl, (refl, (refl, (refl, (refl, tt)))))))
+  steps : (rec : List ℕ) (before after : Work) (r : Answer) (commitment : List ℕ) (y : Reconstructed) (a : Answer)
+      → CheckRecord P rec before after r
+      → Ran P rec before commitment y a
+      → r .number
+      ≡ firstRefusal
+      ((eqb (readNumber rec) 0, readNumber rec) ∷ (eqb (a .number) 0, a .number) ∷ (sameBytes (y .commitment) (contentsOf rec .commitment), 11) ∷ [])
+  steps rec before after r commitment y a k w =
+      let c = contentsOf rec in
+      let x : Reconstructed = record { commitment = commitment; tree = before .tree; leafCommitments = before .leafCommitments; q = before .q } in
+      let n = ran-number P c x y a (w .1) in
+      k .number ∙ number-steps P rec x (w .0) ∙ ap (λ (m : ℕ). firstRefusal ((eqb (readNumber rec) 0, readNumber rec) ∷ (eqb m 0, m) ∷ (sameBytes (made P c .commitment) (c .commitment), 11) ∷ [])) (sym n)
+      ∙ same (eqb (readNumber rec) 0) (eqb (a .number) 0) refl c (ran-made P c x y a (w .1))
     where
-      go : (z : Bool) → eqb (readNumber rec) 0 ≡ z → recordNumber P rec x ≡ cond (eqb (readNumber rec) 0) (firstRefusal (openTests (contentsOf rec) x ++ Last rec)) (readNumber rec)
-      go true e =
-          rw (e, open-decide rec (lent (contentsOf rec) x) (eqb-true (readNumber rec) 0 e) (length-zeros (hashBytes (resolved (contentsOf rec .shape)))))
-          (sym (then (openTests (contentsOf rec) x) (Last rec) (refl, (refl, (refl, (refl, tt))))))
-      go false e = rw e refl
+      same : (p q : Bool) → eqb (a .number) 0 ≡ q → (c : Contents) → (a .number ≡ 0 → y ≡ made P c)
+          → firstRefusal ((p, readNumber rec) ∷ (q, a .number) ∷ (sameBytes (made P c .commitment) (c .commitment), 11) ∷ [])
+          ≡ firstRefusal ((p, readNumber rec) ∷ (q, a .number) ∷ (sameBytes (y .commitment) (c .commitment), 11) ∷ [])
+      same false q e c f = refl
+      same true false e c f = refl
+      same true true e c f = ap (λ (u : Reconstructed). cond (sameBytes (u .commitment) (c .commitment)) 0 11) (sym (f (eqb-true (a .number) 0 e)))
 
-  pub tests-order : Order P
-  tests-order = record { tests = order }
+  pub in-steps : Steps P
+  in-steps = record { steps = steps }
 
   -- ---- accepted
 
-  -- reconstruct's number depends on the commitment's buffer by its length alone
-  same-number : (rec : List ℕ) (x : Reconstructed) → readNumber rec ≡ 0 → length (x .commitment) ≡ hashBytes (resolved (contentsOf rec .shape))
-      → fieldsNumber (contentsOf rec) x ≡ fieldsNumber (contentsOf rec) (lent (contentsOf rec) (workOf x))
-  unfolding lent
-  same-number rec x ok e =
-      open-decide rec x ok e
-      ∙ sym (open-decide rec (lent (contentsOf rec) (workOf x)) ok (length-zeros (hashBytes (resolved (contentsOf rec .shape)))))
-
   accepts : (rec : List ℕ) (before after : Work) (r : Answer) (commitment : List ℕ) (y : Reconstructed) (a : Answer)
       → CheckRecord P rec before after r
-      → length commitment ≡ hashBytes (resolved (contentsOf rec .shape))
-      → Reconstructs P (contentsOf rec) (record { commitment = commitment; tree = before .tree; leafCommitments = before .leafCommitments; q = before .q }) y a
-      → Accepts P rec r y a
-  unfolding recordNumber
-  accepts rec before after r commitment y a k e w =
-      let c = contentsOf rec in
-      let x : Reconstructed = record { commitment = commitment; tree = before .tree; leafCommitments = before .leafCommitments; q = before .q } in
-      let number : readNumber rec ≡ 0 → a .number ≡ fieldsNumber c (lent c before) = λ ok. ran-number P c x y a w ∙ same-number rec x ok e in
-      let wrote : a .number ≡ 0 → y .commitment ≡ made P c .commitment = λ n. ap (λ (u : Reconstructed). u .commitment) (ran-made P c x y a w n) in
+      → Ran P rec before commitment y a
+      → Accepts rec r y a
+  accepts rec before after r commitment y a k w =
+      let s = steps rec before after r commitment y a k w in
       record {
-        only = λ z.
-            let t = three (readNumber rec) (fieldsNumber c (lent c before)) _ (sym (k .number) ∙ z) in
-            let n = number (t .0) ∙ t .1 in
-            (t .0, n, wrote n ∙ same-equal _ _ (t .2));
-        always = λ ok n g. k .number ∙ rw (ok, sym (number ok) ∙ n, sym (wrote n) ∙ g, same-refl (c .commitment)) refl;
+        only = λ z. let t = three (readNumber rec) (a .number) _ (sym s ∙ z) in (t .0, t .1, same-equal _ _ (t .2));
+        always = λ ok n g. s ∙ rw (ok, n, g, same-refl (contentsOf rec .commitment)) refl;
       }
 
   pub accepted-means : AcceptedMeans P
@@ -127,9 +119,9 @@ commitment-length : (s : Shape) (n : ℕ) (root iv : List ℕ) (x y : Committed)
 unfolding committed commitmentOf faest hash1 shake sponge
 commitment-length s n root iv x y a m z = rw (m .buffers, z) (length-tabulate (hashBytes (resolved s)) _)
 
-honest : (s : Shape) (n : ℕ) (root iv ch opening opening′ before after : List ℕ) (signer signer′ : Committed) (work work′ : Work) (made opened wrote checked : Answer)
-    → Commit faest s n root iv signer signer′ made
-    → made .number ≡ 0
+honest : (s : Shape) (n : ℕ) (root iv ch opening opening′ before after : List ℕ) (signer signer′ : Committed) (work work′ : Work) (made₀ opened wrote checked : Answer)
+    → Commit faest s n root iv signer signer′ made₀
+    → made₀ .number ≡ 0
     → Open s ch (signer′ .tree) (signer′ .leafCommitments) opening opening′ opened
     → WriteRecord
     (record { shape = s; row = n; iv = iv; challenge = ch; corrections = signer′ .corrections; opening = opening′; commitment = signer′ .commitment })
@@ -143,7 +135,7 @@ honest : (s : Shape) (n : ℕ) (root iv ch opening opening′ before after : Lis
     → grindingOk (resolved s) ch ≡ true
     → plannedCount (resolved s) ch ≤ resolved s .t
     → Honest (resolved s) ch opened wrote checked
-unfolding lent countWith
+unfolding countWith
 honest s n root iv ch opening opening′ before after signer signer′ work work′ made₀ opened wrote checked m mz o w k sized grinding within =
     let c : Contents = record { shape = s; row = n; iv = iv; challenge = ch; corrections = signer′ .corrections; opening = opening′; commitment = signer′ .commitment } in
     let x = lent c work in
@@ -159,9 +151,62 @@ honest s n root iv ch opening opening′ before after signer signer′ work work
     let wz : wrote .number ≡ 0 = w .number
     ∙ write-zero c before (f .0) (f .1) (q .0, (q .1 .0, (q .1 .1 .0, (q .1 .1 .1 .0, (commitment-length s n root iv signer signer′ made₀ m mz, (sized .1 .1 .0, tt)))))) in
     let b = back c before after wrote w wz in
-    let means = accepts faest after work work′ checked (zeros (hashBytes (resolved s))) y a k (rw (b .1) z) (rw (b .1) ran) in
+    let means = accepts faest after work work′ checked (zeros (hashBytes (resolved s))) y a k (rw (b .1) z, rw (b .1) ran) in
     let kz : checked .number ≡ 0 = means .always (b .0) (acc .check-number) (rw (b .1) (acc .commitment)) in
     record { open-number = acc .open-number; write-number = wz; check-number = kz; check-count = k .count ∙ rw (kz, b .1) refl }
 
 pub honest-accepted : HonestAccepted
 honest-accepted = record { accepted = honest }
+
+-- ---- the exported calls
+
+module _ (P : Primitives) where
+  check : (rec count count′ : List ℕ) (x y z : Work) (r : Answer) (n : ℕ)
+      → CheckRecord P rec x y r
+      → HostCheckRecord P rec x z count count′ n
+      → length count ≡ 4
+      → (n ≡ r .number) × (z ≡ y) × (count′ ≡ countSlice (answered (r .number)) (r .count) count)
+  unfolding recordNumber
+  check rec count count′ x y z r n k h e =
+      let t = eq-eqb (length count) 4 e in
+      let same : n ≡ r .number = h .number ∙ rw t (sym (k .number)) in (
+        same,
+        h .buffers ∙ ap (λ (m : ℕ). written (answered m) (workOf (made P (contentsOf rec))) x) same ∙ sym (k .buffers),
+        h .counted ∙ ap (λ (m : ℕ). countSlice (answered m) (plannedCount (resolved (contentsOf rec .shape)) (contentsOf rec .challenge)) count) same
+            ∙ sym (ap (λ (m : ℕ). countSlice (answered (r .number)) m count) (k .count) ∙ count-slice (answered (r .number)) _ count),
+      )
+
+  -- a slice that has its length leaves the number of the call beneath
+  only-first : (k n m : ℕ) → n ≡ m → firstRefusal ((eqb k 0, k) ∷ (fits ((n, m) ∷ []), 3) ∷ []) ≡ k
+  only-first k n m e = go (eqb k 0) refl
+    where
+      go : (t : Bool) → eqb k 0 ≡ t → cond t (cond (fits ((n, m) ∷ [])) 0 3) k ≡ k
+      go true z = rw (eq-eqb n m e) (sym (eqb-true k 0 z))
+      go false z = refl
+
+  -- what is written with 0 only
+  put-same : (k : ℕ) (xs ys before : List ℕ) → (k ≡ 0 → xs ≡ ys) → written k (wordBytes xs) before ≡ written k (wordBytes ys) before
+  put-same k xs ys before f = go (eqb k 0) refl
+    where
+      go : (t : Bool) → eqb k 0 ≡ t → cond t (wordBytes xs) before ≡ cond t (wordBytes ys) before
+      go true z = ap wordBytes (f (eqb-true k 0 z))
+      go false z = refl
+
+  pub exported : Exported P
+  exported =
+      record {
+        check = check;
+        work-lengths = λ rec before after l n w h e.
+            let same = h .number ∙ only-first (headNumber rec) (length before) 12 e ∙ sym (w .number) in (
+              same,
+              h .lengths ∙ ap (λ (m : ℕ). written m (wordBytes (workWords rec)) before) same
+                  ∙ put-same (l .number) (workWords rec) (l .tree ∷ l .«leaf_commitments» ∷ l .q ∷ []) before
+                  (λ z. sym (rw (w .tree, w .leafCommitments, w .q, z) refl)),
+            );
+        record-length = λ s bits before after l n w h e.
+            let same = h .number ∙ only-first (lengthNumber s bits) (length before) 4 e ∙ sym (w .number) in (
+              same,
+              h .bytes ∙ ap (λ (m : ℕ). written m (wordBytes (recordBytes (resolved s) (bits / 8) ∷ [])) before) same
+                  ∙ put-same (l .number) (recordBytes (resolved s) (bits / 8) ∷ []) (l .bytes ∷ []) before (λ z. sym (rw (w .bytes, z) refl)),
+            );
+      }

@@ -2,42 +2,46 @@
 use Prim.Native.Nat.{ℕ, _/_, _≤_}
 use mathlib.Core.Path.{_≡_}
 use mathlib.Core.Bool.{true}
-use mathlib.Core.List.{List, [], _∷_, _++_}
+use mathlib.Core.List.{List, [], _∷_}
+use lib.Dec.{eqb}
 use lib.ListN.{length}
 use Rattle.spec.specs.declared.Shape.{Shape}
 use Rattle.spec.specs.declared.Answer.{Answer}
 use Rattle.spec.specs.Shapes.{resolved, challengeBytes, hashBytes, openingBytes, grindingOk, plannedCount}
 use Rattle.spec.specs.Primitives.{Primitives, faest}
-use Rattle.spec.specs.Verifier.{slotsOk}
-use Rattle.spec.specs.Calls.{firstRefusal, fits, nodesOk, Committed, Commit, Open, Reconstructed}
+use Rattle.spec.specs.Calls.{firstRefusal, written, Committed, Commit, Open, Reconstructed}
+use Rattle.spec.specs.HostCalls.{wordBytes, countSlice}
 use Rattle.laws.specs.Lengths.{Sized}
 use Rattle.laws.proofs.Numbers.{Digits}
-use Rattle.record.specs.Record.{recordBytes, Contents, contentsOf, headTests, restTests, readNumber, recordOf}
-use Rattle.record.specs.RecordCalls.{Work, workLengths, Reconstructs, made, sameBytes, recordNumber, CheckRecord, WriteRecord}
+use Rattle.record.specs.declared.Lengths.{Lengths}
+use Rattle.record.specs.declared.RecordLength.{RecordLength}
+use Rattle.record.specs.Record.{recordBytes, Contents, contentsOf, readNumber, recordOf}
+use Rattle.record.specs.RecordCalls.{Work, workLengths, WorkLengths, Reconstructs, sameBytes, answered, CheckRecord, LengthOf, WriteRecord}
+use Rattle.record.specs.HostRecordCalls.{HostCheckRecord, HostWorkLengths, HostRecordLength}
 
 -- a written record is read back as the same fields, and no other string of bytes is read so
 pub record ReadBack : Type 0 where
   pub back : (c : Contents) (before after : List ℕ) (r : Answer) → WriteRecord c before after r → r .number ≡ 0 → (readNumber after ≡ 0) × (contentsOf after ≡ c)
   pub only : (rec : List ℕ) (c : Contents) → Digits 8 rec → readNumber rec ≡ 0 → contentsOf rec ≡ c → rec ≡ recordOf c
 
--- the tests of check_record in their order, each with its number
-pub record Order (P : Primitives) : Type 0 where
-  pub tests :
-      (rec : List ℕ) (x : Work)
-      → recordNumber P rec x
-      ≡ (let c = contentsOf rec in
-      let s = resolved (c .shape) in
-      firstRefusal
-      ((headTests rec ++ restTests rec)
-      ++ ((fits (workLengths s (c .row / 8) x), 3)
-      ∷ (grindingOk s (c .challenge), 4)
-      ∷ (nodesOk s (c .challenge), 5)
-      ∷ (slotsOk s (c .challenge) (c .opening), 6)
-      ∷ (sameBytes (made P c .commitment) (c .commitment), 11)
-      ∷ [])))
+-- reconstruct on the fields of a record, with the lent work buffers and any buffer for the commitment that has its length
+abbrev pub Ran : Primitives → List ℕ → Work → List ℕ → Reconstructed → Answer → Type 0
+Ran P rec x commitment y a =
+    (length commitment ≡ hashBytes (resolved (contentsOf rec .shape)))
+    × Reconstructs P (contentsOf rec) (record { commitment = commitment; tree = x .tree; leafCommitments = x .leafCommitments; q = x .q }) y a
 
--- a record is accepted exactly when it is read, reconstruct accepts its fields with the lent buffers, and what it writes as commitment is the record's
-pub record Accepts (P : Primitives) (rec : List ℕ) (r : Answer) (y : Reconstructed) (a : Answer) : Type 0 where
+-- check_record's number is that of reading, else reconstruct's, else that of the comparison
+pub record Steps (P : Primitives) : Type 0 where
+  pub steps :
+      (rec : List ℕ) (before after : Work) (r : Answer) (commitment : List ℕ) (y : Reconstructed) (a : Answer)
+      → CheckRecord P rec before after r
+      → Ran P rec before commitment y a
+      → r .number
+      ≡ firstRefusal
+      ((eqb (readNumber rec) 0, readNumber rec) ∷ (eqb (a .number) 0, a .number) ∷ (sameBytes (y .commitment) (contentsOf rec .commitment), 11) ∷ [])
+
+-- a record is accepted exactly when it is read, reconstruct accepts its fields, and what it writes as commitment is the record's
+pub record Accepts (rec : List ℕ) (r : Answer) (y : Reconstructed) (a : Answer) : Type 0 where
   pub only : r .number ≡ 0 → (readNumber rec ≡ 0) × (a .number ≡ 0) × (y .commitment ≡ contentsOf rec .commitment)
   pub always : readNumber rec ≡ 0 → a .number ≡ 0 → y .commitment ≡ contentsOf rec .commitment → r .number ≡ 0
 
@@ -45,9 +49,8 @@ pub record AcceptedMeans (P : Primitives) : Type 0 where
   pub exactly :
       (rec : List ℕ) (before after : Work) (r : Answer) (commitment : List ℕ) (y : Reconstructed) (a : Answer)
       → CheckRecord P rec before after r
-      → length commitment ≡ hashBytes (resolved (contentsOf rec .shape))
-      → Reconstructs P (contentsOf rec) (record { commitment = commitment; tree = before .tree; leafCommitments = before .leafCommitments; q = before .q }) y a
-      → Accepts P rec r y a
+      → Ran P rec before commitment y a
+      → Accepts rec r y a
 
 -- what commit and open made is written as a record, and the record is accepted; s is the resolved shape
 pub record Honest (s : Shape) (ch : List ℕ) (opened wrote checked : Answer) : Type 0 where
@@ -75,3 +78,24 @@ pub record HonestAccepted : Type 0 where
       → grindingOk (resolved s) ch ≡ true
       → plannedCount (resolved s) ch ≤ resolved s .t
       → Honest (resolved s) ch opened wrote checked
+
+-- where its count slice or its slice for lengths has the right length, an exported call gives the number and bytes of the call beneath it
+pub record Exported (P : Primitives) : Type 0 where
+  pub check :
+      (rec count count′ : List ℕ) (x y z : Work) (r : Answer) (n : ℕ)
+      → CheckRecord P rec x y r
+      → HostCheckRecord P rec x z count count′ n
+      → length count ≡ 4
+      → (n ≡ r .number) × (z ≡ y) × (count′ ≡ countSlice (answered (r .number)) (r .count) count)
+  pub work-lengths :
+      (rec before after : List ℕ) (l : Lengths) (n : ℕ)
+      → WorkLengths rec l
+      → HostWorkLengths rec before after n
+      → length before ≡ 12
+      → (n ≡ l .number) × (after ≡ written (l .number) (wordBytes (l .tree ∷ l .«leaf_commitments» ∷ l .q ∷ [])) before)
+  pub record-length :
+      (s : Shape) (bits : ℕ) (before after : List ℕ) (l : RecordLength) (n : ℕ)
+      → LengthOf s bits l
+      → HostRecordLength s bits before after n
+      → length before ≡ 4
+      → (n ≡ l .number) × (after ≡ written (l .number) (wordBytes (l .bytes ∷ [])) before)

@@ -17,24 +17,16 @@ use Rattle.spec.specs.Leaves.{leafCommitments}
 use Rattle.spec.specs.Rows.{stretchByte}
 use Rattle.spec.specs.Signer.{signerTree, signerLeafCommitment, corrections, openingOf}
 use Rattle.spec.specs.Verifier.{slotsOk, reconstructedTree}
-use Rattle.spec.specs.Calls.{firstRefusal, fits, countWith, written, rowOk, wholeRow, stretchOk, nodesOk, Committed, committed, commitLengths, commitStretchNumber, CommitStretch, planNumber, openLengths, Open, Reconstructed, reconstructed, reconstructLengths, reconstructStretchNumber, ReconstructStretch}
+use Rattle.spec.specs.Calls.{fits, countWith, written, rowOk, wholeRow, stretchOk, nodesOk, Committed, committed, commitLengths, commitStretchNumber, CommitStretch, planNumber, openLengths, Open, Reconstructed, reconstructed, reconstructLengths, reconstructStretchNumber, ReconstructStretch}
 use Rattle.planning_laws.proofs.ShapeLaws.{shape-laws}
 use Rattle.laws.specs.Lengths.{Sized}
 use Rattle.laws.proofs.Lengths.{sized-fits, fits-sized}
+use Rattle.laws.proofs.Refusals.{none-failed}
 use Rattle.laws.proofs.Calls.{written-zero, whole-ok, whole-commit, whole-reconstruct}
 use Rattle.theorems.specs.Demands.{Accepted, Five, Demand3, OpeningDepends}
 use Rattle.theorems.proofs.Buffers.{opening-length, opening-rest, opening-same}
 use Rattle.theorems.proofs.Reconstruction.{tree-length, signer-commitments-length, node-same, node-zero, commitment-same, leaf-commitments-same, row-same}
 use Rattle.theorems.proofs.ColumnRule.{corrections-length, column-rule}
-
--- ---- tests
-
-all4 : (a b c d : Bool) → firstRefusal ((a, 1) ∷ (b, 2) ∷ (c, 8) ∷ (d, 3) ∷ []) ≡ 0 → (a ≡ true) × (b ≡ true) × (c ≡ true) × (d ≡ true)
-all4 false b c d h = absurd (omega arith)
-all4 true false c d h = absurd (omega arith)
-all4 true true false d h = absurd (omega arith)
-all4 true true true false h = absurd (omega arith)
-all4 true true true true h = (refl, refl, refl, refl)
 
 -- ---- the number 5
 
@@ -149,12 +141,13 @@ module _ (P : Primitives) where
   unfolding commitStretchNumber
   accepted-stretch s n z root iv ch opening opening′ signer signer′ verifier verifier′ made opened checked c m o r l g t =
       let lengths = commitLengths (resolved s) (z .width) root iv signer in
-      let q = all4 (shapeOk (resolved s)) (rowOk n) (stretchOk (n / 8) z) (fits lengths) (sym (c .number) ∙ m) in
+      let q =
+      none-failed ((shapeOk (resolved s), 1) ∷ (rowOk n, 2) ∷ (stretchOk (n / 8) z, 8) ∷ (fits lengths, 3) ∷ []) (refl, (refl, (refl, (refl, tt)))) (sym (c .number) ∙ m) in
       let e : signer′ ≡ committed P (resolved s) z root iv = c .buffers ∙ written-zero (made .number) (committed P (resolved s) z root iv) signer m in
       subst (λ (x : Committed). Open s ch (x .tree) (x .leafCommitments) opening opening′ opened → ReconstructStretch P s n z iv ch (x .corrections) opening′ verifier verifier′ checked
       → Accepted (resolved s) (z .width) ch x opening′ verifier′ opened checked) (sym e)
       (λ o r.
-      told (resolved s) n z root iv ch opening opening′ signer verifier verifier′ opened checked (q .0) (q .1) (q .2) (fits-sized lengths (q .3)) (o .number) (o .count) (o .opening) (r .number)
+      told (resolved s) n z root iv ch opening opening′ signer verifier verifier′ opened checked (q .0) (q .1 .0) (q .1 .1 .0) (fits-sized lengths (q .1 .1 .1 .0)) (o .number) (o .count) (o .opening) (r .number)
       (r .count) (r .buffers) l g t) o r
 
   pub demand3 : Demand3 P

@@ -1,8 +1,8 @@
 //! The calls of the proved archives, on slices. Lists of numbers and counts are bytes, four to a number, least byte first, as for a C host. A borrow shows what a C
 //! host must promise, so these functions are safe; the stack is still the caller's duty (`STACK`, `STACK_RECONSTRUCT`). They test no length: the calls do.
 //!
-//! A call returns 0, or the number of the first refusal that applies. With 0 the outputs and the count are written; with 5 and 6 the count alone; with any other
-//! number nothing.
+//! A call returns 0, or the number of the first refusal that applies. With 0 the outputs and the count are written, and so they are with 11; with 5 and 6 the count
+//! alone; with any other number nothing.
 
 /// tau, k, w and t are no shape.
 pub const SHAPE: usize = 1;
@@ -18,6 +18,12 @@ pub const NODES: usize = 5;
 pub const SLOTS: usize = 6;
 /// A stretch of no bytes, or one that ends behind the row.
 pub const STRETCH: usize = 8;
+/// The first byte of a record is missing, or an unknown version.
+pub const VERSION: usize = 9;
+/// A field of a record has another length, bytes are missing, or bytes are left over.
+pub const FIELD: usize = 10;
+/// The reconstructed commitment is not the record's.
+pub const MISMATCH: usize = 11;
 
 /// Bytes of a root, an IV, a challenge.
 pub const BLOCK: usize = 16;
@@ -25,10 +31,16 @@ pub const BLOCK: usize = 16;
 pub const COMMITMENT: usize = 32;
 /// Bytes of a count.
 pub const COUNT: usize = 4;
+/// Bytes of the length of a record.
+pub const RECORD_LENGTH: usize = 4;
+/// Bytes of the lengths of the work buffers.
+pub const WORK_LENGTHS: usize = 12;
+/// No record has more bytes.
+pub const RECORD_MOST: usize = 263_778;
 
-/// Bytes of stack for any call but the two forms of reconstruct.
+/// Bytes of stack for any call but the two forms of reconstruct and check_record.
 pub const STACK: usize = 16 * 1024;
-/// Bytes of stack for the two forms of reconstruct.
+/// Bytes of stack for the two forms of reconstruct and for check_record.
 pub const STACK_RECONSTRUCT: usize = 112 * 1024;
 
 /// A shape: tau vectors, the first 128 - w - tau k of depth k + 1 and the others of depth k, w grinding bits, at most t nodes.
@@ -83,7 +95,7 @@ impl Shape {
     }
 }
 
-/// The number in four bytes of a list or of a count.
+/// The number in four bytes of a list, of a count or of a length.
 pub fn number(bytes: [u8; 4]) -> u32 {
     u32::from_le_bytes(bytes)
 }
@@ -159,4 +171,59 @@ call! { "verifier",
     /// The same with `width` bytes from byte `first` on of each correction and of each column.
     reconstruct_stretch = rachnoel_reconstruct_stretch(row_bits first width; iv iv_len, challenge challenge_len, corrections corrections_len,
         opening opening_len; commitment commitment_len, tree tree_len, leaf_commitments leaf_commitments_len, q q_len, count count_len)
+}
+
+call! { "writer",
+    /// The length of a record.
+    record_length = rachnoel_record_length(row_bits; ; length length_len)
+}
+
+call! { "writer",
+    /// The record of a shape as it is given, a row length and the other fields.
+    write_record = rachnoel_write_record(row_bits; iv iv_len, challenge challenge_len, corrections corrections_len, opening opening_len,
+        commitment commitment_len; record record_len)
+}
+
+/// The lengths of the work buffers that a record asks for: tree, leaf commitments, Q.
+#[cfg(feature = "broker")]
+pub fn work_lengths(record: &[u8], lengths: &mut [u8]) -> usize {
+    extern "C" {
+        fn rachnoel_work_lengths(record: *const u8, record_len: usize, lengths: *mut u8, lengths_len: usize) -> usize;
+    }
+    // SAFETY: as in `call!`.
+    unsafe { rachnoel_work_lengths(record.as_ptr(), record.len(), lengths.as_mut_ptr(), lengths.len()) }
+}
+
+/// Whether a record has its form, reconstruct accepts its fields, and gives the record's commitment. The corrections are not bound by it.
+#[cfg(feature = "broker")]
+pub fn check_record(record: &[u8], tree: &mut [u8], leaf_commitments: &mut [u8], q: &mut [u8], count: &mut [u8]) -> usize {
+    extern "C" {
+        fn rachnoel_check_record(
+            record: *const u8,
+            record_len: usize,
+            tree: *mut u8,
+            tree_len: usize,
+            leaf_commitments: *mut u8,
+            leaf_commitments_len: usize,
+            q: *mut u8,
+            q_len: usize,
+            count: *mut u8,
+            count_len: usize,
+        ) -> usize;
+    }
+    // SAFETY: as in `call!`.
+    unsafe {
+        rachnoel_check_record(
+            record.as_ptr(),
+            record.len(),
+            tree.as_mut_ptr(),
+            tree.len(),
+            leaf_commitments.as_mut_ptr(),
+            leaf_commitments.len(),
+            q.as_mut_ptr(),
+            q.len(),
+            count.as_mut_ptr(),
+            count.len(),
+        )
+    }
 }

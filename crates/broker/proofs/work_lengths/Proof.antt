@@ -2,6 +2,7 @@
 use borrow.Author.Needs.{needs}
 use Prim.Native.Nat.{ℕ, _*_, _-_}
 use mathlib.Core.Path.{refl, sym, ap, _∙_}
+use native.Mathlib.Omega.{arith}
 use borrow.Author.Tests.{ne-eqb}
 use Rattle.spec.specs.Shapes.{level, nodeBytes, leafCommitmentBytes, leaves, treeBytes, leafCommitmentsBytes, matrixBytes}
 use Rattle.broker.proofs.work_lengths.Statement.{statement}
@@ -10,7 +11,7 @@ use Rattle.broker.proofs.work_lengths.Tie as tie
 returns : tie.Need-returns
 returns c =
     let z = ne-eqb (c .before .head-number .result) 0 (c .if1 .taken) in
-    record { number = c .before .head-number .ensures; tree = rw z refl; leafCommitments = rw z refl; q = rw z refl }
+    record { number = c .before .head-number .ensures; tree = rw z refl; leafCommitments = rw z refl; q = rw z refl; most = (omega arith, omega arith, omega arith) }
 
 returns-2 : tie.Need-returns-2
 unfolding level nodeBytes leafCommitmentBytes treeBytes leafCommitmentsBytes matrixBytes
@@ -21,6 +22,7 @@ returns-2 c =
       tree = ap (λ (n : ℕ). 16 * (2 * n - 1)) l;
       leafCommitments = ap (λ (n : ℕ). 48 * n) l;
       q = ap (λ (b : ℕ). b * 128) (c .row-bytes .ensures .0);
+      most = (omega arith, omega arith, omega arith);
     }
 
 pub work-lengths-spec : {M : Type 1} → statement M

@@ -1,4 +1,4 @@
--- The first test that fails, in two lists of tests: by the cases of the tests.
+-- The first test that fails, in a list of tests and in two: by the cases of the tests.
 use Prim.Native.Nat.{ℕ}
 use mathlib.Core.Path.{_≡_, refl, sym, ap, _∙_}
 use mathlib.Core.Bool.{Bool, true, false, cond, true≢false}

@@ -1,0 +1,246 @@
+/* Records that are changed at random, from a fixed seed, and checked: each buffer lies between forbidden pages, the record may not be written, and the buffers hold a fill.
+ *   fuzz_records SEED COUNT STREAM
+ * prints a line for each check: number, count slice and a digest of the work buffers. What was checked goes to STREAM, for `reference checks`, which must print the same. */
+#define _DEFAULT_SOURCE
+#include <rachnoel.h>
+
+#include "guarded.h"
+
+enum { BASES = 48, MOST = 4096 };
+
+/* ---- a fixed sequence (SplitMix64) */
+
+static uint64_t state;
+
+static uint64_t next(void)
+{
+    uint64_t z = state += 0x9e3779b97f4a7c15;
+    z = (z ^ z >> 30) * 0xbf58476d1ce4e5b9;
+    z = (z ^ z >> 27) * 0x94d049bb133111eb;
+    return z ^ z >> 31;
+}
+
+static size_t below(size_t n)
+{
+    return (size_t)(next() % n);
+}
+
+static void random_bytes(uint8_t *p, size_t n)
+{
+    for (size_t i = 0; i < n; i++)
+        p[i] = (uint8_t)next();
+}
+
+/* ---- records to start from */
+
+struct base {
+    uint8_t bytes[MOST];
+    size_t length;
+    size_t fields[6]; /* where each field's length stands */
+};
+
+static struct base bases[BASES];
+
+static void *room(size_t n)
+{
+    void *const p = calloc(1, n + 1);
+    if (p == NULL) {
+        perror("calloc");
+        exit(1);
+    }
+    return p;
+}
+
+static void must(size_t number, const char *call)
+{
+    if (number != 0) {
+        fprintf(stderr, "%s answered %zu\n", call, number);
+        exit(1);
+    }
+}
+
+/* a small shape, or the default; its allowance is mostly enough */
+static void random_shape(size_t s[4])
+{
+    if (below(16) == 0) {
+        memset(s, 0, 4 * sizeof s[0]);
+        return;
+    }
+    const size_t k = 1 + below(4), tau = 1 + below(6);
+    const size_t deeper = below(2) ? 0 : below(tau), w = 128 - tau * k - deeper;
+    s[0] = tau;
+    s[1] = k;
+    s[2] = w > 127 ? 127 : w;
+    s[3] = below(5) ? tau * (k + 1) + below(3) : 1 + below(tau);
+}
+
+static void make_base(struct base *base)
+{
+    uint8_t root[RACHNOEL_BLOCK], iv[RACHNOEL_BLOCK], challenge[RACHNOEL_BLOCK], commitment[RACHNOEL_COMMITMENT], count[RACHNOEL_COUNT], length[RACHNOEL_RECORD_LENGTH];
+    size_t s[4], row_bits;
+    random_shape(s);
+    row_bits = 8 * (1 + below(4));
+    const rachnoel_lengths n = rachnoel_lengths_of(s[0], s[1], s[2], s[3], row_bits / 8);
+    uint8_t *const tree = room(n.tree), *const lcs = room(n.leaf_commitments), *const u = room(n.u), *const v = room(n.matrix), *const corrections = room(n.corrections),
+                  *const opening = room(n.opening);
+    random_bytes(root, sizeof root);
+    random_bytes(iv, sizeof iv);
+    random_bytes(challenge, sizeof challenge);
+    if (below(12))
+        for (size_t bit = 128 - (s[0] == 0 ? 8 : s[2]); bit < 128; bit++)
+            challenge[bit / 8] &= (uint8_t)~(1u << bit % 8);
+    must(rachnoel_commit(s[0], s[1], s[2], s[3], row_bits, root, sizeof root, iv, sizeof iv, commitment, sizeof commitment, tree, n.tree, lcs, n.leaf_commitments, u, n.u, v,
+             n.matrix, corrections, n.corrections, count, sizeof count),
+        "commit");
+    if (rachnoel_open(s[0], s[1], s[2], s[3], challenge, sizeof challenge, tree, n.tree, lcs, n.leaf_commitments, opening, n.opening, count, sizeof count) != 0)
+        random_bytes(opening, n.opening);
+    must(rachnoel_record_length(s[0], s[1], s[2], s[3], row_bits, length, sizeof length), "record_length");
+    base->length = rachnoel_number(length);
+    if (base->length > MOST) {
+        fprintf(stderr, "a record of %zu bytes\n", base->length);
+        exit(1);
+    }
+    must(rachnoel_write_record(s[0], s[1], s[2], s[3], row_bits, iv, sizeof iv, challenge, sizeof challenge, corrections, n.corrections, opening, n.opening, commitment,
+             sizeof commitment, base->bytes, base->length),
+        "write_record");
+    const size_t lengths[6] = {9, sizeof iv, sizeof challenge, n.corrections, n.opening, sizeof commitment};
+    size_t at = 1;
+    for (size_t i = 0; i < 6; i++) {
+        base->fields[i] = at;
+        at += 4 + lengths[i];
+    }
+    free(tree), free(lcs), free(u), free(v), free(corrections), free(opening);
+}
+
+/* ---- changes */
+
+static void put_number(uint8_t *p, size_t x)
+{
+    for (size_t i = 0; i < 4; i++)
+        p[i] = (uint8_t)(x >> (24 - 8 * i));
+}
+
+/* changes the record of `base` in `bytes`, which has room for 16 bytes more, and gives its length */
+static size_t change(const struct base *base, uint8_t *bytes, size_t length)
+{
+    static const size_t odd[] = {0, 1, 8, 10, 15, 17, 31, 33, 255, 256, 0x7fffffff, 0x80000000, 0xfffffffc, 0xffffffff};
+    const struct base *const other = &bases[below(BASES)];
+    const size_t field = base->fields[below(6)];
+    if (length == 0)
+        return 0;
+    switch (below(9)) {
+    case 0: bytes[below(length)] ^= (uint8_t)(1u << below(8)); break;
+    case 1: bytes[below(length < 62 ? length : 62)] = (uint8_t)below(36); break;
+    case 2: return below(length);
+    case 3:
+        if (length + 9 <= base->length + 16) {
+            const size_t more = 1 + below(9);
+            random_bytes(bytes + length, more);
+            return length + more;
+        }
+        break;
+    case 4:
+        if (field + 4 <= length)
+            put_number(bytes + field, odd[below(sizeof odd / sizeof odd[0])]);
+        break;
+    case 5:
+        if (length >= 14)
+            memcpy(bytes + 5, other->bytes + 5, 9);
+        break;
+    case 6: {
+        const size_t most = length < other->length ? length : other->length, at = below(most), n = 1 + below(most - at);
+        memcpy(bytes + at, other->bytes + at, n);
+        break;
+    }
+    case 7: {
+        const size_t at = below(length), n = 1 + below(length - at < 16 ? length - at : 16);
+        memset(bytes + at, 0, n);
+        break;
+    }
+    default: /* a byte of the commitment, where it is still there */
+        if (base->fields[5] + 36 <= length)
+            bytes[base->fields[5] + 4 + below(32)] ^= (uint8_t)(1 + below(255));
+    }
+    return length;
+}
+
+/* a length: the right one, or now and then another */
+static size_t near(size_t right)
+{
+    switch (below(90)) {
+    case 0: return right + 1 + below(8);
+    case 1: return right - 1;
+    case 2: return 0;
+    default: return right;
+    }
+}
+
+/* ---- a check */
+
+static uint64_t digest(uint64_t h, const uint8_t *p, size_t n)
+{
+    for (size_t i = 0; i < n; i++)
+        h = (h ^ p[i]) * 0x100000001b3; /* FNV-1a */
+    return h;
+}
+
+static void check(const uint8_t *bytes, size_t length, const size_t sizes[4], int fill, FILE *stream)
+{
+    const int end = (int)below(2);
+    uint8_t head[21];
+    head[0] = (uint8_t)fill;
+    for (size_t i = 0; i < 4; i++)
+        put_number(head + 1 + 4 * i, sizes[i]);
+    put_number(head + 17, length);
+    if (fwrite(head, 1, sizeof head, stream) != sizeof head || fwrite(bytes, 1, length, stream) != length) {
+        perror("the stream");
+        exit(1);
+    }
+    const struct guarded record = guard(length, end, 0);
+    memcpy(record.at, bytes, length);
+    shut(record);
+    struct guarded work[4];
+    for (size_t i = 0; i < 4; i++)
+        work[i] = guard(sizes[i], end, fill);
+    const size_t number = rachnoel_check_record(record.at, length, work[0].at, sizes[0], work[1].at, sizes[1], work[2].at, sizes[2], work[3].at, sizes[3]);
+    uint64_t h = 0xcbf29ce484222325;
+    for (size_t i = 0; i < 3; i++)
+        h = digest(h, work[i].at, sizes[i]);
+    printf("%zu ", number);
+    for (size_t i = 0; i < sizes[3]; i++)
+        printf("%02x", work[3].at[i]);
+    printf(" %016llx\n", (unsigned long long)h);
+    munmap(record.map, record.size);
+    for (size_t i = 0; i < 4; i++)
+        munmap(work[i].map, work[i].size);
+}
+
+int main(int argc, char **argv)
+{
+    if (argc != 4) {
+        fprintf(stderr, "usage: fuzz_records SEED COUNT STREAM\n");
+        return 2;
+    }
+    state = strtoull(argv[1], NULL, 0);
+    const unsigned long checks = strtoul(argv[2], NULL, 0);
+    FILE *const stream = fopen(argv[3], "wb");
+    if (stream == NULL) {
+        perror(argv[3]);
+        return 2;
+    }
+    for (size_t i = 0; i < BASES; i++)
+        make_base(&bases[i]);
+    for (unsigned long i = 0; i < checks; i++) {
+        const struct base *const base = &bases[below(BASES)];
+        uint8_t bytes[MOST + 16], lengths[RACHNOEL_WORK_LENGTHS];
+        size_t length = base->length;
+        memcpy(bytes, base->bytes, length);
+        for (size_t n = below(4); n > 0; n--)
+            length = change(base, bytes, length);
+        if (rachnoel_work_lengths(bytes, length, lengths, sizeof lengths) != 0)
+            must(rachnoel_work_lengths(base->bytes, base->length, lengths, sizeof lengths), "work_lengths");
+        const size_t sizes[4] = {near(rachnoel_number(lengths)), near(rachnoel_number(lengths + 4)), near(rachnoel_number(lengths + 8)), near(RACHNOEL_COUNT)};
+        check(bytes, length, sizes, (int)below(256), stream);
+    }
+    return fclose(stream) == 0 && fflush(stdout) == 0 ? 0 : 2;
+}

@@ -1,0 +1,98 @@
+//! Records through the archives beside the second implementation, byte by byte: written, and checked as they are. Those that are changed are checked by `../c/fuzz_records.c`.
+
+use rachnoel::{number, Shape};
+use reference::record::{self, Record};
+
+const SHAPES: [(Shape, usize); 8] = [
+    (Shape { tau: 1, k: 1, w: 127, t: 1 }, 8),
+    (Shape { tau: 2, k: 2, w: 124, t: 4 }, 8),
+    (Shape { tau: 2, k: 1, w: 125, t: 300 }, 16),
+    (Shape { tau: 3, k: 1, w: 123, t: 6 }, 65_536),
+    (Shape { tau: 32, k: 4, w: 0, t: 512 }, 65_536),
+    (Shape { tau: 16, k: 7, w: 8, t: 110 }, 1_680),
+    (rachnoel::FAEST_128S, 1_680),
+    (rachnoel::DEFAULT, 24),
+];
+
+fn reference_shape(s: Shape) -> reference::shape::Shape {
+    reference::shape::Shape::new(s.tau, s.k, s.w, s.t)
+}
+
+#[test]
+fn written_and_checked() {
+    for (shape, row_bits) in SHAPES {
+        let n = shape.lengths(row_bits / 8).unwrap();
+        let [root, iv, challenge] = [3u8, 5, 0].map(|step| (0..16u8).map(|i| step * i).collect::<Vec<u8>>());
+        let [mut commitment, mut tree, mut coms, mut u, mut v, mut corrections, mut opening] =
+            [32, n.tree, n.leaf_commitments, n.u, n.matrix, n.corrections, n.opening].map(|n| vec![0u8; n]);
+        let mut count = [0xa5; 4];
+        let made = rachnoel::commit(
+            shape, row_bits, &root, &iv, &mut commitment, &mut tree, &mut coms, &mut u, &mut v, &mut corrections, &mut count,
+        );
+        let opened = rachnoel::open(shape, &challenge, &tree, &coms, &mut opening, &mut count);
+        assert_eq!((made, opened), (0, 0), "{shape:?}");
+
+        let mut length = [0xa5; 4];
+        assert_eq!(rachnoel::record_length(shape, row_bits, &mut length), 0);
+        let mut bytes = vec![0xa5; number(length) as usize];
+        assert!(bytes.len() <= rachnoel::RECORD_MOST);
+        let wrote = rachnoel::write_record(shape, row_bits, &iv, &challenge, &corrections, &opening, &commitment, &mut bytes);
+        let mut theirs = vec![0x5a; bytes.len()];
+        let fields = Record {
+            shape: reference_shape(shape),
+            row_bits,
+            iv: &iv,
+            challenge: &challenge,
+            corrections: &corrections,
+            opening: &opening,
+            commitment: &commitment,
+        };
+        assert_eq!((wrote, record::write_record(&fields, &mut theirs).number), (0, 0));
+        assert_eq!(bytes, theirs);
+        assert_eq!(record::read(&bytes), Ok(fields));
+
+        let mut lengths = [0xa5; 12];
+        assert_eq!(rachnoel::work_lengths(&bytes, &mut lengths), 0);
+        let asked: Vec<usize> = lengths.chunks_exact(4).map(|four| number(four.try_into().unwrap()) as usize).collect();
+        assert_eq!(asked, record::work_lengths(&bytes).unwrap());
+        let [mut tree, mut coms, mut q] = [asked[0], asked[1], asked[2]].map(|n| vec![0xa5; n]);
+        let [mut their_tree, mut their_coms, mut their_q] = [asked[0], asked[1], asked[2]].map(|n| vec![0x5a; n]);
+        for (byte, right) in [(0, 0), (1, 11)] {
+            *bytes.last_mut().unwrap() ^= byte;
+            let checked = rachnoel::check_record(&bytes, &mut tree, &mut coms, &mut q, &mut count);
+            let answer = record::check_record(&bytes, &mut their_tree, &mut their_coms, &mut their_q);
+            assert_eq!((checked, answer.number, number(count)), (right, right as u32, answer.count), "{shape:?}");
+            assert_eq!((&tree, &coms, &q), (&their_tree, &their_coms, &their_q));
+        }
+    }
+}
+
+/// Each refusal of the writer and of the lengths, in their order.
+#[test]
+fn refusals() {
+    let shape = Shape { tau: 2, k: 2, w: 124, t: 4 };
+    let none = Shape { t: 513, ..shape };
+    for (s, row_bits, long, right) in [(none, 7, 3, 1), (shape, 7, 3, 2), (shape, 8, 3, 3), (shape, 8, 5, 3), (shape, 8, 0, 3), (shape, 8, 4, 0)] {
+        let mut length = vec![0xa5; long];
+        assert_eq!(rachnoel::record_length(s, row_bits, &mut length), right);
+        assert_eq!(length.iter().all(|byte| *byte == 0xa5), right != 0);
+    }
+    let long = 259;
+    let fields = [16, 16, 1, 160, 32];
+    for (s, row_bits, wrong, right) in [(none, 7, 0, 1), (shape, 12, 0, 2), (shape, 8, 0, 3), (shape, 8, 1, 3), (shape, 8, 2, 3), (shape, 8, 3, 3), (shape, 8, 4, 3), (shape, 8, 5, 3), (shape, 8, 9, 0)] {
+        let parts: Vec<Vec<u8>> = fields.iter().enumerate().map(|(i, n)| vec![7; n + usize::from(i == wrong)]).collect();
+        let mut bytes = vec![0xa5; long - usize::from(wrong == 5)];
+        let number = rachnoel::write_record(s, row_bits, &parts[0], &parts[1], &parts[2], &parts[3], &parts[4], &mut bytes);
+        assert_eq!((number, bytes.iter().all(|byte| *byte == 0xa5)), (right, right != 0));
+    }
+    let front = [1, 0, 0, 0, 9, 2, 2, 124, 0, 4, 0, 0, 0, 8];
+    for (n, change, long, right) in [(0, 0, 11, 9), (14, 0, 11, 9), (13, 14, 11, 10), (14, 5, 11, 1), (14, 13, 11, 2), (14, 14, 11, 3), (14, 14, 13, 3), (14, 14, 12, 0)] {
+        let mut record = front[..n].to_vec();
+        if let Some(byte) = record.get_mut(change) {
+            *byte ^= 0x24;
+        }
+        let mut lengths = vec![0xa5; long];
+        assert_eq!(rachnoel::work_lengths(&record, &mut lengths), right, "{n} {change}");
+        assert_eq!(lengths.iter().all(|byte| *byte == 0xa5), right != 0);
+    }
+}
