@@ -1,0 +1,3 @@
+-- What the program that lists all challenges is.
+pub mod Enumeration
+pub mod Pieces
