@@ -81,11 +81,11 @@ module _ (s : Shape) (ok : shapeOk s ≡ true) where
 
   at-small : (x : ℕ) → Digits 8 (challengeAt s x)
   unfolding challengeAt
-  at-small x = digits-small (challengeBytes s) x
+  at-small x = digits-small (challengeBytes s) _
 
   at-length : (x : ℕ) → length (challengeAt s x) ≡ challengeBytes s
   unfolding challengeAt digits
-  at-length x = length-tabulate (challengeBytes s) (λ i. x / 2 ^ (8 * i) % 2 ^ 8)
+  at-length x = length-tabulate (challengeBytes s) _
 
   at-number : (x : ℕ) → x < 2 ^ openBits s → number 8 (challengeAt s x) ≡ x
   unfolding challengeAt challengeBytes level
