@@ -36,9 +36,11 @@ totalsText s = lastLine (within (s .t) (listed s)) (total (listed s))
 abbrev pub linePieces : Shape → ℕ
 linePieces s = (2 ^ openBits s + 1023) / 1024
 
+-- piece i of the output of a shape
 abbrev pub listPiece : Shape → ℕ → List ℕ
 listPiece s i = cond (ltb i (linePieces s)) (linesFrom s (1024 * i) (min 1024 (2 ^ openBits s - 1024 * i))) (totalsText s)
 
+-- how many pieces the output has, and piece i
 unfoldable pub pieceCount : Reading → ℕ
 pieceCount r = cond (eqb (r .number) 0) (linePieces (r .shape) + 1) 1
 

@@ -4,11 +4,11 @@ use Prim.Native.Nat.{ℕ, zero, suc, _+_, _*_}
 use mathlib.Core.Path.{_≡_, refl, sym, ap, _∙_}
 use mathlib.Core.List.{List, _++_}
 use native.Mathlib.Omega.{arith}
-use lib.ListN.{length, getD, length-append}
+use lib.ListN.{length, length-append}
 use Rattle.spec.specs.Bytes.{tabulate, concat}
 use Rattle.laws.proofs.Concat.{concat-same, concat-append}
 use Rattle.enumeration_text.specs.Listed.{Listed}
-use Rattle.enumeration_text.specs.Text.{hexByte, hexText, lineText, linesText}
+use Rattle.enumeration_text.specs.Text.{hexText, lineText, linesText}
 
 -- the first text, and the others
 concat-first : (n : ℕ) (f : ℕ → List ℕ) → concat (suc n) f ≡ f 0 ++ concat n (λ i. f (suc i))
@@ -23,11 +23,11 @@ unfolding tabulate linesText concat
 lines-text zero g = refl
 lines-text (suc n) g = ap (λ (l : List ℕ). lineText (g 0) ++ l) (lines-text n (λ i. g (suc i))) ∙ sym (concat-first n (λ i. lineText (g i)))
 
-two-each : (n : ℕ) (f : ℕ → ℕ) → length (concat n (λ i. hexByte (f i))) ≡ 2 * n
+two-each : (n : ℕ) (f : ℕ → List ℕ) → ((i : ℕ) → length (f i) ≡ 2) → length (concat n f) ≡ 2 * n
 unfolding concat
-two-each zero f = refl
-two-each (suc n) f = (let ih = two-each n f in let a = length-append (concat n (λ i. hexByte (f i))) (hexByte (f n)) in omega arith)
+two-each zero f h = refl
+two-each (suc n) f h = (let ih = two-each n f h in let a = length-append (concat n f) (f n) in let t = h n in omega arith)
 
 pub hex-length : (bytes : List ℕ) → length (hexText bytes) ≡ 2 * length bytes
 unfolding hexText
-hex-length bytes = two-each (length bytes) (λ i. getD bytes i 0)
+hex-length bytes = two-each (length bytes) _ (λ i. refl)

@@ -15,7 +15,7 @@ openBits s = level s - s .w
 unfoldable pub challengeAt : Shape → ℕ → List ℕ
 challengeAt s x = digits 8 (challengeBytes s) x
 
--- what a line tells
+-- what a line tells: a challenge, and how many nodes its opening reveals
 pub record Listed : Type 0 where
   pub challenge : List ℕ
   pub count : ℕ
@@ -23,11 +23,13 @@ pub record Listed : Type 0 where
 unfoldable pub listedAt : Shape → ℕ → Listed
 listedAt s x = record { challenge = challengeAt s x; count = plannedCount s (challengeAt s x) }
 
+-- all lines, in their order
 unfoldable pub listed : Shape → List Listed
 listed s = tabulate (2 ^ openBits s) (listedAt s)
 
 -- ---- what the lines give
 
+-- the sum of f over the lines
 unfoldable pub sumOf : (Listed → ℕ) → List Listed → ℕ
 sumOf f [] = 0
 sumOf f (l ∷ ls) = f l + sumOf f ls

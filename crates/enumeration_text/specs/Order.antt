@@ -9,23 +9,23 @@ use Rattle.spec.specs.declared.Shape.{Shape}
 use Rattle.spec.specs.Shapes.{shapeOk, challengeBytes, entriesOf, firstBit, hiddenIndex, grindingOk}
 use Rattle.enumeration_text.specs.Listed.{openBits, challengeAt}
 
--- a challenge: so many bytes
+-- a challenge: as many bytes as the level asks
 pub record IsChallenge (s : Shape) (ch : List ℕ) : Type 0 where
   pub size : length ch ≡ challengeBytes s
   pub bytes : (i : ℕ) → getD ch i 0 < 256
 
--- what is listed is a challenge with clear grinding bits, each such challenge is listed, and at one place
+-- line x has a challenge with clear grinding bits, each such challenge has a line, and no two lines have the same
 pub record EachOnce (s : Shape) : Type 0 where
   pub challenges : (x : ℕ) → IsChallenge s (challengeAt s x)
   pub allowed : (x : ℕ) → x < 2 ^ openBits s → grindingOk s (challengeAt s x) ≡ true
   pub found : (ch : List ℕ) → IsChallenge s ch → grindingOk s ch ≡ true → (x : ℕ) × (x < 2 ^ openBits s) × (challengeAt s x ≡ ch)
   pub once : (x y : ℕ) → x < 2 ^ openBits s → y < 2 ^ openBits s → challengeAt s x ≡ challengeAt s y → x ≡ y
 
--- the index of vector i is digit i of x, in a number system whose digits have the vectors' numbers of entries, vector 0 the lowest
+-- the index of vector i is digit i of the line's number, where digit i counts the entries of vector i, and digit 0 is the lowest
 abbrev pub MixedRadix : Shape → Type 0
 MixedRadix s = (x i : ℕ) → x < 2 ^ openBits s → hiddenIndex s (challengeAt s x) i ≡ x / 2 ^ firstBit s i % entriesOf s i
 
--- of two places the later has the larger index in the last vector in which they differ
+-- of two lines the later has the larger index in the last vector in which they differ
 abbrev pub Ascending : Shape → Type 0
 Ascending s =
     (x y : ℕ)

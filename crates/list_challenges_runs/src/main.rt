@@ -73,8 +73,8 @@ fn long_outputs() {
     run_digest(b"5 3 112 13\n");
 }
 
-// Refusals 1 and 12, and the shapes next to them.
-fn refused_shapes() {
+// Refusal 12: the default, FAEST's sets, and the shapes next to 16 bits.
+fn too_large() {
     run(b"0 0 0 0\n");
     run(b"0 00 0 00000\n");
     run(b"11 11 7 102\n");
@@ -82,6 +82,10 @@ fn refused_shapes() {
     run(b"17 1 111 8\n");
     run(b"16 1 111 8\n");
     run(b"2 8 111 13\n");
+}
+
+// Refusal 1.
+fn refused_shapes() {
     run(b"0 0 0 1\n");
     run(b"0 1 127 1\n");
     run(b"33 1 95 8\n");
@@ -135,6 +139,7 @@ fn main() {
     small_shapes();
     uneven_depths();
     long_outputs();
+    too_large();
     refused_shapes();
     unreadable_ends();
     unreadable_numbers();

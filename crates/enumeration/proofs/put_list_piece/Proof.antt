@@ -1,8 +1,9 @@
 -- By whether i is one of the pieces with lines.
-use Prim.Native.Nat.{_<_, _≤_}
-use native.Mathlib.Omega.{arith}
+use Prim.Native.Nat.{ℕ, _-_, _*_, _^_, _<_, _≤_, min}
+use mathlib.Core.Path.{_≡_, ap, _∙_}
 use borrow.Author.Needs.{needs}
 use borrow.Author.Tests.{lt-ltb, le-ltb}
+use Rattle.enumeration_text.specs.Listed.{openBits}
 use Rattle.enumeration.specs.Pieces.{linePieces}
 use Rattle.enumeration.proofs.put_list_piece.Statement.{statement}
 use Rattle.enumeration.proofs.put_list_piece.Tie as tie
@@ -14,7 +15,9 @@ returns c =
     let t = m .before .before in
     let a = t .before .before .before .args in
     let h : a .i < linePieces (a .s) = rw (t .before .line-pieces .ensures .0) at (t .if1 .taken) in
-    rw (lt-ltb (a .i) (linePieces (a .s)) h, ← m .before .line-count .ensures .0, ← m .min .ensures) (p .put-lines .ensures)
+    let n : m .min .result ≡ min 1024 (2 ^ openBits (a .s) - 1024 * a .i) =
+    m .min .ensures ∙ ap (λ (k : ℕ). min 1024 (k - 1024 * a .i)) (m .before .line-count .ensures .0) in
+    rw (lt-ltb (a .i) (linePieces (a .s)) h, ← n) (p .put-lines .ensures)
 
 returns-2 : tie.Need-returns-2
 returns-2 c =
