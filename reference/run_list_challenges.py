@@ -4,9 +4,9 @@
     run_list_challenges.py [PROGRAM]      exit status 1 at the first input where the two differ
 
 A good line has at most 24 bytes, of which the program reads 64: the inputs end before, at and behind both numbers. No contract can say how many bytes a program reads, nor
-that it writes each piece, so this is run, also on shapes of every number of bits up to 16 and on damaged inputs. The longest outputs must take less than a second of the
-processor. Last, outputs that cannot be written, or not to their end: the program must say so on standard error, and not write on; and the
-picture of docs/, drawn anew.
+that it writes each piece, so this is run, also on shapes of every number of bits up to 16, on damaged inputs, and on inputs that arrive in parts or cannot be read. The
+longest outputs must take less than a second of the processor. Last, outputs that cannot be written, or not to their end: the program must say so on standard error, and
+not write on; and the picture of docs/, drawn anew.
 """
 import os
 import random
@@ -14,6 +14,7 @@ import resource
 import signal
 import subprocess
 import sys
+import time
 from pathlib import Path
 
 HERE = Path(__file__).resolve().parent
@@ -91,6 +92,23 @@ def failed_writes():
         os.close(write)
 
 
+def odd_inputs():
+    # an input that arrives in parts is read to its end; one that cannot be read counts as empty
+    program = subprocess.Popen([PROGRAM], stdin=subprocess.PIPE, stdout=subprocess.PIPE)
+    for part in (b'2 ', b'2 12', b'', b'4', b' 3', b'\n'):
+        program.stdin.write(part)
+        program.stdin.flush()
+        time.sleep(0.02)
+    if program.communicate()[0] != listed([REFERENCE, 'list_challenges'], SHORT).stdout:
+        sys.exit('list_challenges, an input in parts: another output')
+    folder = os.open('/', os.O_RDONLY)
+    for options in ({'stdin': folder}, {'preexec_fn': lambda: os.close(0)}):
+        found = subprocess.run([PROGRAM], capture_output=True, **options)
+        if found.stdout != b'refused 7\n' or found.stderr:
+            sys.exit(f'list_challenges, an input that cannot be read: {found.stdout!r}, {found.stderr!r}')
+    os.close(folder)
+
+
 def stopped_reader():
     # a reader that takes one piece and goes away; the program ends all the same
     program = subprocess.Popen([PROGRAM], stdin=subprocess.PIPE, stdout=subprocess.PIPE, stderr=subprocess.PIPE, restore_signals=False,
@@ -132,6 +150,7 @@ def main():
         if took > 1:
             sys.exit(f'list_challenges, {text!r}: {took:.1f} s')
         tried += 1
+    odd_inputs()
     failed_writes()
     stopped_reader()
     picture()
