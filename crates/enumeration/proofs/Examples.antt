@@ -1,7 +1,6 @@
 -- Examples of the definitions, computed: the whole output for 1 1 127 1, what the lines of 2 2 124 3 give, and numbers.
-use Prim.Native.Nat.{ℕ}
 use mathlib.Core.Path.{_≡_, refl}
-use mathlib.Core.List.{List, [], _∷_, _++_}
+use mathlib.Core.List.{[], _∷_, _++_}
 use lib.ListN.{replicate}
 use Rattle.spec.specs.declared.Shape.{Shape}
 use Rattle.spec.specs.Bytes.{tabulate, concat, allZero, number, digits}

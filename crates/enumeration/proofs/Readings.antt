@@ -1,7 +1,7 @@
 -- What is longer than any line is refused, so the first 64 bytes of an input tell what it gives: a line has at most 24. And what a number of 0 says of the shape. By cases
 -- on the tests.
 use Prim.Native.Nat.{ℕ, _-_, _≤_, _<_}
-use mathlib.Core.Path.{_≡_, refl, sym, ap, _∙_}
+use mathlib.Core.Path.{_≡_, refl, sym, _∙_}
 use mathlib.Core.Bool.{Bool, true, false}
 use mathlib.Core.List.{List, [], _∷_}
 use native.Mathlib.Omega.{arith}

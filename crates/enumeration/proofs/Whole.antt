@@ -1,24 +1,22 @@
 -- The pieces joined are the whole output: pieces of 1,024 lines follow one another, the last of them ends with the last line listed, and behind it stands the last line. By
 -- induction on the pieces.
-use Prim.Native.Nat.{ℕ, zero, suc, _+_, _-_, _*_, _/_, _^_, _≤_, _<_, min}
+use Prim.Native.Nat.{ℕ, zero, suc, _+_, _-_, _*_, _/_, _^_, _<_, min}
 use mathlib.Core.Path.{_≡_, refl, sym, ap, ap₂, _∙_}
-use mathlib.Core.Bool.{cond}
-use mathlib.Core.List.{List, [], _∷_, _++_}
+use mathlib.Core.List.{List, _++_}
 use native.Mathlib.Omega.{arith}
 use native.Mathlib.Decide.{ℕ-discrete}
 use native.Mathlib.Numerals.{add-one}
-use lib.Dec.{ltb, eqb}
-use borrow.Author.Tests.{lt-ltb, le-ltb, eq-eqb, ne-eqb}
+use borrow.Author.Tests.{lt-ltb, le-ltb, ne-eqb}
 use Rattle.spec.specs.declared.Shape.{Shape}
 use Rattle.spec.specs.Bytes.{concat}
 use Rattle.listing_text.specs.Text.{refusedText}
 use Rattle.laws.proofs.Concat.{concat-same, concat-append}
-use Rattle.enumeration_text.specs.Listed.{openBits, listedAt, listed, within, total}
-use Rattle.enumeration_text.specs.Text.{lineText, linesText, lastLine, listText}
+use Rattle.enumeration_text.specs.Listed.{openBits, listedAt, listed}
+use Rattle.enumeration_text.specs.Text.{lineText, listText}
 use Rattle.enumeration_text.proofs.Lines.{lines-text}
 use Rattle.enumeration.specs.declared.Reading.{Reading}
 use Rattle.enumeration.specs.Enumeration.{shapeIn, enumerationNumber, enumeration}
-use Rattle.enumeration.specs.Pieces.{Reads, linesFrom, totalsText, linePieces, listPiece, pieceCount, pieceText, Whole}
+use Rattle.enumeration.specs.Pieces.{linePieces, listPiece, pieceCount, pieceText, Whole}
 
 -- ---- pieces of w texts each, of n texts in all
 

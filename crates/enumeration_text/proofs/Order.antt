@@ -1,8 +1,8 @@
 -- The claims about the list: bits of a challenge are bits of the number that its bytes write, so that a vector's index is a digit of that number, and clear grinding bits
 -- bound it. Which index is the first to differ, by going down from the last vector.
-use Prim.Native.Nat.{ℕ, zero, suc, _+_, _-_, _*_, _/_, _%_, _^_, _≤_, _<_}
+use Prim.Native.Nat.{ℕ, zero, suc, _+_, _*_, _/_, _%_, _^_, _≤_, _<_}
 use mathlib.Core.Path.{_≡_, refl, sym, ap, ap₂, _∙_, subst}
-use mathlib.Core.Bool.{Bool, true, false, _&&_}
+use mathlib.Core.Bool.{true}
 use mathlib.Core.List.{List, [], _∷_}
 use native.Mathlib.Omega.{arith}
 use native.Mathlib.Nat.{mod-lt, mod-eq-of-lt, mod-one, zero-mod, div-eq-of-lt, div-one, lt-of-lt-of-le}
@@ -12,7 +12,7 @@ use lib.Dec.{eqb}
 use lib.Arith.{lt-of-le-ne}
 use lib.ListN.{length, getD, List·getD-eq-default}
 use lib.Pow.{pow-pos, pow-mono, shr-shr, shr-lt, shr-mono, split, mod-pow-add}
-use borrow.Author.Tests.{eqb-true, eq-eqb, ne-eqb}
+use borrow.Author.Tests.{eqb-true, ne-eqb}
 use Rattle.spec.specs.declared.Shape.{Shape}
 use Rattle.spec.specs.Bytes.{tabulate, number, digits, allZero}
 use Rattle.spec.specs.Challenge.{bitAt, bitsAt, indexAt, clearAt}
@@ -24,9 +24,9 @@ use Rattle.laws.proofs.Limbs.{number-below, number-part}
 use Rattle.laws.proofs.Words.{same-test}
 use Rattle.planning_laws.proofs.Bits.{index-none, index-more}
 use Rattle.planning_laws.proofs.Depths.{bit-none, bit-next}
-use Rattle.planning_laws.proofs.ShapeFacts.{ShapeFacts, shape-facts, bit-all}
+use Rattle.planning_laws.proofs.ShapeFacts.{shape-facts, bit-all}
 use Rattle.enumeration_text.specs.Listed.{openBits, challengeAt}
-use Rattle.enumeration_text.specs.Order.{IsChallenge, EachOnce, MixedRadix, Ascending, ListOrder}
+use Rattle.enumeration_text.specs.Order.{IsChallenge, MixedRadix, Ascending, ListOrder}
 
 -- ---- bits of bytes are bits of the number that they write
 

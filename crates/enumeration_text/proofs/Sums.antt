@@ -1,8 +1,7 @@
--- Sums over lines that are given by a rule: one line more at the end, and a bound. By induction on the lines.
-use Prim.Native.Nat.{ℕ, zero, suc, _+_, _*_, _≤_}
-use mathlib.Core.Path.{_≡_}
+-- Sums over lines that are given by a rule: one line more at the end, and two rules that agree. By induction on the lines.
+use Prim.Native.Nat.{ℕ, zero, suc, _+_}
+use mathlib.Core.Path.{_≡_, refl, ap₂}
 use native.Mathlib.Omega.{arith}
-use native.Mathlib.Nat.{suc-mul}
 use Rattle.spec.specs.Bytes.{tabulate}
 use Rattle.enumeration_text.specs.Listed.{Listed, sumOf}
 
@@ -11,7 +10,7 @@ unfolding tabulate sumOf
 sum-more f zero g = omega arith
 sum-more f (suc n) g = (let ih = sum-more f n (λ i. g (suc i)) in omega arith)
 
-pub sum-most : (f : Listed → ℕ) (n b : ℕ) (g : ℕ → Listed) → ((i : ℕ) → f (g i) ≤ b) → sumOf f (tabulate n g) ≤ n * b
+pub sum-same : (f g : Listed → ℕ) (n : ℕ) (h : ℕ → Listed) → ((i : ℕ) → f (h i) ≡ g (h i)) → sumOf f (tabulate n h) ≡ sumOf g (tabulate n h)
 unfolding tabulate sumOf
-sum-most f zero b g h = omega arith
-sum-most f (suc n) b g h = (let ih = sum-most f n b (λ i. g (suc i)) (λ i. h (suc i)) in let a = h 0 in let m = suc-mul n b in omega arith)
+sum-same f g zero h e = refl
+sum-same f g (suc n) h e = ap₂ _+_ (e 0) (sum-same f g n (λ i. h (suc i)) (λ i. e (suc i)))

@@ -1,5 +1,4 @@
 -- The count is the planned one, and below the number of leaves.
-use mathlib.Core.Path.{_≡_, sym}
 use borrow.Author.Needs.{needs}
 use Rattle.enumeration.proofs.Counts.{count-lt}
 use Rattle.enumeration.proofs.count_of.Statement.{statement}

@@ -1,6 +1,5 @@
 -- The line of the challenge's bytes and of their count.
 use borrow.Author.Needs.{needs}
-use native.Mathlib.Omega.{arith}
 use Rattle.enumeration.proofs.Counts.{line-is}
 use Rattle.enumeration.proofs.put_line.Statement.{statement}
 use Rattle.enumeration.proofs.put_line.Tie as tie

@@ -1,5 +1,4 @@
 -- The refusal, or a piece of the list.
-use native.Mathlib.Omega.{arith}
 use borrow.Author.Needs.{needs}
 use borrow.Author.Tests.{eq-eqb, ne-eqb}
 use Rattle.listing_text.proofs.Writing.{put-front}

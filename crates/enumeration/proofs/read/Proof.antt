@@ -1,5 +1,5 @@
 -- An input that is no line gives 7, any other what the tests of its shape give.
-use mathlib.Core.Path.{_≡_, refl, sym, ap, _∙_}
+use mathlib.Core.Path.{sym, ap, _∙_}
 use native.Mathlib.Omega.{arith}
 use borrow.Author.Needs.{needs}
 use Rattle.spec.specs.Shapes.{resolved}

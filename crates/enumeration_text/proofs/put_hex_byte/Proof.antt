@@ -1,6 +1,4 @@
 -- One digit, and behind it another.
-use mathlib.Core.Path.{ap₂}
-use mathlib.Core.List.{List, [], _∷_}
 use borrow.Author.Needs.{needs}
 use Rattle.listing_text.proofs.Writing.{put-next}
 use Rattle.enumeration_text.proofs.put_hex_byte.Statement.{statement}
