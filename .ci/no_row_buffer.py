@@ -36,9 +36,9 @@ TABLE = {
     '[u8; 168]': ('a block of the sponge', {'shake'}),
     '[u8; 1536]': ('the hash keys of all vectors', {'signer_commit::write_commitment', 'reconstruction::write_reconstruction'}),
     '[u8; 1024]': ('the hashes of all vectors', {'signer_commit::write_commitment', 'reconstruction::write_reconstruction'}),
-    '[u8; 81919]': ('which nodes are covered', {'verifier_tree::reconstruct_tree'}),
     '[u32; 512]': ('numbers of revealed nodes', {'verifier::count_nodes'}),
-    '[usize; 32]': ('numbers of covered nodes', {'planning::revealed_nodes'}),
+    '[u32; 576]': ('numbers of covered nodes', {'verifier_tree::reconstruct_tree'}),
+    '[usize; 32]': ('numbers of covered nodes that are still to be raised', {'planning::revealed_nodes', 'planning::covered_nodes'}),
 }
 # in what sees bytes of rows only these go beyond 16 bytes
 BESIDE_ROWS = {'[u8; 256]', '[[[u8; 4]; 4]; 11]'}

@@ -1,5 +1,5 @@
-/* How deep the stack of each call goes, at the largest trees and at the two sets: the call runs on a stack of the size that the header names, with a forbidden page beneath,
- * which is filled before and looked through after. Prints the deepest of each call; exit status 1 where a call was refused or went beyond seven eighths. */
+/* How deep the stack of each exported call goes, at the largest trees, at the smallest and at the two sets: the call runs on a stack of the size that the header names, with a
+ * forbidden page beneath, which is filled before and looked through after. Prints the deepest of each call; exit status 1 where a call was refused or went beyond seven eighths. */
 #define _DEFAULT_SOURCE
 #include <rachnoel.h>
 
@@ -16,6 +16,7 @@ static size_t shape[4];
 
 static rachnoel_lengths n, m; /* of the whole rows, and of the stretch */
 static uint8_t root[RACHNOEL_BLOCK], iv[RACHNOEL_BLOCK], challenge[RACHNOEL_BLOCK], commitment[RACHNOEL_COMMITMENT], count[RACHNOEL_COUNT];
+static uint8_t record[RACHNOEL_RECORD_MOST], length[RACHNOEL_RECORD_LENGTH], lengths[RACHNOEL_WORK_LENGTHS];
 static uint8_t *tree, *lcs, *u, *v, *corrections, *opening, *indices, *nodes;
 static size_t answer;
 
@@ -41,21 +42,31 @@ static void reconstruct_stretch(void)
     answer = rachnoel_reconstruct_stretch(SHAPE, BITS, FIRST, WIDTH, iv, 16, challenge, 16, corrections, m.corrections, opening, m.opening, commitment, 32, tree, m.tree, lcs,
         m.leaf_commitments, v, m.matrix, count, 4);
 }
+static void record_length(void) { answer = rachnoel_record_length(SHAPE, BITS, length, 4); }
+static void write_record(void)
+{
+    answer = rachnoel_write_record(SHAPE, BITS, iv, 16, challenge, 16, corrections, n.corrections, opening, n.opening, commitment, 32, record, rachnoel_number(length));
+}
+static void work_lengths(void) { answer = rachnoel_work_lengths(record, rachnoel_number(length), lengths, 12); }
+static void check_record(void)
+{
+    answer = rachnoel_check_record(record, rachnoel_number(length), tree, n.tree, lcs, n.leaf_commitments, v, n.matrix, count, 4);
+}
 static void nothing(void) {}
 
+/* in this order each finds what it needs: a record is written of what commit and open gave, and then checked */
 static const struct {
     const char *name;
     void (*work)(void);
-    size_t size;
-} calls[] = {{"nothing", nothing, RACHNOEL_STACK}, {"decode", decode, RACHNOEL_STACK}, {"plan", plan, RACHNOEL_STACK}, {"commit", commit, RACHNOEL_STACK},
-    {"commit_stretch", commit_stretch, RACHNOEL_STACK}, {"open", opened, RACHNOEL_STACK}, {"reconstruct", reconstruct, RACHNOEL_STACK_RECONSTRUCT},
-    {"reconstruct_stretch", reconstruct_stretch, RACHNOEL_STACK_RECONSTRUCT}};
+} calls[] = {{"nothing", nothing}, {"decode", decode}, {"plan", plan}, {"commit", commit}, {"commit_stretch", commit_stretch}, {"open", opened}, {"reconstruct", reconstruct},
+    {"reconstruct_stretch", reconstruct_stretch}, {"record_length", record_length}, {"write_record", write_record}, {"work_lengths", work_lengths},
+    {"check_record", check_record}};
 enum { CALLS = sizeof calls / sizeof calls[0] };
 
 /* the bytes of a filled stack that the call changed */
-static size_t depth(void (*work)(void), size_t size)
+static size_t depth(void (*work)(void))
 {
-    const size_t page = (size_t)sysconf(_SC_PAGESIZE);
+    const size_t size = RACHNOEL_STACK, page = (size_t)sysconf(_SC_PAGESIZE);
     uint8_t *const map = mmap(NULL, size + page, PROT_READ | PROT_WRITE, MAP_PRIVATE | MAP_ANONYMOUS, -1, 0);
     static ucontext_t here, there;
     if (map == MAP_FAILED || mprotect(map, page, PROT_NONE) != 0 || getcontext(&there) != 0) {
@@ -77,7 +88,7 @@ static size_t depth(void (*work)(void), size_t size)
 
 int main(void)
 {
-    static const size_t shapes[][4] = {{0, 0, 0, 0}, {11, 11, 7, 102}, {10, 12, 8, 512}, {32, 4, 0, 512}, {10, 11, 9, 512}};
+    static const size_t shapes[][4] = {{0, 0, 0, 0}, {11, 11, 7, 102}, {10, 12, 8, 512}, {32, 4, 0, 512}, {10, 11, 9, 512}, {1, 1, 127, 1}};
     size_t deepest[CALLS] = {0}, wrong = 0;
     for (size_t i = 0; i < sizeof shapes / sizeof shapes[0]; i++) {
         memcpy(shape, shapes[i], sizeof shape);
@@ -87,11 +98,16 @@ int main(void)
         opening = calloc(1, n.opening), indices = calloc(1, n.indices), nodes = calloc(1, n.nodes);
         if (!tree || !lcs || !u || !v || !corrections || !opening || !indices || !nodes)
             return 1;
+        /* hidden leaves far apart where T allows it */
+        memset(challenge, 0, sizeof challenge);
+        for (size_t b = 0; shape[3] == 512 && b < 128 - shape[2]; b++)
+            if (b * b % 7 == 4)
+                challenge[b / 8] = (uint8_t)(challenge[b / 8] | 1u << b % 8);
         for (size_t c = 0; c < CALLS; c++) {
             answer = 0;
             calls[c].work(); /* the first call may bind names of the C library, on the stack it runs on */
-            const size_t d = depth(calls[c].work, calls[c].size);
-            if (answer != 0 || d > calls[c].size / 8 * 7)
+            const size_t d = depth(calls[c].work);
+            if (answer != 0 || d > RACHNOEL_STACK / 8 * 7)
                 wrong += (size_t)printf("%s: answered %zu, %zu bytes of stack, at tau %zu\n", calls[c].name, answer, d, shape[0]);
             if (deepest[c] < d)
                 deepest[c] = d;

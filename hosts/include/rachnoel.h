@@ -6,7 +6,7 @@
  * - a slice has the bytes that its length names;
  * - no pointer is NULL, also where the length is 0;
  * - a slice that may be written overlaps no other slice of the call (slices that are only read may overlap each other);
- * - the stack has room for the call: RACHNOEL_STACK_RECONSTRUCT bytes for the two forms of reconstruct and for check_record, RACHNOEL_STACK for any other.
+ * - the stack has room for the call: RACHNOEL_STACK bytes.
  * The calls use no heap and keep nothing between calls; several threads may call at once, each with slices of its own.
  *
  * `indices`, `nodes`, `count` and lengths hold numbers of four bytes, least byte first: tau of them, t of them (of the default where the four are zeros), one.
@@ -48,8 +48,8 @@ enum {
     RACHNOEL_RECORD_MOST = 263778 /* no record has more bytes */
 };
 
-/* stack in bytes; the deepest that was measured is at most seven eighths of it */
-enum { RACHNOEL_STACK = 16 * 1024, RACHNOEL_STACK_RECONSTRUCT = 112 * 1024 };
+/* stack in bytes, for any call at any shape; the deepest that was measured, 9,368 of reconstruct_stretch, is at most seven eighths of it */
+enum { RACHNOEL_STACK = 16 * 1024 };
 
 typedef struct rachnoel_lengths {
     size_t leaves; /* a number of leaves; all others are lengths in bytes */

@@ -3,6 +3,7 @@ pub mod Members
 pub mod Ancestors
 pub mod Covered
 pub mod Count
+pub mod Passing
 pub mod Rising
 pub mod Revealed
 pub mod Bits

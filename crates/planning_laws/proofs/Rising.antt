@@ -1,17 +1,19 @@
 -- Planning one node at a time. A tree whose last inner node is p, with p in place of the children of p, is a tree with one leaf less; up to node
--- 2 p the same nodes are covered. So what the nodes up to p reveal is what p reveals and what the smaller tree reveals. By induction on the list.
+-- 2 p the same nodes are covered. So what the nodes up to p reveal is what p reveals and what the smaller tree reveals, and the covered nodes are the children of p in the list
+-- and those of the smaller tree. By induction on the list.
 use Prim.Native.Nat.{ℕ, zero, suc, _+_, _-_, _*_, _/_, _≤_, _<_}
 use mathlib.Core.Path.{_≡_, refl, sym, ap, ap₂, _∙_}
-use mathlib.Core.Bool.{Bool, false, _||_, cond}
+use mathlib.Core.Bool.{Bool, true, false, _||_, cond}
 use mathlib.Core.List.{List, [], _∷_, _++_}
 use native.Mathlib.Omega.{arith}
 use native.Mathlib.Decide.{decLt}
 use lib.Dec.{eqb, ltb}
 use borrow.Author.Tests.{le-ltb, lt-ltb}
 use Rattle.spec.specs.Tree.{parent, isAncestor, some, covered, siblingToReveal, revealedFrom}
-use Rattle.planning_laws.specs.Lists.{Leaves, Below}
+use Rattle.planning_laws.specs.Lists.{Leaves, Below, passing}
 use Rattle.planning_laws.proofs.Ancestors.{ancestor-parent, ancestor-past}
 use Rattle.planning_laws.proofs.Covered.{covered-leaf}
+use Rattle.planning_laws.proofs.Passing.{passing-same, passing-none}
 
 -- tests that agree below 2 n + 1 reveal the same
 pub revealed-same : (c d : ℕ → Bool) (n : ℕ) → ((x : ℕ) → x < 2 * n + 1 → c x ≡ d x) → revealedFrom c n ≡ revealedFrom d n
@@ -64,6 +66,38 @@ revealed-raised p cur ls =
     (covered-leaf (suc (suc p)) (2 * p + 2) cur ls (omega arith)))
     (revealed-same (covered cur) (covered (raisedAll p cur)) p (λ x h. sym (covered-raised p x cur ls (omega arith))))
 
+-- the children of p that are covered, by whether the left and the right one are
+unfoldable pub coveredChildren : Bool → Bool → ℕ → List ℕ
+coveredChildren l r p = cond r ((2 * p + 2) ∷ []) [] ++ cond l ((2 * p + 1) ∷ []) []
+
+passing-two : (c : ℕ → Bool) (p : ℕ) → passing c (2 * p + 3) ≡ coveredChildren (c (2 * p + 1)) (c (2 * p + 2)) p ++ passing c (2 * p + 1)
+unfolding passing coveredChildren
+passing-two c p =
+    let s : 2 * p + 3 ≡ suc (suc (2 * p + 1)) = omega arith in
+    let r : suc (2 * p + 1) ≡ 2 * p + 2 = omega arith in
+    ap (passing c) s
+    ∙ ap (λ (m : ℕ). cond (c m) (m ∷ Low) Low) r
+    ∙ go (c (2 * p + 1)) (c (2 * p + 2)) (passing c (2 * p + 1))
+  where
+    Low : List ℕ
+    Low = cond (c (2 * p + 1)) ((2 * p + 1) ∷ passing c (2 * p + 1)) (passing c (2 * p + 1))
+
+    go : (x y : Bool) (l : List ℕ) → cond y ((2 * p + 2) ∷ cond x ((2 * p + 1) ∷ l) l) (cond x ((2 * p + 1) ∷ l) l) ≡ (cond y ((2 * p + 2) ∷ []) [] ++ cond x ((2 * p + 1) ∷ []) []) ++ l
+    go true true l = refl
+    go true false l = refl
+    go false true l = refl
+    go false false l = refl
+
+-- of the covered nodes the children of p are those in the list; the rest is the smaller tree's
+covered-nodes-raised : (p : ℕ) (cur : List ℕ) → Leaves (suc (suc p)) cur
+    → passing (covered cur) (2 * p + 3) ≡ coveredChildren (some (eqb (2 * p + 1)) cur) (some (eqb (2 * p + 2)) cur) p ++ passing (covered (raisedAll p cur)) (2 * p + 1)
+covered-nodes-raised p cur ls =
+    passing-two (covered cur) p
+    ∙ ap₂ _++_
+    (ap₂ (λ (l r : Bool). coveredChildren l r p) (covered-leaf (suc (suc p)) (2 * p + 1) cur ls (omega arith))
+    (covered-leaf (suc (suc p)) (2 * p + 2) cur ls (omega arith)))
+    (passing-same (covered cur) (covered (raisedAll p cur)) (2 * p + 1) (λ x h. sym (covered-raised p x cur ls (omega arith))))
+
 -- ---- straight to the parent of the largest node
 
 pub below-more : (b c : ℕ) (xs : List ℕ) → b ≤ c → Below b xs → Below c xs
@@ -98,6 +132,9 @@ pub record Turn (a p x : ℕ) (cur : List ℕ) : Type 0 where
   pub gives :
       revealedFrom (covered cur) a
       ≡ siblingToReveal (some (eqb (2 * p + 1)) cur) (some (eqb (2 * p + 2)) cur) p ++ revealedFrom (covered (raisedAll p cur)) p
+  pub takes :
+      passing (covered cur) (2 * a + 1)
+      ≡ coveredChildren (some (eqb (2 * p + 1)) cur) (some (eqb (2 * p + 2)) cur) p ++ passing (covered (raisedAll p cur)) (2 * p + 1)
 
 pub turn : (a x : ℕ) (xs : List ℕ) → 0 < a → Leaves (suc a) (x ∷ xs) → Below x xs → Turn a ((x - 1) / 2) x (x ∷ xs)
 turn a x xs h ls f =
@@ -111,4 +148,8 @@ turn a x xs h ls f =
           ap (revealedFrom (covered (x ∷ xs))) (let z : a ≡ a - suc p + suc p = omega arith in z)
           ∙ skip (a - suc p) p (x ∷ xs) u
           ∙ revealed-raised p (x ∷ xs) (leaves-down a p (x ∷ xs) (omega arith) u ls);
+      takes =
+          ap (passing (covered (x ∷ xs))) (let z : 2 * a + 1 ≡ 2 * (a - suc p) + (2 * p + 3) = omega arith in z)
+          ∙ passing-none (covered (x ∷ xs)) (2 * (a - suc p)) (2 * p + 3) (λ y l. covered-past y (2 * p + 3) (x ∷ xs) l u)
+          ∙ covered-nodes-raised p (x ∷ xs) (leaves-down a p (x ∷ xs) (omega arith) u ls);
     }

@@ -1,5 +1,5 @@
--- What the laws of planning speak of beside the definitions of spec: lists of leaves, descending lists, lists without duplicates, and how many numbers
--- pass a test.
+-- What the laws of planning speak of beside the definitions of spec: lists of leaves, descending lists, lists without duplicates, and which numbers, and how
+-- many, pass a test.
 use Prim.Native.Nat.{ℕ, zero, suc, _+_, _-_, _*_, _≤_, _<_}
 use mathlib.Core.Path.{_≡_}
 use mathlib.Core.Bool.{Bool, false, cond}
@@ -34,3 +34,12 @@ tally c (suc n) = cond (c n) 1 0 + tally c n
 -- document 000's n_h (figure 5.4): how many nodes of the tree with L leaves are covered
 unfoldable pub coveredCount : ℕ → List ℕ → ℕ
 coveredCount L hidden = tally (covered hidden) (2 * L - 1)
+
+-- the numbers below n that pass the test, largest first
+unfoldable pub passing : (ℕ → Bool) → ℕ → List ℕ
+passing c zero = []
+passing c (suc n) = cond (c n) (n ∷ passing c n) (passing c n)
+
+-- the covered nodes of the tree with L leaves, largest first
+unfoldable pub coveredNodes : ℕ → List ℕ → List ℕ
+coveredNodes L hidden = passing (covered hidden) (2 * L - 1)

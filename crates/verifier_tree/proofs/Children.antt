@@ -1,14 +1,13 @@
--- The two children of a node, written one after the other, and the slots that they take. Of a marked node one child at least is marked, so one slot at most is
--- read. By cases on the marks.
+-- The two children of a node, written one after the other, and the slots that they take. Of a listed node one child at least is listed, so one slot at most is
+-- read. By cases on the children.
 use Prim.Native.Nat.{ℕ, _+_, _-_, _*_, _≤_}
 use mathlib.Core.Path.{_≡_, refl, sym, ap, ap₂, _∙_}
-use mathlib.Core.Bool.{Bool, true, false, _||_, not, cond}
+use mathlib.Core.Bool.{Bool, true, false, _||_, cond}
 use mathlib.Core.List.{List, _++_, append-assoc}
 use native.Mathlib.Omega.{arith}
 use native.Mathlib.Numerals.{add-one}
-use lib.ListN.{length, getD, take, drop, length-append}
+use lib.ListN.{length, take, drop, length-append}
 use lib.Seq.{drop-at, drop-drop, length-take-le}
-use borrow.Author.Tests.{eq-eqb, ne-eqb}
 use Rattle.spec.specs.declared.Shape.{Shape}
 use Rattle.spec.specs.Bytes.{part, zeros}
 use Rattle.spec.specs.Tree.{siblingToReveal, revealedFrom}
@@ -19,7 +18,7 @@ use Rattle.laws.proofs.Lists.{length-zeros, length-part}
 use Rattle.laws.proofs.Putting.{behind, put-take}
 use Rattle.planning_laws.proofs.Revealed.{revealed-longer}
 use Rattle.tree.proofs.Growing.{length-children}
-use Rattle.verifier_tree.specs.ByMap.{marked, readBefore, readWith, nodeBy, childrenBy}
+use Rattle.verifier_tree.specs.ByNodes.{listed, readBefore, readWith, nodeBy, childrenBy}
 
 -- ---- parts of a buffer
 
@@ -48,49 +47,41 @@ put-two at w d y z h l =
     ∙ append-assoc p y (z ++ drop (at + w + w) d)
     ∙ ap (λ (a : List ℕ). p ++ a) (sym (append-assoc y z (drop (at + w + w) d)))
 
--- ---- marks
+-- ---- a child of a listed node
 
-pub is-marked : (map : List ℕ) (x : ℕ) → (getD map x 0 ≡ 0 → ⊥) → marked map x ≡ true
-unfolding marked
-is-marked map x h = ap not (ne-eqb (getD map x 0) 0 h)
-
-pub not-marked : (map : List ℕ) (x : ℕ) → getD map x 0 ≡ 0 → marked map x ≡ false
-unfolding marked
-not-marked map x h = ap not (eq-eqb (getD map x 0) 0 h)
-
-module _ (map slots : List ℕ) (n read x : ℕ) where
-  pub marked-read : marked map x ≡ true → read ≡ readWith map x read
+module _ (nodes slots : List ℕ) (n read x : ℕ) where
+  pub listed-read : listed nodes x ≡ true → read ≡ readWith nodes x read
   unfolding readWith
-  marked-read m = sym (ap (λ (b : Bool). cond b read (read + 1)) m)
+  listed-read m = sym (ap (λ (b : Bool). cond b read (read + 1)) m)
 
-  pub other-read : marked map x ≡ false → read + 1 ≡ readWith map x read
+  pub other-read : listed nodes x ≡ false → read + 1 ≡ readWith nodes x read
   unfolding readWith
   other-read m = sym (ap (λ (b : Bool). cond b read (read + 1)) m)
 
-  pub marked-node : marked map x ≡ true → zeros 16 ≡ nodeBy map slots n read x
+  pub listed-node : listed nodes x ≡ true → zeros 16 ≡ nodeBy nodes slots n read x
   unfolding nodeBy
-  marked-node m = sym (ap (λ (b : Bool). cond b (zeros 16) (part slots (16 * (n - (read + 1))) 16)) m)
+  listed-node m = sym (ap (λ (b : Bool). cond b (zeros 16) (part slots (16 * (n - (read + 1))) 16)) m)
 
-  pub other-node : marked map x ≡ false → part slots (16 * (n - (read + 1))) 16 ≡ nodeBy map slots n read x
+  pub other-node : listed nodes x ≡ false → part slots (16 * (n - (read + 1))) 16 ≡ nodeBy nodes slots n read x
   unfolding nodeBy
   other-node m = sym (ap (λ (b : Bool). cond b (zeros 16) (part slots (16 * (n - (read + 1))) 16)) m)
 
-  length-node : readWith map x read ≤ n → 16 * n ≤ length slots → length (nodeBy map slots n read x) ≡ 16
+  length-node : readWith nodes x read ≤ n → 16 * n ≤ length slots → length (nodeBy nodes slots n read x) ≡ 16
   unfolding nodeBy readWith
-  length-node h l = go (marked map x) h
+  length-node h l = go (listed nodes x) h
     where
       go : (b : Bool) → cond b read (read + 1) ≤ n → length (cond b (zeros 16) (part slots (16 * (n - (read + 1))) 16)) ≡ 16
       go true h = length-zeros 16
       go false h = length-part slots (16 * (n - (read + 1))) 16 (omega arith)
 
-pub read-longer : (map : List ℕ) (a l : ℕ) → a ≤ l → readBefore map a ≤ readBefore map l
+pub read-longer : (nodes : List ℕ) (a l : ℕ) → a ≤ l → readBefore nodes a ≤ readBefore nodes l
 unfolding readBefore
-read-longer map a l h = revealed-longer (marked map) a l h
+read-longer nodes a l h = revealed-longer (listed nodes) a l h
 
 -- the slots of two children are there where those of both together are
-both-within : (map : List ℕ) (x y read n : ℕ) → readWith map y (readWith map x read) ≤ n → (readWith map x read ≤ n) × (readWith map y read ≤ n)
+both-within : (nodes : List ℕ) (x y read n : ℕ) → readWith nodes y (readWith nodes x read) ≤ n → (readWith nodes x read ≤ n) × (readWith nodes y read ≤ n)
 unfolding readWith
-both-within map x y read n h = go (marked map x) (marked map y) h
+both-within nodes x y read n h = go (listed nodes x) (listed nodes y) h
   where
     go : (p q : Bool) → cond q (cond p read (read + 1)) (cond p read (read + 1) + 1) ≤ n → (cond p read (read + 1) ≤ n) × (cond q read (read + 1) ≤ n)
     go true true h = (omega arith, omega arith)
@@ -100,32 +91,32 @@ both-within map x y read n h = go (marked map x) (marked map y) h
 
 -- ---- node a
 
-module _ (map slots : List ℕ) (n a : ℕ) (by : marked map a ≡ (marked map (2 * a + 1) || marked map (2 * a + 2))) (within : readBefore map (a + 1) ≤ n) where
-  -- any node but a marked one reveals nothing, and has the children that the generator gives
-  pub other-reads : marked map a ≡ false → readBefore map a ≡ readBefore map (a + 1)
+module _ (nodes slots : List ℕ) (n a : ℕ) (by : listed nodes a ≡ (listed nodes (2 * a + 1) || listed nodes (2 * a + 2))) (within : readBefore nodes (a + 1) ≤ n) where
+  -- any node but a listed one reveals nothing, and has the children that the generator gives
+  pub other-reads : listed nodes a ≡ false → readBefore nodes a ≡ readBefore nodes (a + 1)
   unfolding readBefore siblingToReveal revealedFrom
   other-reads e =
       sym
-      (ap (λ (n : ℕ). length (revealedFrom (marked map) n)) (add-one a) ∙ count (marked map (2 * a + 1)) (marked map (2 * a + 2)) (revealedFrom (marked map) a) (sym by ∙ e))
+      (ap (λ (n : ℕ). length (revealedFrom (listed nodes) n)) (add-one a) ∙ count (listed nodes (2 * a + 1)) (listed nodes (2 * a + 2)) (revealedFrom (listed nodes) a) (sym by ∙ e))
     where
       count : (p q : Bool) (l : List ℕ) → (p || q) ≡ false → length (siblingToReveal p q a ++ l) ≡ length l
       count true q l h = contrary refl h
       count false true l h = contrary refl h
       count false false l h = refl
 
-  pub other-children : (s : Shape) (iv x : List ℕ) → marked map a ≡ false → children faest s iv a x ≡ childrenBy map slots n s iv a x
+  pub other-children : (s : Shape) (iv x : List ℕ) → listed nodes a ≡ false → children faest s iv a x ≡ childrenBy nodes slots n s iv a x
   unfolding childrenBy
   other-children s iv x e =
       sym
       (ap
-      (λ (b : Bool). cond b (nodeBy map slots n (readBefore map a) (2 * a + 1) ++ nodeBy map slots n (readBefore map a) (2 * a + 2)) (children faest s iv a x)) e)
+      (λ (b : Bool). cond b (nodeBy nodes slots n (readBefore nodes a) (2 * a + 1) ++ nodeBy nodes slots n (readBefore nodes a) (2 * a + 2)) (children faest s iv a x)) e)
 
-  -- a marked node reads as many slots as it reveals
-  pub marked-reads : marked map a ≡ true → readWith map (2 * a + 2) (readWith map (2 * a + 1) (readBefore map a)) ≡ readBefore map (a + 1)
+  -- a listed node reads as many slots as it reveals
+  pub listed-reads : listed nodes a ≡ true → readWith nodes (2 * a + 2) (readWith nodes (2 * a + 1) (readBefore nodes a)) ≡ readBefore nodes (a + 1)
   unfolding readBefore readWith siblingToReveal revealedFrom
-  marked-reads e =
+  listed-reads e =
       sym
-      (ap (λ (n : ℕ). length (revealedFrom (marked map) n)) (add-one a) ∙ count (marked map (2 * a + 1)) (marked map (2 * a + 2)) (revealedFrom (marked map) a) (sym by ∙ e))
+      (ap (λ (n : ℕ). length (revealedFrom (listed nodes) n)) (add-one a) ∙ count (listed nodes (2 * a + 1)) (listed nodes (2 * a + 2)) (revealedFrom (listed nodes) a) (sym by ∙ e))
     where
       count : (p q : Bool) (l : List ℕ) → (p || q) ≡ true → length (siblingToReveal p q a ++ l) ≡ cond q (cond p (length l) (length l + 1)) (cond p (length l) (length l + 1) + 1)
       count true true l h = refl
@@ -133,18 +124,18 @@ module _ (map slots : List ℕ) (n a : ℕ) (by : marked map a ≡ (marked map (
       count false true l h = omega arith
       count false false l h = contrary h refl
 
-  pub right-within : (read left : ℕ) → marked map a ≡ true → read ≡ readBefore map a → left ≡ readWith map (2 * a + 1) read → readWith map (2 * a + 2) left ≤ n
+  pub right-within : (read left : ℕ) → listed nodes a ≡ true → read ≡ readBefore nodes a → left ≡ readWith nodes (2 * a + 1) read → readWith nodes (2 * a + 2) left ≤ n
   right-within read left e r l =
-      let z = ap (readWith map (2 * a + 2)) (l ∙ ap (readWith map (2 * a + 1)) r) ∙ marked-reads e in
+      let z = ap (readWith nodes (2 * a + 2)) (l ∙ ap (readWith nodes (2 * a + 1)) r) ∙ listed-reads e in
       omega arith
 
-  pub left-within : (read : ℕ) → marked map a ≡ true → read ≡ readBefore map a → readWith map (2 * a + 1) read ≤ n
-  left-within read e r = both-within map (2 * a + 1) (2 * a + 2) read n (right-within read (readWith map (2 * a + 1) read) e r refl) .0
+  pub left-within : (read : ℕ) → listed nodes a ≡ true → read ≡ readBefore nodes a → readWith nodes (2 * a + 1) read ≤ n
+  left-within read e r = both-within nodes (2 * a + 1) (2 * a + 2) read n (right-within read (readWith nodes (2 * a + 1) read) e r refl) .0
 
   -- where the right child takes a slot the left child took none
-  right-slot : (read : ℕ) → marked map a ≡ true → nodeBy map slots n (readWith map (2 * a + 1) read) (2 * a + 2) ≡ nodeBy map slots n read (2 * a + 2)
+  right-slot : (read : ℕ) → listed nodes a ≡ true → nodeBy nodes slots n (readWith nodes (2 * a + 1) read) (2 * a + 2) ≡ nodeBy nodes slots n read (2 * a + 2)
   unfolding nodeBy readWith
-  right-slot read e = go (marked map (2 * a + 1)) (marked map (2 * a + 2)) (sym by ∙ e)
+  right-slot read e = go (listed nodes (2 * a + 1)) (listed nodes (2 * a + 2)) (sym by ∙ e)
     where
       go : (p q : Bool) → (p || q) ≡ true
           → cond q (zeros 16) (part slots (16 * (n - (cond p read (read + 1) + 1))) 16) ≡ cond q (zeros 16) (part slots (16 * (n - (read + 1))) 16)
@@ -152,40 +143,40 @@ module _ (map slots : List ℕ) (n a : ℕ) (by : marked map a ≡ (marked map (
       go true false h = refl
       go false false h = contrary h refl
 
-  pub length-by : (s : Shape) (iv x : List ℕ) → 16 * n ≤ length slots → length (childrenBy map slots n s iv a x) ≡ 32
+  pub length-by : (s : Shape) (iv x : List ℕ) → 16 * n ≤ length slots → length (childrenBy nodes slots n s iv a x) ≡ 32
   unfolding childrenBy
-  length-by s iv x l = go (marked map a) refl
+  length-by s iv x l = go (listed nodes a) refl
     where
-      go : (b : Bool) → marked map a ≡ b
-          → length (cond b (nodeBy map slots n (readBefore map a) (2 * a + 1) ++ nodeBy map slots n (readBefore map a) (2 * a + 2)) (children faest s iv a x)) ≡ 32
+      go : (b : Bool) → listed nodes a ≡ b
+          → length (cond b (nodeBy nodes slots n (readBefore nodes a) (2 * a + 1) ++ nodeBy nodes slots n (readBefore nodes a) (2 * a + 2)) (children faest s iv a x)) ≡ 32
       go true e =
-          let w = both-within map (2 * a + 1) (2 * a + 2) (readBefore map a) n (let z = marked-reads e in omega arith) in
-          let p = length-node map slots n (readBefore map a) (2 * a + 1) (w .0) l in
-          let q = length-node map slots n (readBefore map a) (2 * a + 2) (w .1) l in
+          let w = both-within nodes (2 * a + 1) (2 * a + 2) (readBefore nodes a) n (let z = listed-reads e in omega arith) in
+          let p = length-node nodes slots n (readBefore nodes a) (2 * a + 1) (w .0) l in
+          let q = length-node nodes slots n (readBefore nodes a) (2 * a + 2) (w .1) l in
           simp length-append (omega arith)
       go false e = length-children s iv a x
 
   -- both children written
-  pub marked-children : (s : Shape) (iv x : List ℕ) (read left : ℕ) (d e f : List ℕ) → marked map a ≡ true → read ≡ readBefore map a → left ≡ readWith map (2 * a + 1) read
+  pub listed-children : (s : Shape) (iv x : List ℕ) (read left : ℕ) (d e f : List ℕ) → listed nodes a ≡ true → read ≡ readBefore nodes a → left ≡ readWith nodes (2 * a + 1) read
       → 16 * n ≤ length slots → 32 * a + 48 ≤ length d
-      → e ≡ take (16 * (2 * a + 1)) d ++ (nodeBy map slots n read (2 * a + 1) ++ drop (16 * (2 * a + 1) + 16) d)
-      → f ≡ take (16 * (2 * a + 2)) e ++ (nodeBy map slots n left (2 * a + 2) ++ drop (16 * (2 * a + 2) + 16) e)
-      → f ≡ take (32 * a + 16) d ++ (childrenBy map slots n s iv a x ++ drop (32 * a + 48) d)
+      → e ≡ take (16 * (2 * a + 1)) d ++ (nodeBy nodes slots n read (2 * a + 1) ++ drop (16 * (2 * a + 1) + 16) d)
+      → f ≡ take (16 * (2 * a + 2)) e ++ (nodeBy nodes slots n left (2 * a + 2) ++ drop (16 * (2 * a + 2) + 16) e)
+      → f ≡ take (32 * a + 16) d ++ (childrenBy nodes slots n s iv a x ++ drop (32 * a + 48) d)
   unfolding childrenBy
-  marked-children s iv x read left d e f m r l room long p q =
-      let y = nodeBy map slots n read (2 * a + 1) in
-      let z = nodeBy map slots n read (2 * a + 2) in
+  listed-children s iv x read left d e f m r l room long p q =
+      let y = nodeBy nodes slots n read (2 * a + 1) in
+      let z = nodeBy nodes slots n read (2 * a + 2) in
       let one : 16 * (2 * a + 1) ≡ 32 * a + 16 = omega arith in
       let two : 16 * (2 * a + 2) ≡ 32 * a + 16 + 16 = omega arith in
       let end : 32 * a + 16 + 16 + 16 ≡ 32 * a + 48 = omega arith in
       let e′ : e ≡ take (32 * a + 16) d ++ (y ++ drop (32 * a + 16 + 16) d) = p ∙ ap (λ (k : ℕ). take k d ++ (y ++ drop (k + 16) d)) one in
-      let w : nodeBy map slots n left (2 * a + 2) ≡ z = ap (λ (k : ℕ). nodeBy map slots n k (2 * a + 2)) l ∙ right-slot read m in
+      let w : nodeBy nodes slots n left (2 * a + 2) ≡ z = ap (λ (k : ℕ). nodeBy nodes slots n k (2 * a + 2)) l ∙ right-slot read m in
       q
-      ∙ ap (λ (k : ℕ). take k e ++ (nodeBy map slots n left (2 * a + 2) ++ drop (k + 16) e)) two
+      ∙ ap (λ (k : ℕ). take k e ++ (nodeBy nodes slots n left (2 * a + 2) ++ drop (k + 16) e)) two
       ∙ ap₂ (λ (k v : List ℕ). take (32 * a + 16 + 16) k ++ (v ++ drop (32 * a + 16 + 16 + 16) k)) e′ w
-      ∙ put-two (32 * a + 16) 16 d y z (omega arith) (length-node map slots n read (2 * a + 1) (left-within read m r) room)
+      ∙ put-two (32 * a + 16) 16 d y z (omega arith) (length-node nodes slots n read (2 * a + 1) (left-within read m r) room)
       ∙ ap₂ (λ (k : ℕ) (u : List ℕ). take (32 * a + 16) d ++ (u ++ drop k d)) end
-      (ap (λ (k : ℕ). nodeBy map slots n k (2 * a + 1) ++ nodeBy map slots n k (2 * a + 2)) r
+      (ap (λ (k : ℕ). nodeBy nodes slots n k (2 * a + 1) ++ nodeBy nodes slots n k (2 * a + 2)) r
       ∙ sym
       (ap
-      (λ (b : Bool). cond b (nodeBy map slots n (readBefore map a) (2 * a + 1) ++ nodeBy map slots n (readBefore map a) (2 * a + 2)) (children faest s iv a x)) m))
+      (λ (b : Bool). cond b (nodeBy nodes slots n (readBefore nodes a) (2 * a + 1) ++ nodeBy nodes slots n (readBefore nodes a) (2 * a + 2)) (children faest s iv a x)) m))

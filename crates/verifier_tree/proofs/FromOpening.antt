@@ -1,12 +1,12 @@
--- The tree by a map that marks the covered nodes is the reconstructed one: the slot that a node reads is the place, in the plan, of the child that it reveals.
-use Prim.Native.Nat.{ℕ, zero, suc, _+_, _-_, _*_, _≤_, _<_}
-use mathlib.Core.Path.{_≡_, refl, sym, ap, ap₂, _∙_, subst}
-use mathlib.Core.Bool.{Bool, true, false, _||_, not, cond, true≢false}
+-- The tree by the list of the covered nodes is the reconstructed one: the slot that a node reads is the place, in the plan, of the child that it reveals. With the plan within T
+-- the covered nodes are at most 575.
+use Prim.Native.Nat.{ℕ, suc, _+_, _-_, _*_, _≤_, _<_}
+use mathlib.Core.Path.{_≡_, refl, sym, ap, ap₂, _∙_}
+use mathlib.Core.Bool.{Bool, true, false, _||_, cond, true≢false}
 use mathlib.Core.List.{List, [], _∷_, _++_}
 use native.Mathlib.Omega.{arith}
-use lib.Dec.{eqb}
-use lib.ListN.{length, getD, take, drop, length-drop}
-use lib.Seq.{take-all, take-at, drop-drop}
+use lib.ListN.{length, take, drop, length-drop}
+use lib.Seq.{sets, take-all, drop-drop}
 use Rattle.spec.specs.declared.Shape.{Shape}
 use Rattle.spec.specs.Bytes.{part, zeros, indexOf}
 use Rattle.spec.specs.Tree.{covered, siblingToReveal, revealedFrom, revealed, nodeCount, expandTree}
@@ -15,39 +15,34 @@ use Rattle.spec.specs.Primitives.{faest}
 use Rattle.spec.specs.Leaves.{children}
 use Rattle.spec.specs.Verifier.{slot, givenNode, reconstructedChildren, reconstructedTree}
 use Rattle.laws.proofs.Lists.{length-zeros}
-use Rattle.laws.proofs.Strings.{getD-zeros}
-use Rattle.planning_laws.proofs.Covered.{covered-inner}
+use Rattle.planning_laws.specs.Lists.{Descending, coveredCount, coveredNodes}
+use Rattle.planning_laws.proofs.Covered.{covered-inner, root-hidden}
+use Rattle.planning_laws.proofs.Count.{count-covered}
+use Rattle.planning_laws.proofs.Passing.{passing-length, passing-descends, passing-member}
 use Rattle.planning_laws.proofs.Rising.{revealed-same}
 use Rattle.planning_laws.proofs.Revealed.{revealed-place}
-use Rattle.planning_laws.proofs.HiddenLeaves.{hidden-leaves}
+use Rattle.planning_laws.proofs.ShapeFacts.{ShapeFacts, leaves-pos}
+use Rattle.planning_laws.proofs.HiddenLeaves.{hidden-count, hidden-leaves, hidden-distinct}
 use Rattle.planning_laws.proofs.ExpandTree.{expand-same}
-use Rattle.cover.specs.Cover.{Marks, ByChildren}
-use Rattle.verifier_tree.specs.ByMap.{marked, readBefore, nodeBy, childrenBy}
+use Rattle.planning.proofs.Planned.{stored-front}
+use Rattle.verifier_tree.specs.ByNodes.{listed, ByChildren, readBefore, nodeBy, childrenBy}
 
-module _ (s : Shape) (pos : 1 ≤ leaves s) (ch map : List ℕ) (marks : Marks (covered (hiddenLeaves s ch)) 0 (2 * leaves s - 1) map) where
+module _ (s : Shape) (pos : 1 ≤ leaves s) (ch nodes : List ℕ) (same : (x : ℕ) → x < 2 * leaves s - 1 → listed nodes x ≡ covered (hiddenLeaves s ch) x) where
   abbrev Hides : ℕ → Bool
   Hides x = covered (hiddenLeaves s ch) x
-
-  marked-is : (x : ℕ) → x < 2 * leaves s - 1 → marked map x ≡ Hides x
-  unfolding marked
-  marked-is x h = ap (λ (m : ℕ). not (eqb m 0)) (marks x (omega arith) h) ∙ bit (Hides x)
-    where
-      bit : (b : Bool) → not (eqb (cond b 1 0) 0) ≡ b
-      bit true = refl
-      bit false = refl
 
   inner : (a : ℕ) → a < leaves s - 1 → Hides a ≡ (Hides (2 * a + 1) || Hides (2 * a + 2))
   inner a h = covered-inner (leaves s) a (hiddenLeaves s ch) (hidden-leaves s ch) (omega arith)
 
-  pub by-children : ByChildren (marked map) (leaves s - 1)
+  pub by-children : ByChildren (listed nodes) (leaves s - 1)
   by-children a h =
-      marked-is a (omega arith) ∙ inner a h ∙ sym (ap₂ _||_ (marked-is (2 * a + 1) (omega arith)) (marked-is (2 * a + 2) (omega arith)))
+      same a (omega arith) ∙ inner a h ∙ sym (ap₂ _||_ (same (2 * a + 1) (omega arith)) (same (2 * a + 2) (omega arith)))
 
-  read-is : (a : ℕ) → a ≤ leaves s - 1 → readBefore map a ≡ length (revealedFrom Hides a)
+  read-is : (a : ℕ) → a ≤ leaves s - 1 → readBefore nodes a ≡ length (revealedFrom Hides a)
   unfolding readBefore
-  read-is a h = ap length (revealed-same (marked map) Hides a (λ x l. marked-is x (omega arith)))
+  read-is a h = ap length (revealed-same (listed nodes) Hides a (λ x l. same x (omega arith)))
 
-  pub all-read : readBefore map (leaves s - 1) ≡ plannedCount s ch
+  pub all-read : readBefore nodes (leaves s - 1) ≡ plannedCount s ch
   unfolding plannedCount nodeCount revealed
   all-read = read-is (leaves s - 1) (omega arith)
 
@@ -57,22 +52,22 @@ module _ (s : Shape) (pos : 1 ≤ leaves s) (ch map : List ℕ) (marks : Marks (
 
     -- the slot read for a child that node a reveals
     slot-is : (a x : ℕ) → a < leaves s - 1 → siblingToReveal (Hides (2 * a + 1)) (Hides (2 * a + 2)) a ≡ x ∷ []
-        → part Slots (16 * (plannedCount s ch - (readBefore map a + 1))) 16 ≡ slot s opening (indexOf x (planned s ch))
+        → part Slots (16 * (plannedCount s ch - (readBefore nodes a + 1))) 16 ≡ slot s opening (indexOf x (planned s ch))
     unfolding level nodeBytes leafCommitmentBytes planned plannedCount nodeCount revealed revealedFrom slot
     slot-is a x h e =
         let place = revealed-place Hides (leaves s - 1) a x h e in
         let more : length (revealedFrom Hides (suc a)) ≡ suc (length (revealedFrom Hides a)) = ap (λ (l : List ℕ). length (l ++ revealedFrom Hides a)) e in
         let read = read-is a (omega arith) in
-        let k : plannedCount s ch - (readBefore map a + 1) ≡ indexOf x (planned s ch) = omega arith in
+        let k : plannedCount s ch - (readBefore nodes a + 1) ≡ indexOf x (planned s ch) = omega arith in
         ap (λ (m : ℕ). take 16 (drop (16 * m) Slots)) k ∙ ap (take 16) (drop-drop (16 * indexOf x (planned s ch)) (48 * s .tau) opening)
 
     node-is : (a x : ℕ) → a < leaves s - 1 → x < 2 * leaves s - 1 → (Hides x ≡ false → siblingToReveal (Hides (2 * a + 1)) (Hides (2 * a + 2)) a ≡ x ∷ [])
-        → nodeBy map Slots (plannedCount s ch) (readBefore map a) x ≡ givenNode s ch opening x
+        → nodeBy nodes Slots (plannedCount s ch) (readBefore nodes a) x ≡ givenNode s ch opening x
     unfolding level nodeBytes nodeBy givenNode
-    node-is a x h l shown = ap (λ (b : Bool). cond b (zeros 16) Read) (marked-is x l) ∙ go (Hides x) refl
+    node-is a x h l shown = ap (λ (b : Bool). cond b (zeros 16) Read) (same x l) ∙ go (Hides x) refl
       where
         Read : List ℕ
-        Read = part Slots (16 * (plannedCount s ch - (readBefore map a + 1))) 16
+        Read = part Slots (16 * (plannedCount s ch - (readBefore nodes a + 1))) 16
 
         go : (b : Bool) → Hides x ≡ b → cond b (zeros 16) Read ≡ cond b (zeros 16) (slot s opening (indexOf x (planned s ch)))
         go true e = refl
@@ -91,12 +86,12 @@ module _ (s : Shape) (pos : 1 ≤ leaves s) (ch map : List ℕ) (marks : Marks (
     right-shown true false a h e = refl
 
     children-is : (iv : List ℕ) (a : ℕ) → a < leaves s - 1 → (x : List ℕ)
-        → childrenBy map Slots (plannedCount s ch) s iv a x ≡ reconstructedChildren faest s iv ch opening a x
+        → childrenBy nodes Slots (plannedCount s ch) s iv a x ≡ reconstructedChildren faest s iv ch opening a x
     unfolding childrenBy reconstructedChildren
-    children-is iv a h x = ap (λ (b : Bool). cond b Pair (children faest s iv a x)) (marked-is a (omega arith)) ∙ go (Hides a) refl
+    children-is iv a h x = ap (λ (b : Bool). cond b Pair (children faest s iv a x)) (same a (omega arith)) ∙ go (Hides a) refl
       where
         Pair : List ℕ
-        Pair = nodeBy map Slots (plannedCount s ch) (readBefore map a) (2 * a + 1) ++ nodeBy map Slots (plannedCount s ch) (readBefore map a) (2 * a + 2)
+        Pair = nodeBy nodes Slots (plannedCount s ch) (readBefore nodes a) (2 * a + 1) ++ nodeBy nodes Slots (plannedCount s ch) (readBefore nodes a) (2 * a + 2)
 
         go : (b : Bool) → Hides a ≡ b → cond b Pair (children faest s iv a x) ≡ cond b (givenNode s ch opening (2 * a + 1) ++ givenNode s ch opening (2 * a + 2)) (children faest s iv a x)
         go true e =
@@ -104,47 +99,61 @@ module _ (s : Shape) (pos : 1 ≤ leaves s) (ch map : List ℕ) (marks : Marks (
             (node-is a (2 * a + 2) h (omega arith) (right-shown (Hides (2 * a + 1)) (Hides (2 * a + 2)) a (sym (inner a h) ∙ e)))
         go false e = refl
 
-    pub tree-is : (iv : List ℕ) → expandTree 16 (zeros 16) (childrenBy map Slots (plannedCount s ch) s iv) (leaves s - 1) ≡ reconstructedTree faest s iv ch opening
+    pub tree-is : (iv : List ℕ) → expandTree 16 (zeros 16) (childrenBy nodes Slots (plannedCount s ch) s iv) (leaves s - 1) ≡ reconstructedTree faest s iv ch opening
     unfolding level nodeBytes reconstructedTree
-    tree-is iv = expand-same 16 (zeros 16) (childrenBy map Slots (plannedCount s ch) s iv) (reconstructedChildren faest s iv ch opening) (leaves s - 1) (children-is iv)
+    tree-is iv = expand-same 16 (zeros 16) (childrenBy nodes Slots (plannedCount s ch) s iv) (reconstructedChildren faest s iv ch opening) (leaves s - 1) (children-is iv)
 
--- ---- as the code has them: the map is the front of a buffer, and the slots are what stands behind the leaf commitments
+-- ---- the list of the covered nodes
 
--- a buffer of zeros, and its front
-pub zero-buffer : (n : ℕ) → (n ≤ length (zeros n)) × ((x : ℕ) → getD (zeros n) x 0 ≡ 0)
-zero-buffer n = (let l = length-zeros n in omega arith, getD-zeros n)
+module _ (s : Shape) (f : ShapeFacts s) (ch : List ℕ) where
+  abbrev Nodes : List ℕ
+  Nodes = coveredNodes (leaves s) (hiddenLeaves s ch)
 
-pub zero-front : (m : ℕ) (d : List ℕ) → ((x : ℕ) → getD d x 0 ≡ 0) → (x : ℕ) → getD (take m d) x 0 ≡ 0
-zero-front zero d f x = refl
-zero-front (suc m) [] f x = refl
-zero-front (suc m) (y ∷ d) f zero = f 0
-zero-front (suc m) (y ∷ d) f (suc x) = zero-front m d (λ i. f (suc i)) x
+  listed-covered : (x : ℕ) → x < 2 * leaves s - 1 → listed Nodes x ≡ covered (hiddenLeaves s ch) x
+  unfolding listed coveredNodes
+  listed-covered x h = passing-member (covered (hiddenLeaves s ch)) (2 * leaves s - 1) x h
 
-module _ (s : Shape) (pos : 1 ≤ leaves s) (ch y z : List ℕ) (l n : ℕ) (e : l ≡ leaves s) (c : n ≡ plannedCount s ch) (long : length y ≡ 2 * l - 1)
-    (marks : Marks (covered (hiddenLeaves s ch)) 0 (2 * leaves s - 1) y) where
-  abbrev Front : List ℕ
-  Front = take (2 * l - 1 - 0) (y ++ z)
+  nodes-descend : Descending Nodes
+  unfolding coveredNodes
+  nodes-descend = passing-descends (covered (hiddenLeaves s ch)) (2 * leaves s - 1)
 
-  front-is : Front ≡ y
-  front-is = take-at y z (2 * l - 1 - 0) (omega arith)
+  root-listed : listed Nodes 0 ≡ true
+  root-listed =
+      let h = hidden-count s ch in
+      let l = leaves-pos s f in
+      listed-covered 0 (omega arith) ∙ root-hidden (hiddenLeaves s ch) (omega (arith, f .tau-pos))
 
-  pub front-long : length Front + 1 ≡ 2 * l
-  front-long = (let h = ap length front-is in omega arith)
+  pub few-nodes : (n : ℕ) → n ≡ plannedCount s ch → n ≤ s .t → length Nodes ≤ 575
+  unfolding coveredNodes coveredCount plannedCount
+  few-nodes n c l =
+      let h = hidden-count s ch in
+      let count = count-covered (leaves s) (hiddenLeaves s ch) (hidden-leaves s ch) (hidden-distinct s ch) (omega (arith, f .tau-pos)) in
+      let long = passing-length (covered (hiddenLeaves s ch)) (2 * leaves s - 1) in
+      omega (arith, f .tau-max, f .t-max)
 
-  pub front-by-children : ByChildren (marked Front) (l - 1)
-  front-by-children = subst (λ (m : List ℕ). ByChildren (marked m) (l - 1)) (sym front-is) (λ a h. by-children s pos ch y marks a (omega arith))
+  -- as the code has it: the nodes are the front of a longer list, and the slots are what stands behind the leaf commitments
+  module _ (l n m : ℕ) (list : List ℕ) (e : l ≡ leaves s) (c : n ≡ plannedCount s ch) (fits : n ≤ s .t) (count : m ≡ length Nodes) (stored : list ≡ sets (zeros 576) 0 Nodes) where
+    abbrev Front : List ℕ
+    Front = take (m - 0) list
 
-  pub front-read : n ≡ readBefore Front (l - 1)
-  front-read = c ∙ sym (all-read s pos ch y marks) ∙ ap₂ readBefore (sym front-is) (let q : leaves s - 1 ≡ l - 1 = omega arith in q)
+    front-is : Front ≡ Nodes
+    front-is =
+        ap (take (m - 0)) stored
+        ∙ stored-front Nodes (zeros 576) (m - 0) (omega arith) (let k = few-nodes n c fits in let z = length-zeros 576 in omega arith)
 
-  pub front-tree : (opening iv tree : List ℕ)
-      → tree ≡ expandTree 16 (zeros 16) (childrenBy Front (part opening (48 * s .tau) (length opening - 48 * s .tau)) n s iv) (l - 1)
-      → tree ≡ reconstructedTree faest s iv ch opening
-  front-tree opening iv tree h =
-      let slots : part opening (48 * s .tau) (length opening - 48 * s .tau) ≡ drop (48 * s .tau) opening =
-      take-all (length opening - 48 * s .tau) (drop (48 * s .tau) opening) (simp length-drop (omega arith))
-      in
-      h
-      ∙ ap₂ (λ (m q : List ℕ). expandTree 16 (zeros 16) (childrenBy m q n s iv) (l - 1)) front-is slots
-      ∙ ap₂ (λ (k i : ℕ). expandTree 16 (zeros 16) (childrenBy y (drop (48 * s .tau) opening) k s iv) i) c (let q : l - 1 ≡ leaves s - 1 = omega arith in q)
-      ∙ tree-is s pos ch y marks opening iv
+    pub front-ready : Descending Front × (listed Front 0 ≡ true) × ByChildren (listed Front) (l - 1) × (n ≡ readBefore Front (l - 1))
+    front-ready =
+        rw (front-is, e)
+        (nodes-descend, root-listed, by-children s (leaves-pos s f) ch Nodes listed-covered, c ∙ sym (all-read s (leaves-pos s f) ch Nodes listed-covered))
+
+    pub front-tree : (opening iv tree : List ℕ)
+        → tree ≡ expandTree 16 (zeros 16) (childrenBy Front (part opening (48 * s .tau) (length opening - 48 * s .tau)) n s iv) (l - 1)
+        → tree ≡ reconstructedTree faest s iv ch opening
+    front-tree opening iv tree h =
+        let slots : part opening (48 * s .tau) (length opening - 48 * s .tau) ≡ drop (48 * s .tau) opening =
+        take-all (length opening - 48 * s .tau) (drop (48 * s .tau) opening) (simp length-drop (omega arith))
+        in
+        h
+        ∙ ap₂ (λ (y q : List ℕ). expandTree 16 (zeros 16) (childrenBy y q n s iv) (l - 1)) front-is slots
+        ∙ ap₂ (λ (k i : ℕ). expandTree 16 (zeros 16) (childrenBy Nodes (drop (48 * s .tau) opening) k s iv) (i - 1)) c e
+        ∙ tree-is s (leaves-pos s f) ch Nodes listed-covered opening iv

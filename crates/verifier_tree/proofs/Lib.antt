@@ -1,3 +1,4 @@
 -- Laws that the proofs of this crate cite.
+pub mod Places
 pub mod Children
 pub mod FromOpening

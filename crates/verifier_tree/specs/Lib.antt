@@ -1,2 +1,2 @@
 -- What the contracts of this crate speak of.
-pub mod ByMap
+pub mod ByNodes

@@ -1,5 +1,5 @@
 //! The calls of the proved archives, on slices. Lists of numbers and counts are bytes, four to a number, least byte first, as for a C host. A borrow shows what a C
-//! host must promise, so these functions are safe; the stack is still the caller's duty (`STACK`, `STACK_RECONSTRUCT`). They test no length: the calls do.
+//! host must promise, so these functions are safe; the stack is still the caller's duty (`STACK`). They test no length: the calls do.
 //!
 //! A call returns 0, or the number of the first refusal that applies. With 0 the outputs and the count are written, and so they are with 11; with 5 and 6 the count
 //! alone; with any other number nothing.
@@ -38,10 +38,8 @@ pub const WORK_LENGTHS: usize = 12;
 /// No record has more bytes.
 pub const RECORD_MOST: usize = 263_778;
 
-/// Bytes of stack for any call but the two forms of reconstruct and check_record.
+/// Bytes of stack for any call at any shape.
 pub const STACK: usize = 16 * 1024;
-/// Bytes of stack for the two forms of reconstruct and for check_record.
-pub const STACK_RECONSTRUCT: usize = 112 * 1024;
 
 /// A shape: tau vectors, the first 128 - w - tau k of depth k + 1 and the others of depth k, w grinding bits, at most t nodes.
 #[derive(Clone, Copy, Debug, PartialEq, Eq)]

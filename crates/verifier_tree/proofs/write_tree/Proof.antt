@@ -10,28 +10,39 @@ use Rattle.spec.specs.Bytes.{part, zeros}
 use Rattle.spec.specs.Tree.{revealedFrom, expandTree}
 use Rattle.laws.proofs.Lists.{length-zeros}
 use Rattle.tree.proofs.Growing.{grown-more}
-use Rattle.verifier_tree.specs.ByMap.{readBefore, childrenBy}
+use Rattle.verifier_tree.specs.ByNodes.{readBefore, Before, childrenBy}
+use Rattle.verifier_tree.proofs.Places.{all-after, node-passed}
 use Rattle.verifier_tree.proofs.Children.{put-zeros, read-longer, length-by}
 use Rattle.verifier_tree.proofs.write_tree.Statement.{statement}
 use Rattle.verifier_tree.proofs.write_tree.Tie as tie
 
 abbrev Inv-loop : tie.InvT-loop
-Inv-loop t iv map l slots n tree₀ read₀ a₀ a-end tree read a =
+Inv-loop t iv nodes l slots n tree₀ m p₀ a₀ a-end tree p a =
     (a ≤ l - 1)
     × (length tree + 16 ≡ 32 * l)
-    × (read ≡ readBefore map a)
-    × ((s : Shape) → take (32 * a + 16) tree ≡ expandTree 16 (zeros 16) (childrenBy map slots n s iv) a)
+    × Before nodes a p
+    × ((s : Shape) → take (32 * a + 16) tree ≡ expandTree 16 (zeros 16) (childrenBy nodes slots n s iv) a)
 
 abbrev μ-loop : tie.MeasureT-loop
-μ-loop t iv map l slots n tree₀ read₀ a₀ a-end tree read a = l - 1 - a
+μ-loop t iv nodes l slots n tree₀ m p₀ a₀ a-end tree p a = l - 1 - a
+
+sub-child : tie.Need-sub-t13 Inv-loop μ-loop
+sub-child c =
+    let st = c .before .before .before .before .before .before .before in
+    let nodes = st .args .nodes .now in
+    let z = node-passed nodes 0 (st .pre .1 .1) (st .pre .1 .2) in
+    let y = all-after nodes in
+    omega arith
 
 loop-holds : tie.Need-loop-holds Inv-loop μ-loop
 unfolding expandTree revealedFrom readBefore
 loop-holds c =
-    let d = c .before .before .before .before .before .before .before .args .tree .now in (
+    let st = c .before .before .before .before .before .before .before in
+    let d = st .args .tree .now in
+    let nodes = st .args .nodes .now in (
       omega arith,
       search needs,
-      refl,
+      (sym (all-after nodes), (let z = node-passed nodes 0 (st .pre .1 .1) (st .pre .1 .2) in let y = all-after nodes in omega arith), refl),
       λ s. ap (take 16) (put-zeros 0 16 d (c .before .before .clear-from .last .0) (omega arith) (c .before .before .clear-from .ensures))
           ∙ take-at (zeros 16) (drop 16 d) 16 (length-zeros 16),
     )
@@ -41,8 +52,8 @@ write-children-requires c κs =
     let g = c .before .before .before .before .before .before .before .before .before .before .args in
     let p = c .before .before .before .before .before .before .before .before .before .before .pre in
     let l = c .before .before .loop in
-    let r = read-longer (g .map .now) (l .a + 1) (g .l - 1) (omega arith) in
-    (p .0, (omega arith, p .1 .2 (l .a) (omega arith), l .inv .2, omega arith, p .1 .4, omega arith, omega arith))
+    let r = read-longer (g .nodes .now) (l .a + 1) (g .l - 1) (omega arith) in
+    (p .0, (p .1 .1, p .1 .3 (l .a) (omega arith), l .inv .2, omega (arith, p .1 .4), p .1 .5, omega arith, omega arith))
 
 loop-again : tie.Need-loop-again Inv-loop μ-loop
 loop-again c =
@@ -50,13 +61,13 @@ loop-again c =
     let p = c .before .before .before .before .before .before .before .before .before .before .before .before .before .pre .1 in
     let l = c .before .before .before .before .before .loop in
     let w = c .before .before .write-children in
-    let r = read-longer (g .map .now) (l .a + 1) (g .l - 1) (omega arith) in (
+    let r = read-longer (g .nodes .now) (l .a + 1) (g .l - 1) (omega arith) in (
       omega arith,
       search needs,
       w .ensures .0,
       λ s. ap (take (32 * (l .a + 1) + 16)) (w .ensures .1 s)
-          ∙ grown-more (zeros 16) (childrenBy (g .map .now) (g .slots .now) (g .n) s (g .iv)) (l .a) (l .tree) (omega arith)
-          (length-by (g .map .now) (g .slots .now) (g .n) (l .a) (p .2 (l .a) (omega arith)) (omega arith) s (g .iv) (part (l .tree) (16 * l .a) 16) (p .4)) (l .inv .3 s),
+          ∙ grown-more (zeros 16) (childrenBy (g .nodes .now) (g .slots .now) (g .n) s (g .iv)) (l .a) (l .tree) (omega arith)
+          (length-by (g .nodes .now) (g .slots .now) (g .n) (l .a) (p .3 (l .a) (omega arith)) (omega (arith, p .4)) s (g .iv) (part (l .tree) (16 * l .a) 16) (p .5)) (l .inv .3 s),
     )
 
 returns : tie.Need-returns Inv-loop μ-loop
@@ -65,7 +76,7 @@ returns c =
     let g = c .before .before .before .before .before .before .before .before .before .args in
     let l = c .before .loop in
     let e : l .a ≡ g .l - 1 = omega arith in
-    sym (take-all (32 * l .a + 16) (l .tree) (omega arith)) ∙ l .inv .3 s ∙ ap (expandTree 16 (zeros 16) (childrenBy (g .map .now) (g .slots .now) (g .n) s (g .iv))) e
+    sym (take-all (32 * l .a + 16) (l .tree) (omega arith)) ∙ l .inv .3 s ∙ ap (expandTree 16 (zeros 16) (childrenBy (g .nodes .now) (g .slots .now) (g .n) s (g .iv))) e
 
 pub write-tree-spec : {M : Type 1} → statement M
 write-tree-spec =
@@ -77,6 +88,7 @@ write-tree-spec =
     (λ c. search needs)
     (λ c. search needs)
     (λ c κs. search needs)
+    sub-child
     (λ c. search needs)
     loop-holds
     write-children-requires
