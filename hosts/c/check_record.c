@@ -17,7 +17,7 @@ static const char help[] =
     "Checks signing records of FAEST version 2 at 128 bits. FILE of - is standard input.\n"
     "\n"
     "Prints a line for each file:\n"
-    "    FILE: accepted, 99 of 102 nodes\n"
+    "    FILE: accepted, 101 of 102 nodes\n"
     "    FILE: refused 11 commitment\n"
     "A record is accepted where it has the form of a record, its opening reconstructs, and the commitment that\n"
     "this gives is the record's. The corrections are not bound by the commitment.\n"
@@ -80,8 +80,8 @@ static const char *const fields[] = {"shape and row length", "IV", "challenge", 
 
 static void explain(size_t length)
 {
-    size_t required[6] = {HEAD, RACHNOEL_BLOCK, RACHNOEL_BLOCK, 0, 0, RACHNOEL_COMMITMENT};
-    size_t at = 1, known = 3; /* how many fields have a required length that is known */
+    size_t required[6] = {HEAD, RACHNOEL_BLOCK, RACHNOEL_BLOCK, 0, 0, RACHNOEL_COMMITMENT}; /* the first field decides the two that are 0 here */
+    size_t at = 1;
     if (length > RACHNOEL_RECORD_MOST)
         printf("    more than %d bytes, which no record has\n", RACHNOEL_RECORD_MOST);
     else
@@ -98,17 +98,13 @@ static void explain(size_t length)
             return;
         }
         const size_t says = big_endian(record + at, 4);
-        printf("%zu bytes", says);
-        if (i < known)
-            printf(", %zu required", required[i]);
-        else
-            printf(", any length may be required");
+        printf("length %zu, required %zu", says, required[i]);
         if (length - at - 4 < says) {
             printf("; the record has %zu more\n", length - at - 4);
             return;
         }
         printf("\n");
-        if (i < known && says != required[i])
+        if (says != required[i])
             return;
         at += 4;
         if (i == 0) {
@@ -123,7 +119,6 @@ static void explain(size_t length)
                 return;
             required[3] = n.corrections;
             required[4] = n.opening;
-            known = 6;
         }
         at += says;
     }

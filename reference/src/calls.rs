@@ -24,6 +24,7 @@ pub enum Refusal {
     Version = 9,
     Field = 10,
     Commitment = 11,
+    TooLarge = 12,
 }
 
 /// The answer of a call: 0 or the number of a refusal, and the node count.

@@ -6,6 +6,7 @@ use std::io::Read;
 use crate::calls::{
     commit, commit_stretch, decode, open, plan, reconstruct, reconstruct_stretch, Answer,
 };
+use crate::enumeration::list_challenges;
 use crate::listing::list;
 use crate::record_commands::{check_command, checks_command, record_command};
 use crate::shake::shake128;
@@ -29,6 +30,7 @@ usage: reference decode      TAU K W T CHALLENGE
        reference probe_decode      TAU K W T BYTE WHICH MORE
        reference probe_plan        TAU K W T BYTE WHICH MORE
        reference list        (its line on standard input)
+       reference list_challenges (its line on standard input)
        reference check       (a record on standard input)
        reference checks      (records and buffers on standard input)
 Each with ROWBITS is also there for a stretch of the rows: _stretch behind its
@@ -281,12 +283,17 @@ impl Arguments<'_> {
 /// come out as it must is not.
 pub type Outcome = (Vec<u8>, bool);
 
-/// `list`, with its line from the input.
-fn list_command(rest: Arguments, input: &mut impl Read) -> Option<Outcome> {
+/// `list` and `list_challenges`, with their line from the input.
+fn list_command(command: &str, rest: Arguments, input: &mut impl Read) -> Option<Outcome> {
     rest.end()?;
     let mut line = Vec::new();
     input.read_to_end(&mut line).ok()?;
-    Some((list(&line), true))
+    let text = if command == "list" {
+        list(&line)
+    } else {
+        list_challenges(&line)
+    };
+    Some((text, true))
 }
 
 /// `decode` and `plan`.
@@ -532,7 +539,7 @@ pub fn run(args: &[String], input: &mut impl Read) -> Option<Outcome> {
         "commit" | "open" | "reconstruct" | "roundtrip" => bytes_command(command, of_stretch, rest),
         "probe_commit" | "probe_reconstruct" => probe_command(command, of_stretch, rest),
         _ if of_stretch => None,
-        "list" => list_command(rest, input),
+        "list" | "list_challenges" => list_command(command, rest, input),
         "check" => check_command(rest, input),
         "checks" => checks_command(rest, input),
         "record" | "prefixes" | "flips" | "pairs" => record_command(command, rest),

@@ -1,10 +1,10 @@
 // The primitives, the tree and plan as C calls them, for bench/ alone, each with the promise of what it calls. The host lends the table that
 // `rattle_table` wrote.
 ghost use mathlib.Core.Path.{_≡_};
+ghost use mathlib.Core.Bool.{true};
 ghost use mathlib.Core.List.{List};
 ghost use Prim.Native.Nat.{ℕ, _+_, _*_, _^_, _≤_, _<_};
 ghost use lib.ListN.{length, take, drop};
-ghost use Rattle.spec.specs.declared.Shape.{Shape};
 ghost use Rattle.spec.specs.declared.Answer.{Answer};
 ghost use Rattle.spec.specs.Bytes.{tabulate, number};
 ghost use Rattle.spec.specs.Gf256.{SboxTable};
@@ -13,7 +13,7 @@ ghost use Rattle.spec.specs.Keccak.{keccakF};
 ghost use Rattle.spec.specs.Generator.{generatorByte};
 ghost use Rattle.spec.specs.Hashes.{hash0, hash1};
 ghost use Rattle.spec.specs.LeafHash.{leafHashByte};
-ghost use Rattle.spec.specs.Shapes.{leaves};
+ghost use Rattle.spec.specs.Shapes.{nodeBytes, shapeOk, treeBytes};
 ghost use Rattle.spec.specs.Primitives.{faest};
 ghost use Rattle.spec.specs.Signer.{signerTree};
 ghost use Rattle.spec.specs.Calls.{Plan};
@@ -98,14 +98,29 @@ pub extern "C" fn rattle_leaf_hash(m: &[[u64; 6]; 16], stretched: &[u8; 64], out
     field_384::leaf_hash(m, stretched, out);
 }
 
-// The tree of a root, for l leaves.
+// The tree of a root.
 #[no_mangle]
-pub extern "C" fn rattle_grow(t: &[u8; 256], root: &[u8], iv: &[u8; 16], l: usize, tree: &mut [u8])
+pub extern "C" fn rattle_grow(
+    t: &[u8; 256],
+    root: &[u8],
+    iv: &[u8; 16],
+    tau: usize,
+    k: usize,
+    w: usize,
+    most: usize,
+    tree: &mut [u8],
+)
     requires { ⌜ SboxTable (now t) ⌝ }
-    requires { ⌜ (length (now root) ≡ 16) × (1 ≤ l) × (length (now tree) + 16 ≡ 32 * l) × (length (now tree) < 2 ^ 32) ⌝ }
-    ensures { λ _. ⌜ ((s : Shape) → leaves s ≡ l → now (tree .exit) ≡ signerTree faest s (now (root .entry)) (now (iv .entry))) ⌝ }
+    requires { ⌜ (shapeOk (record { tau = tau; k = k; w = w; t = most }) ≡ true) × (length (now root) ≡ nodeBytes (record { tau = tau; k = k; w = w; t = most })) × (length (now tree) ≡ treeBytes (record { tau = tau; k = k; w = w; t = most })) ⌝ }
+    ensures { λ _. ⌜ now (tree .exit) ≡ signerTree faest (record { tau = tau; k = k; w = w; t = most }) (now (root .entry)) (now (iv .entry)) ⌝ }
 {
-    signer_tree::grow(t, root, *iv, l, tree);
+    let s = Shape {
+        tau,
+        k,
+        w,
+        t: most,
+    };
+    signer_tree::grow(t, s, root, *iv, tree);
 }
 
 // A row, added to a sum of rows.

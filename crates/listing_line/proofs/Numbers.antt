@@ -2,16 +2,16 @@
 -- on the place in it.
 use Prim.Native.Nat.{ℕ, zero, suc, _+_, _-_, _*_, _^_, _≤_, _<_}
 use mathlib.Core.Path.{_≡_, refl, sym, ap, _∙_}
-use mathlib.Core.Bool.{Bool, true, false, _&&_, cond}
+use mathlib.Core.Bool.{Bool, true, false, _&&_, _||_, cond, true≢false}
 use mathlib.Core.List.{List, [], _∷_}
 use native.Mathlib.Omega.{arith}
 use native.Mathlib.Nat.{pow-suc, pow-le-pow-right}
 use native.Mathlib.Numerals.{add-one}
 use lib.Dec.{leb, eqb}
 use lib.ListN.{length, getD, take, drop, drop-of-length-le, List·getD-eq-default}
-use borrow.Author.Tests.{leb-true, eqb-true}
-use Rattle.laws.proofs.Conjunctions.{both-true, refuted}
-use Rattle.listing_line.specs.Line.{isDigit, digitRun, decimalFrom, numberOk, afterNumber, behind}
+use borrow.Author.Tests.{leb-true, eqb-true, eq-eqb, ne-eqb}
+use Rattle.laws.proofs.Conjunctions.{both-true, and-true, refuted}
+use Rattle.listing_line.specs.Line.{isDigit, digitRun, decimalFrom, numberOk, afterNumber, behind, lastNumberOk}
 
 pub digit-bounds : (c : ℕ) → isDigit c ≡ true → (48 ≤ c) × (c ≤ 57)
 digit-bounds c e = (let q = both-true (leb 48 c) (leb c 57) e in (leb-true 48 c (q .0), leb-true c 57 (q .1)))
@@ -60,6 +60,30 @@ pub no-space : (text : List ℕ) → digitRun text ≡ length text → false ≡
 no-space text h =
     refuted (numberOk text) (λ t. omega (arith, number-facts text t .2, List·getD-eq-default text 0 (let l : length text ≤ digitRun text = omega arith in l)))
 
+-- a number and at most a line feed
+pub last-facts : (text : List ℕ) → lastNumberOk text ≡ true → (digitRun text ≤ 5) × (length text ≤ digitRun text + 1)
+unfolding lastNumberOk
+last-facts text e =
+    let n = digitRun text in
+    let p = both-true (leb 1 n && leb n 5) (eqb (length text) n || (eqb (length text) (n + 1) && eqb (getD text n 0) 10)) e in
+    let q = both-true (leb 1 n) (leb n 5) (p .0) in
+    (leb-true _ _ (q .1), size (length text) n (eqb (length text) n) (eqb (length text) (n + 1)) (eqb (getD text n 0) 10) refl refl (p .1))
+  where
+    size : (m n : ℕ) (a b c : Bool) → eqb m n ≡ a → eqb m (n + 1) ≡ b → (a || (b && c)) ≡ true → m ≤ n + 1
+    size m n true b c p q e = omega (arith, eqb-true m n p)
+    size m n false true c p q e = omega (arith, eqb-true m (n + 1) q)
+    size m n false false c p q e = absurd (true≢false (sym e))
+
+-- the tests of a last number, with nothing and with something behind its digits
+pub last-end : (text : List ℕ) (n : ℕ) → n ≡ digitRun text → n ≡ length text → (leb 1 n && leb n 5) ≡ lastNumberOk text
+unfolding lastNumberOk
+last-end text n e h = rw (← e, ← h, eq-eqb n n refl) (and-true (leb 1 n && leb n 5))
+
+pub last-more : (text : List ℕ) (n : ℕ) → n ≡ digitRun text → (n ≡ length text → ⊥)
+    → (leb 1 n && leb n 5 && (eqb (length text) (n + 1) && eqb (getD text n 0) 10)) ≡ lastNumberOk text
+unfolding lastNumberOk
+last-more text n e h = rw (← e, ne-eqb (length text) n (λ q. h (sym q))) refl
+
 -- one digit more
 pub value-more : (v : ℕ) (xs : List ℕ) (i : ℕ) → i < length xs → decimalFrom v (take (suc i) xs) ≡ 10 * decimalFrom v (take i xs) + (getD xs i 0 - 48)
 unfolding decimalFrom
@@ -75,9 +99,8 @@ value-lt text (suc i) h =
     let d = digit-bounds (getD text i 0) (run-digits text i h) in
     omega (arith, value-more 0 text i (omega (arith, run-length text)), pow-suc 10 i)
 
-pub value-small : (text : List ℕ) (i : ℕ) → numberOk text ≡ true → i < digitRun text → decimalFrom 0 (take i text) < 10000
+pub value-small : (text : List ℕ) (i : ℕ) → digitRun text ≤ 5 → i < digitRun text → decimalFrom 0 (take i text) < 10000
 value-small text i e h =
-    let f = number-facts text e in
     let l : i ≤ 4 = omega arith in
     let p : 10 ^ i ≤ 10 ^ 4 = pow-le-pow-right (omega arith) l in
     omega (arith, value-lt text i (omega arith))

@@ -1,5 +1,5 @@
 -- Document 01, "The listing program": the bytes of the input. Texts are ASCII.
-use Prim.Native.Nat.{ℕ, zero, suc, _+_, _-_, _*_}
+use Prim.Native.Nat.{ℕ, zero, suc, _+_, _-_, _*_, _≤_}
 use mathlib.Core.Bool.{Bool, true, _&&_, _||_, cond}
 use mathlib.Core.List.{List, [], _∷_}
 use lib.Dec.{leb, eqb}
@@ -7,7 +7,8 @@ use lib.ListN.{length, getD, take, drop}
 use Rattle.spec.specs.declared.Shape.{Shape}
 use Rattle.spec.specs.Bytes.{tabulate}
 
--- the input: four numbers, each of one to five decimal digits with a space behind it, then 32 hexadecimal digits, then a line feed or the end
+-- the input: four numbers, each of one to five decimal digits with a space behind it, then 32 hexadecimal digits, then a line feed or the end; or, for the program that
+-- lists all challenges (document 02, E10), the four numbers alone, with a line feed or the end behind the fourth
 
 abbrev pub isDigit : ℕ → Bool
 isDigit c = leb 48 c && leb c 57
@@ -59,6 +60,22 @@ behind (suc n) text = afterNumber (behind n text)
 unfoldable pub lineOk : List ℕ → Bool
 lineOk input =
     numberOk (behind 0 input) && numberOk (behind 1 input) && numberOk (behind 2 input) && numberOk (behind 3 input) && challengeOk (behind 4 input)
+
+-- a text is a number of one to five digits and at most a line feed
+unfoldable pub lastNumberOk : List ℕ → Bool
+lastNumberOk text =
+    leb 1 (digitRun text) && leb (digitRun text) 5
+    && (eqb (length text) (digitRun text) || (eqb (length text) (digitRun text + 1) && eqb (getD text (digitRun text) 0) 10))
+
+unfoldable pub shapeLineOk : List ℕ → Bool
+shapeLineOk input = numberOk (behind 0 input) && numberOk (behind 1 input) && numberOk (behind 2 input) && lastNumberOk (behind 3 input)
+
+-- what reading a shape asks, and each of the two lines grants: no number has more than five digits
+pub record ShortNumbers (input : List ℕ) : Type 0 where
+  pub tau : digitRun (behind 0 input) ≤ 5
+  pub k : digitRun (behind 1 input) ≤ 5
+  pub w : digitRun (behind 2 input) ≤ 5
+  pub t : digitRun (behind 3 input) ≤ 5
 
 unfoldable pub shapeOf : List ℕ → Shape
 shapeOf input =

@@ -1,11 +1,11 @@
-// Reads the line of the listing program: four numbers, each with a space behind it, and a challenge in hexadecimal.
+// Reads the line of the listing program, four numbers, each with a space behind it, and a challenge in hexadecimal; and the line that has the four numbers alone.
 ghost use mathlib.Core.Path.{_≡_};
 ghost use mathlib.Core.Bool.{true};
 ghost use Prim.Native.Nat.{_<_, _≤_};
 ghost use lib.ListN.{length};
 ghost use Rattle.listing_line.specs.Line.{isDigit, digitRun, numberOk, numberOf, afterNumber, behind};
 ghost use Rattle.listing_line.specs.Line.{isHexDigit, hexValue, hexBelow, challengeOk, challengeOf};
-ghost use Rattle.listing_line.specs.Line.{lineOk, shapeOf};
+ghost use Rattle.listing_line.specs.Line.{lineOk, lastNumberOk, shapeLineOk, ShortNumbers, shapeOf};
 use spec::Shape;
 
 fn is_digit(c: u8) -> bool
@@ -41,7 +41,7 @@ fn number_ok(text: &[u8]) -> bool
 
 // The number that a text begins with.
 fn number_of(text: &[u8]) -> usize
-    requires { ⌜ numberOk (now text) ≡ true ⌝ }
+    requires { ⌜ digitRun (now text) ≤ 5 ⌝ }
     ensures { λ r. ⌜ r ≡ numberOf (now (text .entry)) ⌝ }
 {
     let n = digit_run(text);
@@ -150,9 +150,30 @@ pub fn line_ok(input: &[u8]) -> bool
         & challenge_ok(behind(input, 4))
 }
 
+// Whether a text is a number of one to five digits and at most a line feed.
+fn last_number_ok(text: &[u8]) -> bool
+    ensures { λ r. ⌜ r ≡ lastNumberOk (now (text .entry)) ⌝ }
+{
+    let n = digit_run(text);
+    if n == text.len() {
+        return (1 <= n) & (n <= 5);
+    }
+    (1 <= n) & (n <= 5) & ((text.len() == n + 1) & (text[n] == b'\n'))
+}
+
+// Whether an input is a line that has the four numbers alone.
+pub fn shape_line_ok(input: &[u8]) -> bool
+    ensures { λ r. ⌜ r ≡ shapeLineOk (now (input .entry)) ⌝ }
+{
+    number_ok(input)
+        & number_ok(behind(input, 1))
+        & number_ok(behind(input, 2))
+        & last_number_ok(behind(input, 3))
+}
+
 // The shape that a line gives.
 pub fn shape_of(input: &[u8]) -> Shape
-    requires { ⌜ lineOk (now input) ≡ true ⌝ }
+    requires { ⌜ ShortNumbers (now input) ⌝ }
     ensures { λ r. ⌜ r ≡ shapeOf (now (input .entry)) ⌝ }
 {
     Shape {

@@ -5,7 +5,7 @@ ghost use lib.ListN.{length, getD};
 ghost use Rattle.listing_text.specs.Text.{decimal, refusedText, nodesText};
 ghost use Rattle.listing_text.specs.Put.{Put, numberLine, numberLines};
 
-fn put_byte(out: &mut [u8], at: usize, b: u8) -> usize
+pub fn put_byte(out: &mut [u8], at: usize, b: u8) -> usize
     requires { ⌜ at < length (now out) ⌝ }
     ensures { λ r. ⌜ Put (b ∷ []) at (now (out .entry)) (now (out .exit)) r ⌝ }
 {
@@ -13,7 +13,7 @@ fn put_byte(out: &mut [u8], at: usize, b: u8) -> usize
     at + 1
 }
 
-fn put_bytes(out: &mut [u8], at: usize, bytes: &[u8]) -> usize
+pub fn put_bytes(out: &mut [u8], at: usize, bytes: &[u8]) -> usize
     requires { ⌜ at + length (now bytes) ≤ length (now out) ⌝ }
     ensures { λ r. ⌜ Put (now (bytes .entry)) at (now (out .entry)) (now (out .exit)) r ⌝ }
 {
@@ -34,7 +34,7 @@ fn put_digit(out: &mut [u8], at: usize, d: usize) -> usize
 }
 
 // A number in decimal, without leading zeros.
-fn put_decimal(out: &mut [u8], at: usize, n: usize) -> usize
+pub fn put_decimal(out: &mut [u8], at: usize, n: usize) -> usize
     requires { ⌜ at + length (decimal n) ≤ length (now out) ⌝ }
     ensures { λ r. ⌜ Put (decimal n) at (now (out .entry)) (now (out .exit)) r ⌝ }
 {
@@ -46,7 +46,7 @@ fn put_decimal(out: &mut [u8], at: usize, n: usize) -> usize
 }
 
 // A number of at most five digits, and a line feed.
-fn put_line(out: &mut [u8], at: usize, n: usize) -> usize
+pub fn put_line(out: &mut [u8], at: usize, n: usize) -> usize
     requires { ⌜ (n < 100000) × (at + 6 ≤ length (now out)) ⌝ }
     ensures { λ r. ⌜ Put (numberLine n) at (now (out .entry)) (now (out .exit)) r ⌝ }
 {

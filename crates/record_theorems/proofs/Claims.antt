@@ -101,7 +101,7 @@ module _ (P : Primitives) where
   accepts : (rec : List ℕ) (before after : Work) (r : Answer) (commitment : List ℕ) (y : Reconstructed) (a : Answer)
       → CheckRecord P rec before after r
       → Ran P rec before commitment y a
-      → Accepts P rec r y a
+      → Accepts rec r y a
   accepts rec before after r commitment y a k w =
       let s = steps rec before after r commitment y a k w in
       record {
@@ -119,9 +119,9 @@ commitment-length : (s : Shape) (n : ℕ) (root iv : List ℕ) (x y : Committed)
 unfolding committed commitmentOf faest hash1 shake sponge
 commitment-length s n root iv x y a m z = rw (m .buffers, z) (length-tabulate (hashBytes (resolved s)) _)
 
-honest : (s : Shape) (n : ℕ) (root iv ch opening opening′ before after : List ℕ) (signer signer′ : Committed) (work work′ : Work) (made opened wrote checked : Answer)
-    → Commit faest s n root iv signer signer′ made
-    → made .number ≡ 0
+honest : (s : Shape) (n : ℕ) (root iv ch opening opening′ before after : List ℕ) (signer signer′ : Committed) (work work′ : Work) (made₀ opened wrote checked : Answer)
+    → Commit faest s n root iv signer signer′ made₀
+    → made₀ .number ≡ 0
     → Open s ch (signer′ .tree) (signer′ .leafCommitments) opening opening′ opened
     → WriteRecord
     (record { shape = s; row = n; iv = iv; challenge = ch; corrections = signer′ .corrections; opening = opening′; commitment = signer′ .commitment })

@@ -41,7 +41,7 @@ pub record Steps (P : Primitives) : Type 0 where
       ((eqb (readNumber rec) 0, readNumber rec) ∷ (eqb (a .number) 0, a .number) ∷ (sameBytes (y .commitment) (contentsOf rec .commitment), 11) ∷ [])
 
 -- a record is accepted exactly when it is read, reconstruct accepts its fields, and what it writes as commitment is the record's
-pub record Accepts (P : Primitives) (rec : List ℕ) (r : Answer) (y : Reconstructed) (a : Answer) : Type 0 where
+pub record Accepts (rec : List ℕ) (r : Answer) (y : Reconstructed) (a : Answer) : Type 0 where
   pub only : r .number ≡ 0 → (readNumber rec ≡ 0) × (a .number ≡ 0) × (y .commitment ≡ contentsOf rec .commitment)
   pub always : readNumber rec ≡ 0 → a .number ≡ 0 → y .commitment ≡ contentsOf rec .commitment → r .number ≡ 0
 
@@ -50,7 +50,7 @@ pub record AcceptedMeans (P : Primitives) : Type 0 where
       (rec : List ℕ) (before after : Work) (r : Answer) (commitment : List ℕ) (y : Reconstructed) (a : Answer)
       → CheckRecord P rec before after r
       → Ran P rec before commitment y a
-      → Accepts P rec r y a
+      → Accepts rec r y a
 
 -- what commit and open made is written as a record, and the record is accepted; s is the resolved shape
 pub record Honest (s : Shape) (ch : List ℕ) (opened wrote checked : Answer) : Type 0 where

@@ -11,7 +11,7 @@ use lib.ListN.{length, getD}
 use borrow.Author.Tests.{eq-eqb, ne-eqb, le-leb, lt-leb}
 use Rattle.spec.specs.Tree.{some}
 use Rattle.planning_laws.specs.Lists.{Below, Descending}
-use Rattle.planning_laws.proofs.Members.{or-none, absent-below}
+use Rattle.planning_laws.proofs.Members.{or-none}
 use Rattle.planning_laws.proofs.Rising.{below-more}
 use Rattle.verifier_tree.specs.ByNodes.{listed, atOrAfter}
 

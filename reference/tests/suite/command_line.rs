@@ -37,6 +37,9 @@ fn list_and_plan() {
     let line = format!("2 2 124 4 {CHALLENGE_0C}\n");
     assert_eq!(program("list", &line), (0, nodes.into()));
     assert_eq!(program("list", ""), (0, "refused 7\n".into()));
+    let last = "2 2 124 3\n";
+    assert!(program("list_challenges", last).1.ends_with("\n8 52\n"));
+    assert_eq!(program("list_challenges", ""), (0, "refused 7\n".into()));
     assert_eq!(
         program(&format!("plan 2 2 124 4 {CHALLENGE_0C}"), ""),
         (0, "number 0\ncount 4\nnodes 4 13 8 5 4\n".into())
@@ -300,6 +303,8 @@ fn arguments_that_cannot_be_read() {
         format!("commit 1 1 127 1 8 0 1 {ROOT} {ROOT}"),
         format!("plan_stretch 1 1 127 1 8 0 1 {ROOT}"),
         "list_stretch".into(),
+        "list_challenges more".into(),
+        "list_challenges_stretch".into(),
         "probe_open_stretch 1 1 127 1 8 0 1 0 0 0".into(),
         format!("record 1 1 127 1 8 {ROOT} {ROOT}"),
         format!("pairs 1 1 127 1 8 {ROOT} {ROOT} {ROOT} 0"),

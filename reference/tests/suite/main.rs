@@ -3,6 +3,7 @@
 //! definitions of document 01 worked out anew in these files.
 
 mod command_line;
+mod enumeration;
 mod examples;
 mod known_answers;
 mod limits;

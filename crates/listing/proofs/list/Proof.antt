@@ -1,7 +1,7 @@
 -- A line that cannot be read prints 7, any other what the plan of its shape and challenge prints.
 use borrow.Author.Needs.{needs}
 use Rattle.laws.proofs.Tests.{failed, passed}
-use Rattle.listing_line.proofs.Lines.{line-facts}
+use Rattle.listing_line.proofs.Lines.{line-facts, line-numbers}
 use Rattle.listing_text.proofs.Writing.{put-front}
 use Rattle.listing.specs.Listing.{listing}
 use Rattle.listing.proofs.list.Statement.{statement}
@@ -32,7 +32,7 @@ list-spec =
     returns
     (λ c κs. search needs)
     (λ c κs. rw (c .behind .ensures) (line-facts _ (passed (c .before .before .line-ok .ensures) (c .before .if1 .left)) .challenge))
-    (λ c κs. passed (c .before .before .before .before .line-ok .ensures) (c .before .before .before .if1 .left))
+    (λ c κs. line-numbers _ (passed (c .before .before .before .before .line-ok .ensures) (c .before .before .before .if1 .left)))
     (λ c. search needs)
     (λ c. search needs)
     (λ c κs. search needs)

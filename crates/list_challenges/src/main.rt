@@ -1,0 +1,32 @@
+// The program that lists all challenges of a small shape (document 02, E10): reads at most 64 bytes, which decide what it lists, and writes the output piece after piece. A
+// failed read counts as the end of the input.
+ghost use Rattle.enumeration.specs.Pieces.{Readable};
+use enumeration::Reading;
+use libc::STDIN_FILENO;
+use libc::STDOUT_FILENO;
+
+// Writes every piece, or stops at the first that cannot be written and answers false.
+fn write_pieces(r: Reading) -> bool
+    requires { ⌜ Readable r ⌝ }
+{
+    let n = enumeration::piece_count(r);
+    let mut out = io::large_buffer();
+    let mut i = 0;
+    while i < n {
+        let m = enumeration::put_piece(r, i, &mut out);
+        if !io::write_all(STDOUT_FILENO, &out[..m]) {
+            return false;
+        }
+        i += 1;
+    }
+    true
+}
+
+fn main() {
+    let mut input = [0u8; 64];
+    let n = io::read_full(STDIN_FILENO, &mut input);
+    let r = enumeration::read_start(input, n);
+    if !write_pieces(r) {
+        os::fail(b"list_challenges: standard output");
+    }
+}

@@ -1,0 +1,160 @@
+#!/usr/bin/env python3
+"""Runs the built program that lists all challenges, target/bin/list_challenges, and compares what it writes with what the second implementation lists.
+
+    run_list_challenges.py [PROGRAM]      exit status 1 at the first input where the two differ
+
+A good line has at most 24 bytes, of which the program reads 64: the inputs end before, at and behind both numbers. No contract can say how many bytes a program reads, nor
+that it writes each piece, so this is run, also on shapes of every number of bits up to 16, on damaged inputs, and on inputs that arrive in parts or cannot be read. The
+longest outputs must take less than a second of the processor. Last, outputs that cannot be written, or not to their end: the program must say so on standard error, and
+not write on; and the picture of docs/, drawn anew.
+"""
+import os
+import random
+import resource
+import signal
+import subprocess
+import sys
+import time
+from pathlib import Path
+
+HERE = Path(__file__).resolve().parent
+REFERENCE = HERE / 'target' / 'release' / 'reference'
+DRAW = [sys.executable, HERE / 'draw_counts.py']
+PICTURE = HERE.parent / 'docs' / 'counts.svg'
+PROGRAM = sys.argv[1] if sys.argv[1:] else HERE.parent / 'target' / 'bin' / 'list_challenges'
+
+SHORT = b'2 2 124 3'                        # 9 bytes
+LONG = b'00002 00002 00124 00003'           # 23 bytes, the longest line without its line feed
+LONGEST = (b'16 1 112 8\n', b'8 2 112 9\n', b'5 3 112 13\n', b'2 8 112 13\n')     # 65,536 lines
+
+
+def ends():
+    for line in (SHORT, LONG):
+        yield from (line, line + b'\n', line + b'\n\n', line + b'\nx', line + b'x', line + b' ', line + b'\0', line + b'\r', line + b'\r\n', line + b'\n\0')
+        yield from (line[:-1], line[:-1] + b'\n', line[:-1] + b'C', line + b' 0c' + b'0' * 30)
+        for length in (24, 25, 26, 63, 64, 65, 66, 128, 5000):
+            yield line + b'\n' * (length - len(line))
+            yield line + b'\n' + b'0' * (length - len(line) - 1)
+            yield line + b'0' * (length - len(line))
+    yield from (b'', b'\n', b'\0', b'\r\n', b' ', b'0' * 64, b'\n' * 65, b'\0' * 5000)
+
+
+def shapes():
+    for bits in range(1, 17):
+        for t in (1, 9):
+            yield f'2 {bits // 2} {128 - bits} {t}\n'.encode()
+    for tau in range(1, 17):
+        yield f'{tau} {10 // tau} 118 6\n'.encode()
+
+
+def damaged():
+    draw = random.Random(10)
+    for line in (SHORT + b'\n', LONG + b'\n', b'3 1 125 512', b'1 12 116 12\n') * 40:
+        text = bytearray(line)
+        for _ in range(draw.randint(1, 3)):
+            at = draw.randrange(len(text) + 1)
+            text[at:at + draw.randint(0, 1)] = bytes([draw.choice(b'0123456789 \n\r\t-/:\0\xff')] * draw.randint(0, 1))
+        yield bytes(text)
+
+
+def listed(command, text):
+    return subprocess.run(command, input=text, capture_output=True, check=True)
+
+
+def compare(text):
+    derived = listed([REFERENCE, 'list_challenges'], text).stdout
+    found = listed([PROGRAM], text)
+    if found.stdout != derived or found.stderr:
+        sys.exit(f'list_challenges, {len(text)} bytes {text[:70]!r}: {found.stdout[:200]!r}, {found.stderr!r}; reference/ has {derived[:200]!r}')
+    return found.stdout
+
+
+def seconds():
+    used = resource.getrusage(resource.RUSAGE_CHILDREN)
+    return used.ru_utime + used.ru_stime
+
+
+def said(what, text, **options):
+    program = subprocess.run([PROGRAM], input=text, stderr=subprocess.PIPE, **options)
+    if not program.stderr.startswith(b'list_challenges: standard output: ') or program.stderr.count(b'\n') != 1:
+        sys.exit(f'list_challenges, {what}: standard error has {program.stderr!r}')
+
+
+def failed_writes():
+    for text in (SHORT, LONGEST[0], b''):
+        with open('/dev/full', 'wb') as full:
+            said('output that cannot be written', text, stdout=full)
+        said('standard output closed', text, preexec_fn=lambda: os.close(1))
+        # a reader that is gone before anything is written, told by the write and not by a signal
+        read, write = os.pipe()
+        os.close(read)
+        said('a pipe without a reader', text, stdout=write, restore_signals=False, preexec_fn=lambda: signal.signal(signal.SIGPIPE, signal.SIG_IGN))
+        os.close(write)
+
+
+def odd_inputs():
+    # an input that arrives in parts is read to its end; one that cannot be read counts as empty
+    program = subprocess.Popen([PROGRAM], stdin=subprocess.PIPE, stdout=subprocess.PIPE)
+    for part in (b'2 ', b'2 12', b'', b'4', b' 3', b'\n'):
+        program.stdin.write(part)
+        program.stdin.flush()
+        time.sleep(0.02)
+    if program.communicate()[0] != listed([REFERENCE, 'list_challenges'], SHORT).stdout:
+        sys.exit('list_challenges, an input in parts: another output')
+    folder = os.open('/', os.O_RDONLY)
+    for options in ({'stdin': folder}, {'preexec_fn': lambda: os.close(0)}):
+        found = subprocess.run([PROGRAM], capture_output=True, **options)
+        if found.stdout != b'refused 7\n' or found.stderr:
+            sys.exit(f'list_challenges, an input that cannot be read: {found.stdout!r}, {found.stderr!r}')
+    os.close(folder)
+
+
+def stopped_reader():
+    # a reader that takes one piece and goes away; the program ends all the same
+    program = subprocess.Popen([PROGRAM], stdin=subprocess.PIPE, stdout=subprocess.PIPE, stderr=subprocess.PIPE, restore_signals=False,
+                               preexec_fn=lambda: signal.signal(signal.SIGPIPE, signal.SIG_IGN))
+    program.stdin.write(LONGEST[0])
+    program.stdin.close()
+    if len(program.stdout.read(1000)) != 1000:
+        sys.exit('list_challenges: fewer than 1,000 bytes of a long output')
+    program.stdout.close()
+    error = program.stderr.read()
+    program.wait(60)
+    if not error.startswith(b'list_challenges: standard output: '):
+        sys.exit(f'list_challenges, a reader that stops: standard error has {error!r}')
+
+
+def picture():
+    output = listed([PROGRAM], b'5 3 112 13\n').stdout
+    if listed([*DRAW, '5', '3', '112', '13'], output).stdout != PICTURE.read_bytes():
+        sys.exit(f'{PICTURE} is not what draw_counts.py makes of the output')
+    wrong = (('5 3 112 12', output), ('5 3 113 13', output), ('5 3 112 13', output[:-1]), ('5 3 112 13', output[33:]), ('5 3 112 13', b'refused 7\n'), ('5 3 112 13', b''))
+    for numbers, text in wrong:
+        drawn = subprocess.run([*DRAW, *numbers.split()], input=text, capture_output=True)
+        if drawn.returncode == 0 or drawn.stdout:
+            sys.exit(f'draw_counts.py {numbers}: draws what is no output of it')
+
+
+def main():
+    tried = 0
+    for text in (*ends(), *shapes(), *damaged()):
+        compare(text)
+        tried += 1
+    for text in LONGEST:
+        lines = compare(text).count(b'\n')
+        if lines != 65537:
+            sys.exit(f'list_challenges, {text!r}: {lines} lines')
+        before = seconds()
+        listed([PROGRAM], text)
+        took = seconds() - before
+        if took > 1:
+            sys.exit(f'list_challenges, {text!r}: {took:.1f} s')
+        tried += 1
+    odd_inputs()
+    failed_writes()
+    stopped_reader()
+    picture()
+    print(f'list_challenges: {tried} inputs as reference/ lists them, and a failed write is said')
+
+
+main()
