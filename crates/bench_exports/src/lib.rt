@@ -114,12 +114,7 @@ pub extern "C" fn rattle_grow(
     requires { ⌜ (shapeOk (record { tau = tau; k = k; w = w; t = most }) ≡ true) × (length (now root) ≡ nodeBytes (record { tau = tau; k = k; w = w; t = most })) × (length (now tree) ≡ treeBytes (record { tau = tau; k = k; w = w; t = most })) ⌝ }
     ensures { λ _. ⌜ now (tree .exit) ≡ signerTree faest (record { tau = tau; k = k; w = w; t = most }) (now (root .entry)) (now (iv .entry)) ⌝ }
 {
-    let s = Shape {
-        tau,
-        k,
-        w,
-        t: most,
-    };
+    let s = Shape { tau, k, w, t: most };
     signer_tree::grow(t, s, root, *iv, tree);
 }
 
