@@ -4,9 +4,9 @@
 It reads the .rt files of every crate that the signing and the checking half reach by crates.txt, and follows the calls.
 
 1. Bytes of a row are made in one place: `rows::add_row`, by `generator::block` and `generator::block_pair`. No other function makes blocks with the rows' tweak
-   (the number 2^31 stands once, in `vector::add_entry`, which passes it to `rows::add_row`); `generator::fill` is called for nodes and leaves alone.
-2. In what `rows::add_row` and the functions of `columns` reach, every array has at most 16 bytes, but for the S-box, which is lent, and the round keys, which are made of the
-   seed. The functions of `columns` see sums of rows.
+   (the number 2^31 stands once, in `vector::add_leaf`, which passes it to `rows::add_row`); `generator::fill` and `fill_keyed` are called for nodes and leaves alone.
+2. In what `rows::add_row` and the functions of `columns` reach, every array has at most 16 bytes, but for the S-box, which is lent, and the round keys and what they are laid out of, which are
+   made of the seed. The functions of `columns` see sums of rows.
 3. What they write into is lent: from call to call their destination is a part of a parameter, up to a buffer of the public call, or an array of at most 16 bytes.
 4. Of all that commit, commit_stretch, reconstruct and reconstruct_stretch reach, every array above 16 bytes stands in the table below with what it holds.
 
@@ -26,28 +26,35 @@ KIT = {'bytes::copy', 'std::num::wrapping_add_u32'}
 # each array above 16 bytes: its type, what it holds, and the functions, or the crates, that have it by value; others have it lent
 TABLE = {
     '[u8; 256]': ('the S-box of AES', {'aes_steps::SBOX', 'aes_steps::table', 'signer_commit::write_all', 'reconstruction::write_all'}),
-    '[[[u8; 4]; 4]; 11]': ('the round keys of a key', {'aes::key_schedule', 'generator::fill', 'rows::add_row'}),
+    '[[[u8; 4]; 4]; 15]': ('the round keys of a key', {'aes_keys', 'generator::fill', 'tree::expand_node', 'rows::add_row'}),
+    '[[[u8; 4]; 4]; 8]': ('the first round keys of a key of 8 words', {'aes_keys'}),
+    '[[[u8; 4]; 4]; 7]': ('the later ones', {'aes_keys'}),
+    '[[[u8; 4]; 6]; 8]': ('the words of a key schedule, for a key of 6 words', {'aes_keys'}),
+    '[[u8; 4]; 6]': ('six of them', {'aes_keys'}),
+    '[[[u8; 4]; 4]; 3]': ('the round keys that twelve of them are', {'aes_keys'}),
     '[u8; 64]': ('a leaf stretched: its seed, and what the leaf hash is xored to', {'leaf::commit_leaf'}),
-    '[[u64; 6]; 16]': ('the multiples of a hash key', {'field::multiples', 'signer_vectors::convert', 'verifier_vector::convert'}),
-    '[u64; 6]': ('an element of the field of the leaf hash', {'field'}),
+    '[u8; 32]': ('a seed', {'vector::add_entry'}),
+    '[[u64; 6]; 16]': ('the multiples of a hash key', {'field_384::multiples', 'leaf::hash_multiples', 'signer_vectors::convert', 'verifier_vector::convert'}),
+    '[u64; 6]': ('an element of the field of the leaf hash', {'field_384'}),
     '[u64; 25]': ('the lanes of a sponge', {'keccak', 'shake', 'verifier_vector::hash_vector'}),
     '[u64; 24]': ('the round constants of Keccak', {'keccak'}),
     '[u64; 5]': ('the parities of Keccak\'s columns, or a plane of its state', {'keccak'}),
     '[u8; 168]': ('a block of the sponge', {'shake'}),
-    '[u8; 1536]': ('the hash keys of all vectors', {'signer_commit::write_commitment', 'reconstruction::write_reconstruction'}),
-    '[u8; 1024]': ('the hashes of all vectors', {'signer_commit::write_commitment', 'reconstruction::write_reconstruction'}),
+    '[u8; 3072]': ('the hash keys of all vectors', {'signer_commit::write_commitment', 'reconstruction::write_reconstruction'}),
+    '[u8; 2048]': ('the hashes of all vectors', {'signer_commit::write_commitment', 'reconstruction::write_reconstruction'}),
     '[u32; 512]': ('numbers of revealed nodes', {'verifier::count_nodes'}),
     '[u32; 576]': ('numbers of covered nodes', {'verifier_tree::reconstruct_tree'}),
     '[usize; 32]': ('numbers of covered nodes that are still to be raised', {'planning::revealed_nodes', 'planning::covered_nodes'}),
 }
 # in what sees bytes of rows only these go beyond 16 bytes
-BESIDE_ROWS = {'[u8; 256]', '[[[u8; 4]; 4]; 11]'}
+BESIDE_ROWS = {'[u8; 256]', '[[[u8; 4]; 4]; 15]', '[[[u8; 4]; 4]; 8]', '[[[u8; 4]; 4]; 7]', '[[[u8; 4]; 6]; 8]', '[[u8; 4]; 6]', '[[[u8; 4]; 4]; 3]'}
 # who calls what makes blocks
 CALLERS = {
-    'rows::add_row': {'vector::add_entry'},
-    'generator::fill': {'tree::expand_node', 'leaf::commit_leaf'},
+    'rows::add_row': {'vector::add_leaf'},
+    'generator::fill': {'leaf::commit_leaf'},
+    'generator::fill_keyed': {'tree::expand_node', 'generator::fill'},
     'generator::block': {'rows::add_row'},
-    'generator::block_pair': {'rows::add_row', 'generator::fill'},
+    'generator::block_pair': {'rows::add_row', 'generator::fill_keyed'},
     'aes::encrypt': {'generator::block'},
     'aes::encrypt_pair': {'generator::block_pair'},
 }
@@ -428,7 +435,7 @@ def check(sources):
         if callers.get(callee, set()) != allowed:
             raise Refused(f'{callee} is called by ' + ', '.join(sorted(callers.get(callee, set()))))
     places = [name for name in all_of for t in p.functions[name].body if t == ROW_TWEAK]
-    if places != ['vector::add_entry']:
+    if places != ['vector::add_leaf']:
         raise Refused('the tweak of rows stands in ' + ', '.join(places))
 
     # 2. what sees bytes of rows, or of sums of rows
@@ -487,12 +494,12 @@ def crates():
 # crate, old text, new text, a part of the reason
 EDITS = [
     ('rows', '    let b = sum.len();', '    let b = sum.len();\n    let mut row = [0u8; 8192];', '[u8; 8192] in rows::add_row'),
-    ('rows', 'let block = generator::block(t, &keys, iv, tweak, (p / 16) as u32);',
+    ('rows', 'let block = generator::block(t, &keys, rounds, iv, tweak, (p / 16) as u32);',
      'let mut block = [0u8; 16];\n            generator::fill(t, seed, iv, tweak, p, &mut block);', 'generator::fill is called by'),
     ('aes', '    pub first: [u8; 16],\n    pub second: [u8; 16],', '    pub both: [[u8; 16]; 2],', '[[u8; 16]; 2] in'),
-    ('vector', 'let tweak = leaf::leaf_tweak', 'let pair = [0u8; 32];\n    let tweak = leaf::leaf_tweak', '[u8; 32] in vector::add_entry'),
+    ('vector', 'let tweak = leaf::leaf_tweak', 'let pair = [0u8; 32];\n    let tweak = leaf::leaf_tweak', '[u8; 32] in vector::add_leaf'),
     ('columns', '    let mut block = [0u8; 16];\n    for i in 0..16', '    let mut block = [0u64; 4];\n    for i in 0..16', '[u64; 4] in columns::block_at'),
-    ('signer_vectors', '    let b = z.width;\n    let next', '    let mut sum = [0u8; 8192];\n    let b = z.width;\n    let next', '[u8; 8192] in signer_vectors::other_vector'),
+    ('signer_vectors', '    let next = j + 1;', '    let mut sum = [0u8; 8192];\n    let next = j + 1;', '[u8; 8192] in signer_vectors::other_vector'),
     ('signer_vectors', 'tree, lcs, total, cols);', 'tree, lcs, total, hash);', 'rows are written into hashes of signer_commit::write_commitment'),
     ('rows', '    let b = sum.len();', '    const ROW: [u8; 64] = [0; 64];\n    let b = sum.len();', 'an array of rows::add_row that cannot be measured'),
     ('signer_tree', 'tree::expand_node(', 'let k = 2147483648;\n        tree::expand_node(', 'the tweak of rows stands in'),

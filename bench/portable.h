@@ -37,5 +37,5 @@ void rattle_h1(const uint8_t *message, size_t message_length, uint8_t *out, size
 void rattle_multiples(const uint8_t key[48], uint64_t m[16][6]);
 void rattle_leaf_hash(const uint64_t m[16][6], const uint8_t stretched[64], uint8_t out[48]);
 size_t rattle_plan(size_t tau, size_t k, size_t w, size_t t, const uint8_t *challenge, size_t challenge_length, uint32_t *nodes, size_t nodes_length);
-void rattle_grow(const uint8_t t[256], const uint8_t *root, size_t root_length, const uint8_t iv[16], size_t leaves, uint8_t *tree, size_t tree_length);
+void rattle_grow(const uint8_t t[256], const uint8_t *root, size_t root_length, const uint8_t iv[16], size_t tau, size_t k, size_t w, size_t allowed, uint8_t *tree, size_t tree_length);
 void rattle_add_row(const uint8_t t[256], const uint8_t *seed, size_t seed_length, const uint8_t iv[16], uint32_t tweak, uint8_t *sum, size_t sum_length);

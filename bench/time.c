@@ -63,7 +63,7 @@ static void add_rattle(void)
 }
 
 static void tree_c(void) { c_grow(shape, key, iv, only_tree[0]); }
-static void tree_rattle(void) { rattle_grow(table, key, 16, iv, LEAVES, only_tree[1], sizeof only_tree[1]); }
+static void tree_rattle(void) { rattle_grow(table, key, 16, iv, TAU, DEPTH, 128 - TAU * DEPTH, ALLOWED, only_tree[1], sizeof only_tree[1]); }
 
 static const struct work {
     const char *name;

@@ -1,15 +1,13 @@
-//! AES-128 encryption: FIPS 197, and section 4.1 of document 000.
+//! AES encryption with keys of 128, 192 and 256 bits: FIPS 197, and section 4.1 of
+//! document 000.
 //!
 //! The state is 16 bytes in column-major order: row r of column c is byte
 //! r + 4c.
 
 use crate::Block;
 
-/// The rounds of AES-128.
-const ROUNDS: usize = 10;
-
-/// The round keys of rounds 0 to 10.
-pub type RoundKeys = [Block; ROUNDS + 1];
+/// The round keys from round 0 to the last: 11, 13 or 15.
+pub type RoundKeys = Vec<Block>;
 
 /// FIPS 197, section 4.2.1: multiplication by x modulo x^8 + x^4 + x^3 + x + 1.
 const fn xtime(a: u8) -> u8 {
@@ -91,32 +89,39 @@ fn add_round_key(s: Block, key: &Block) -> Block {
     std::array::from_fn(|n| s[n] ^ key[n])
 }
 
-/// FIPS 197, section 5.2: KeyExpansion for a key of four words.
-pub fn key_expansion(key: &Block) -> RoundKeys {
-    let mut words = [[0u8; 4]; 4 * (ROUNDS + 1)];
+/// FIPS 197, section 5.2: KeyExpansion for a key of Nk = 4, 6 or 8 words, in
+/// Nk + 6 rounds.
+pub fn key_expansion(key: &[u8]) -> RoundKeys {
+    let nk = key.len() / 4;
+    let rounds = nk + 6;
+    let mut words = vec![[0u8; 4]; 4 * (rounds + 1)];
     let mut rcon = 1;
     for i in 0..words.len() {
-        words[i] = if i < 4 {
+        words[i] = if i < nk {
             [key[4 * i], key[4 * i + 1], key[4 * i + 2], key[4 * i + 3]]
         } else {
             let mut temp = words[i - 1];
-            if i % 4 == 0 {
+            if i % nk == 0 {
                 temp.rotate_left(1);
                 temp = temp.map(|byte| S_BOX[byte as usize]);
                 temp[0] ^= rcon;
                 rcon = xtime(rcon);
+            } else if nk > 6 && i % nk == 4 {
+                temp = temp.map(|byte| S_BOX[byte as usize]);
             }
-            std::array::from_fn(|n| words[i - 4][n] ^ temp[n])
+            std::array::from_fn(|n| words[i - nk][n] ^ temp[n])
         };
     }
-    std::array::from_fn(|round| std::array::from_fn(|n| words[4 * round + n / 4][n % 4]))
+    let round_key = |round: usize| std::array::from_fn(|n| words[4 * round + n / 4][n % 4]);
+    (0..=rounds).map(round_key).collect()
 }
 
 /// FIPS 197, section 5.1: Cipher.
 pub fn encrypt(keys: &RoundKeys, input: &Block) -> Block {
+    let last = keys.len() - 1;
     let mut s = add_round_key(*input, &keys[0]);
-    for key in &keys[1..ROUNDS] {
+    for key in &keys[1..last] {
         s = add_round_key(mix_columns(shift_rows(sub_bytes(s))), key);
     }
-    add_round_key(shift_rows(sub_bytes(s)), &keys[ROUNDS])
+    add_round_key(shift_rows(sub_bytes(s)), &keys[last])
 }

@@ -34,12 +34,8 @@ pub fn pos_in_tree(shape: &Shape, i: usize, j: usize) -> usize {
 
 /// Figure 5.3: FAEST.LeafHash, h = u x_0 + x_1 in the field of 2^384 elements.
 pub fn leaf_hash(uhash: &LeafCom, x0: &Block, x1: &[u8]) -> LeafCom {
-    let (u, x0, x1) = (
-        field::to_field(uhash),
-        field::to_field(x0),
-        field::to_field(x1),
-    );
-    field::to_bits(&field::add(&field::product(&u, &x0), &x1))
+    let hash = field::leaf_hash::<6>(uhash, x0, x1);
+    hash.try_into().expect("48 bytes")
 }
 
 /// Figure 5.3: FAEST.LeafCommit, the seed and the commitment of a leaf.

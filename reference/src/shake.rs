@@ -1,9 +1,10 @@
-//! SHAKE128: FIPS 202.
+//! SHAKE128 and SHAKE256: FIPS 202.
 
 use std::array::from_fn;
 
-/// The rate of SHAKE128 in bytes.
-const RATE: usize = 168;
+/// The rates of SHAKE128 and SHAKE256 in bytes.
+const RATE_128: usize = 168;
+const RATE_256: usize = 136;
 
 /// The state array of FIPS 202, section 3.1: lane (x, y) is `a[x][y]`, and bit
 /// z of a lane is bit z of the number.
@@ -80,17 +81,17 @@ fn keccak_f(mut a: State) -> State {
     a
 }
 
-/// FIPS 202, algorithm 8 with section 6.2: SHAKE128 of the message, the first
-/// `length` bytes. The suffix 1111 and the padding 10*1 begin with byte 0x1f
+/// FIPS 202, algorithm 8 with section 6.2: SHAKE of the message at this rate, the
+/// first `length` bytes. The suffix 1111 and the padding 10*1 begin with byte 0x1f
 /// and end with bit 0x80.
-pub fn shake128(message: &[u8], length: usize) -> Vec<u8> {
+fn shake(rate: usize, message: &[u8], length: usize) -> Vec<u8> {
     let mut padded = message.to_vec();
     padded.push(0x1f);
-    padded.resize(padded.len().next_multiple_of(RATE), 0);
+    padded.resize(padded.len().next_multiple_of(rate), 0);
     *padded.last_mut().expect("the padding is not empty") |= 0x80;
 
     let mut a: State = Default::default();
-    for block in padded.chunks_exact(RATE) {
+    for block in padded.chunks_exact(rate) {
         for (n, bytes) in block.chunks_exact(8).enumerate() {
             a[n % 5][n / 5] ^= u64::from_le_bytes(bytes.try_into().expect("eight bytes"));
         }
@@ -102,8 +103,16 @@ pub fn shake128(message: &[u8], length: usize) -> Vec<u8> {
         if !output.is_empty() {
             a = keccak_f(a);
         }
-        output.extend((0..RATE / 8).flat_map(|n| a[n % 5][n / 5].to_le_bytes()));
+        output.extend((0..rate / 8).flat_map(|n| a[n % 5][n / 5].to_le_bytes()));
     }
     output.truncate(length);
     output
+}
+
+pub fn shake128(message: &[u8], length: usize) -> Vec<u8> {
+    shake(RATE_128, message, length)
+}
+
+pub fn shake256(message: &[u8], length: usize) -> Vec<u8> {
+    shake(RATE_256, message, length)
 }

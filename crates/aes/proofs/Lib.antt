@@ -1,3 +1,2 @@
--- Laws of AES-128 as the code computes it: the key schedule, the rounds.
-pub mod KeyExpansion
+-- Laws of AES as the code computes it.
 pub mod Rounds

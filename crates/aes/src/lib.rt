@@ -1,18 +1,18 @@
-// AES-128, FIPS 197, over the steps of crate aes_steps, of which it re-exports `table`, `pack` and `unpack`. A state or a round key is its four columns of four
-// bytes, by value.
+// AES, FIPS 197, over the steps of crate aes_steps, of which it re-exports `table`, `pack` and `unpack`, and the round keys of aes_keys. A state or a round key is its
+// four columns of four bytes, by value.
 ghost use mathlib.Core.Path.{_≡_};
 ghost use mathlib.Core.List.{List};
-ghost use Prim.Native.Nat.{ℕ};
+ghost use Prim.Native.Nat.{ℕ, _+_, _-_, _≤_};
 ghost use lib.ListN.{length};
 ghost use Rattle.spec.specs.Gf256.{SboxTable};
 ghost use Rattle.spec.specs.Aes.{stateOf, bytesOf, addRoundKey, roundOf, lastRound, cipher, keyExpansion};
-ghost use Rattle.aes.specs.RoundKeys.{roundKeys, nextRoundKey};
+ghost use Rattle.aes_keys.specs.RoundKeys.{Keyed};
+ghost use Rattle.aes.specs.Rounded.{Rounded};
+pub use aes_keys::key_schedule;
 use aes_steps::mix_columns;
 pub use aes_steps::pack;
-use aes_steps::rot_word;
 use aes_steps::shift_rows;
 use aes_steps::sub_bytes;
-use aes_steps::sub_word;
 pub use aes_steps::table;
 pub use aes_steps::unpack;
 use aes_steps::xor_word;
@@ -83,21 +83,37 @@ pub fn last_round(t: &[u8; 256], s: [[u8; 4]; 4], k: [[u8; 4]; 4]) -> [[u8; 4]; 
     add_round_key(shift_rows(sub_bytes(t, s)), k)
 }
 
-const ROUNDS: usize = 10;
-
-// CIPHER, for the round keys of any key.
-pub fn encrypt(t: &[u8; 256], keys: &[[[u8; 4]; 4]; 11], s: [[u8; 4]; 4]) -> [[u8; 4]; 4]
+// CIPHER in n rounds, for the round keys of any key. The first round is a call of `round`, as those of `later_rounds` are, and the others stand here by their steps: then
+// the compiler inlines these alone, which is quickest.
+pub fn encrypt(t: &[u8; 256], keys: &[[[u8; 4]; 4]; 15], n: usize, s: [[u8; 4]; 4]) -> [[u8; 4]; 4]
     requires { ⌜ SboxTable (now t) ⌝ }
-    ensures { λ r. ⌜ ((key : List ℕ) → now (keys .entry) ≡ roundKeys 4 key → r ≡ cipher 10 (keyExpansion 4 key) s) ⌝ }
+    requires { ⌜ (10 ≤ n) × (n ≤ 14) ⌝ }
+    ensures { λ r. ⌜ ((nk : ℕ) (key : List ℕ) → n ≡ nk + 6 → Keyed nk key (now (keys .entry)) → r ≡ cipher (nk + 6) (keyExpansion nk key) s) ⌝ }
 {
-    let mut x = add_round_key(s, keys[0]);
-    let mut i = 1;
-    while i < ROUNDS {
+    let mut x = round(t, add_round_key(s, keys[0]), keys[1]);
+    let mut i = 2;
+    while i < n {
+        let y = add_round_key(mix_columns(shift_rows(sub_bytes(t, x))), keys[i]);
+        x = y;
+        i += 1;
+    }
+    last_round(t, x, keys[n])
+}
+
+// The rounds of longer keys: from round 10 on, and before the last, round n.
+fn later_rounds(t: &[u8; 256], keys: &[[[u8; 4]; 4]; 15], n: usize, s: [[u8; 4]; 4]) -> [[u8; 4]; 4]
+    requires { ⌜ SboxTable (now t) ⌝ }
+    requires { ⌜ (10 ≤ n) × (n ≤ 14) ⌝ }
+    ensures { λ r. ⌜ ((nk : ℕ) (a : List (List ℕ)) → n ≡ nk + 6 → Rounded nk (now (keys .entry)) a s 9 → Rounded nk (now (keys .entry)) a r (n - 1)) ⌝ }
+{
+    let mut x = s;
+    let mut i = 10;
+    while i < n {
         let y = round(t, x, keys[i]);
         x = y;
         i += 1;
     }
-    last_round(t, x, keys[ROUNDS])
+    x
 }
 
 // Two blocks of 16 bytes, each in an array of its own.
@@ -106,22 +122,25 @@ pub struct Blocks {
     pub second: [u8; 16],
 }
 
-// CIPHER of two states, and the bytes of both. They go round by round: neither waits for the other, so a processor can work on both at once (bench/README.md
-// compares it with one after the other). The steps of a round stand here one by one, since a second call of `round` would keep the compiler from inlining it.
+// CIPHER of two states in n rounds, and the bytes of both. They go round by round: neither waits for the other, so a processor can work on both at once
+// (bench/README.md compares it with one after the other). The steps of a round stand here one by one, since a second call of `round` would keep the compiler from
+// inlining it. The nine rounds that every key has are counted by a constant, which is quicker; those from 10 on of longer keys go one state after the other.
 pub fn encrypt_pair(
     t: &[u8; 256],
-    keys: &[[[u8; 4]; 4]; 11],
+    keys: &[[[u8; 4]; 4]; 15],
+    n: usize,
     a: [[u8; 4]; 4],
     b: [[u8; 4]; 4],
 ) -> Blocks
     requires { ⌜ SboxTable (now t) ⌝ }
-    ensures { λ r. ⌜ ((key : List ℕ) → now (keys .entry) ≡ roundKeys 4 key
-        → (r .first ≡ bytesOf (cipher 10 (keyExpansion 4 key) a)) × (r .second ≡ bytesOf (cipher 10 (keyExpansion 4 key) b))) ⌝ }
+    requires { ⌜ (10 ≤ n) × (n ≤ 14) ⌝ }
+    ensures { λ r. ⌜ ((nk : ℕ) (key : List ℕ) → n ≡ nk + 6 → Keyed nk key (now (keys .entry))
+        → (r .first ≡ bytesOf (cipher (nk + 6) (keyExpansion nk key) a)) × (r .second ≡ bytesOf (cipher (nk + 6) (keyExpansion nk key) b))) ⌝ }
 {
     let mut x = add_round_key(a, keys[0]);
     let mut y = add_round_key(b, keys[0]);
     let mut i = 1;
-    while i < ROUNDS {
+    while i < 10 {
         let c = mix_columns(shift_rows(sub_bytes(t, x)));
         let d = mix_columns(shift_rows(sub_bytes(t, y)));
         let e = add_round_key(c, keys[i]);
@@ -130,42 +149,14 @@ pub fn encrypt_pair(
         y = f;
         i += 1;
     }
-    Blocks {
-        first: bytes_of(last_round(t, x, keys[ROUNDS])),
-        second: bytes_of(last_round(t, y, keys[ROUNDS])),
+    if 10 < n {
+        let c = later_rounds(t, keys, n, x);
+        let d = later_rounds(t, keys, n, y);
+        x = c;
+        y = d;
     }
-}
-
-// ---- the key schedule
-
-// The round key after k; rc is the round constant's first byte.
-pub fn next_key(t: &[u8; 256], k: [[u8; 4]; 4], rc: u8) -> [[u8; 4]; 4]
-    requires { ⌜ SboxTable (now t) ⌝ }
-    ensures { λ r. ⌜ r ≡ nextRoundKey k rc ⌝ }
-{
-    let s = sub_word(t, rot_word(k[3]));
-    let a = xor_word(k[0], xor_word(s, [rc, 0, 0, 0]));
-    let b = xor_word(k[1], a);
-    let c = xor_word(k[2], b);
-    [a, b, c, xor_word(k[3], c)]
-}
-
-// KEYEXPANSION, by whole round keys.
-pub fn key_schedule(t: &[u8; 256], key: &[u8]) -> [[[u8; 4]; 4]; 11]
-    requires { ⌜ SboxTable (now t) ⌝ }
-    requires { ⌜ length (now key) ≡ 16 ⌝ }
-    ensures { λ r. ⌜ r ≡ roundKeys 4 (now (key .entry)) ⌝ }
-{
-    let k0 = load_state(key);
-    let k1 = next_key(t, k0, 1);
-    let k2 = next_key(t, k1, 2);
-    let k3 = next_key(t, k2, 4);
-    let k4 = next_key(t, k3, 8);
-    let k5 = next_key(t, k4, 16);
-    let k6 = next_key(t, k5, 32);
-    let k7 = next_key(t, k6, 64);
-    let k8 = next_key(t, k7, 128);
-    let k9 = next_key(t, k8, 27);
-    let k10 = next_key(t, k9, 54);
-    [k0, k1, k2, k3, k4, k5, k6, k7, k8, k9, k10]
+    Blocks {
+        first: bytes_of(last_round(t, x, keys[n])),
+        second: bytes_of(last_round(t, y, keys[n])),
+    }
 }

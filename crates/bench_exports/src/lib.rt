@@ -1,10 +1,10 @@
 // The primitives, the tree and plan as C calls them, for bench/ alone, each with the promise of what it calls. The host lends the table that
 // `rattle_table` wrote.
 ghost use mathlib.Core.Path.{_≡_};
+ghost use mathlib.Core.Bool.{true};
 ghost use mathlib.Core.List.{List};
 ghost use Prim.Native.Nat.{ℕ, _+_, _*_, _^_, _≤_, _<_};
 ghost use lib.ListN.{length, take, drop};
-ghost use Rattle.spec.specs.declared.Shape.{Shape};
 ghost use Rattle.spec.specs.declared.Answer.{Answer};
 ghost use Rattle.spec.specs.Bytes.{tabulate, number};
 ghost use Rattle.spec.specs.Gf256.{SboxTable};
@@ -13,11 +13,12 @@ ghost use Rattle.spec.specs.Keccak.{keccakF};
 ghost use Rattle.spec.specs.Generator.{generatorByte};
 ghost use Rattle.spec.specs.Hashes.{hash0, hash1};
 ghost use Rattle.spec.specs.LeafHash.{leafHashByte};
-ghost use Rattle.spec.specs.Shapes.{leaves};
+ghost use Rattle.spec.specs.Shapes.{nodeBytes, shapeOk, treeBytes};
 ghost use Rattle.spec.specs.Primitives.{faest};
 ghost use Rattle.spec.specs.Signer.{signerTree};
 ghost use Rattle.spec.specs.Calls.{Plan};
-ghost use Rattle.field.specs.Field.{Multiples, p384};
+ghost use Rattle.field_limbs.specs.Multiples.{Multiples};
+ghost use Rattle.field_384.specs.Field.{p384};
 ghost use Rattle.columns.specs.Columns.{Xored};
 use spec::Answer;
 use spec::Shape;
@@ -37,7 +38,7 @@ pub extern "C" fn rattle_schedule_and_block(t: &[u8; 256], key: &[u8; 16], out: 
     ensures { λ _. ⌜ now (out .exit) ≡ encrypt 4 (now (key .entry)) (now (key .entry)) ⌝ }
 {
     let keys = aes::key_schedule(t, key);
-    let r = aes::bytes_of(aes::encrypt(t, &keys, aes::load_state(key)));
+    let r = aes::bytes_of(aes::encrypt(t, &keys, 10, aes::load_state(key)));
     *out = r;
 }
 
@@ -72,21 +73,21 @@ pub extern "C" fn rattle_keccak(a: &mut [u64; 25])
 pub extern "C" fn rattle_h0(iv: &[u8], out: &mut [u8])
     ensures { λ _. ⌜ now (out .exit) ≡ hash0 168 (now (iv .entry)) (length (now (out .entry))) ⌝ }
 {
-    shake::h0(iv, out);
+    shake::h0(168, iv, out);
 }
 
 #[no_mangle]
 pub extern "C" fn rattle_h1(message: &[u8], out: &mut [u8])
     ensures { λ _. ⌜ now (out .exit) ≡ hash1 168 (now (message .entry)) (length (now (out .entry))) ⌝ }
 {
-    shake::h1(message, out);
+    shake::h1(168, message, out);
 }
 
 #[no_mangle]
 pub extern "C" fn rattle_multiples(key: &[u8; 48], m: &mut [[u64; 6]; 16])
     ensures { λ _. ⌜ Multiples 384 p384 (number 8 (now (key .entry))) (now (m .exit)) ⌝ }
 {
-    let r = field::multiples(key);
+    let r = field_384::multiples(key);
     *m = r;
 }
 
@@ -94,17 +95,27 @@ pub extern "C" fn rattle_multiples(key: &[u8; 48], m: &mut [[u64; 6]; 16])
 pub extern "C" fn rattle_leaf_hash(m: &[[u64; 6]; 16], stretched: &[u8; 64], out: &mut [u8; 48])
     ensures { λ _. ⌜ ((u : List ℕ) → Multiples 384 p384 (number 8 u) (now (m .entry)) → now (out .exit) ≡ tabulate 48 (leafHashByte 384 p384 u (take 16 (now (stretched .entry))) (drop 16 (now (stretched .entry))))) ⌝ }
 {
-    field::leaf_hash(m, stretched, out);
+    field_384::leaf_hash(m, stretched, out);
 }
 
-// The tree of a root, for l leaves.
+// The tree of a root.
 #[no_mangle]
-pub extern "C" fn rattle_grow(t: &[u8; 256], root: &[u8], iv: &[u8; 16], l: usize, tree: &mut [u8])
+pub extern "C" fn rattle_grow(
+    t: &[u8; 256],
+    root: &[u8],
+    iv: &[u8; 16],
+    tau: usize,
+    k: usize,
+    w: usize,
+    most: usize,
+    tree: &mut [u8],
+)
     requires { ⌜ SboxTable (now t) ⌝ }
-    requires { ⌜ (length (now root) ≡ 16) × (1 ≤ l) × (length (now tree) + 16 ≡ 32 * l) × (length (now tree) < 2 ^ 32) ⌝ }
-    ensures { λ _. ⌜ ((s : Shape) → leaves s ≡ l → now (tree .exit) ≡ signerTree faest s (now (root .entry)) (now (iv .entry))) ⌝ }
+    requires { ⌜ (shapeOk (record { tau = tau; k = k; w = w; t = most }) ≡ true) × (length (now root) ≡ nodeBytes (record { tau = tau; k = k; w = w; t = most })) × (length (now tree) ≡ treeBytes (record { tau = tau; k = k; w = w; t = most })) ⌝ }
+    ensures { λ _. ⌜ now (tree .exit) ≡ signerTree faest (record { tau = tau; k = k; w = w; t = most }) (now (root .entry)) (now (iv .entry)) ⌝ }
 {
-    signer_tree::grow(t, root, *iv, l, tree);
+    let s = Shape { tau, k, w, t: most };
+    signer_tree::grow(t, s, root, *iv, tree);
 }
 
 // A row, added to a sum of rows.

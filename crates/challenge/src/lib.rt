@@ -4,7 +4,7 @@ ghost use mathlib.Core.Bool.{true};
 ghost use Prim.Native.Nat.{_+_, _*_, _^_, _<_, _≤_};
 ghost use lib.ListN.{length};
 ghost use Rattle.spec.specs.Challenge.{bitAt, indexAt, clearAt};
-ghost use Rattle.spec.specs.Shapes.{shapeOk, entriesOf, leaves, hiddenIndex, hiddenLeaf, hiddenIndices, grindingOk};
+ghost use Rattle.spec.specs.Shapes.{challengeBytes, shapeOk, entriesOf, leaves, hiddenIndex, hiddenLeaf, hiddenIndices, grindingOk};
 use spec::Shape;
 
 // Bit b, from the least bit of byte 0.
@@ -46,7 +46,7 @@ fn clear(ch: &[u8], at: usize, n: usize) -> bool
 
 // Whether the grinding bits are 0.
 pub fn grinding_ok(s: Shape, ch: &[u8]) -> bool
-    requires { ⌜ (shapeOk s ≡ true) × (length (now ch) ≡ 16) ⌝ }
+    requires { ⌜ (shapeOk s ≡ true) × (length (now ch) ≡ challengeBytes s) ⌝ }
     ensures { λ r. ⌜ r ≡ grindingOk s (now (ch .entry)) ⌝ }
 {
     let n = s.tau;
@@ -55,7 +55,7 @@ pub fn grinding_ok(s: Shape, ch: &[u8]) -> bool
 
 // The hidden index of vector i.
 pub fn hidden_index(s: Shape, ch: &[u8], i: usize) -> usize
-    requires { ⌜ (shapeOk s ≡ true) × (length (now ch) ≡ 16) × (i < s .tau) ⌝ }
+    requires { ⌜ (shapeOk s ≡ true) × (length (now ch) ≡ challengeBytes s) × (i < s .tau) ⌝ }
     ensures { λ r. ⌜ (r ≡ hiddenIndex s (now (ch .entry)) i) × (r < entriesOf s i) × (r < 4096) ⌝ }
 {
     index(ch, rules::first_bit(s, i), rules::depth_of(s, i))
@@ -63,7 +63,7 @@ pub fn hidden_index(s: Shape, ch: &[u8], i: usize) -> usize
 
 // The hidden leaf of vector i.
 pub fn hidden_leaf(s: Shape, ch: &[u8], i: usize) -> usize
-    requires { ⌜ (shapeOk s ≡ true) × (length (now ch) ≡ 16) × (i < s .tau) ⌝ }
+    requires { ⌜ (shapeOk s ≡ true) × (length (now ch) ≡ challengeBytes s) × (i < s .tau) ⌝ }
     ensures { λ r. ⌜ (r ≡ hiddenLeaf s (now (ch .entry)) i) × (r < 81920) × (r + 1 < 2 * leaves s) ⌝ }
 {
     let j = hidden_index(s, ch, i);
@@ -72,7 +72,7 @@ pub fn hidden_leaf(s: Shape, ch: &[u8], i: usize) -> usize
 
 // Writes the hidden indices.
 pub fn write_indices(s: Shape, ch: &[u8], out: &mut [u32])
-    requires { ⌜ (shapeOk s ≡ true) × (length (now ch) ≡ 16) × (length (now out) ≡ s .tau) ⌝ }
+    requires { ⌜ (shapeOk s ≡ true) × (length (now ch) ≡ challengeBytes s) × (length (now out) ≡ s .tau) ⌝ }
     ensures { λ r. ⌜ now (out .exit) ≡ hiddenIndices s (now (ch .entry)) ⌝ }
 {
     let mut i = 0;

@@ -1,12 +1,12 @@
-// The generator PRG of document 000, section 3.3, figure 3.6, for keys of 128 bits: AES in counter mode, with a tweak.
+// The generator PRG of document 000, section 3.3, figure 3.6, for keys of 128, 192 and 256 bits: AES in counter mode, with a tweak.
 ghost use mathlib.Core.Path.{_≡_};
 ghost use mathlib.Core.List.{List};
-ghost use Prim.Native.Nat.{ℕ, _+_, _^_, _≤_, _<_};
+ghost use Prim.Native.Nat.{ℕ, _+_, _*_, _%_, _^_, _≤_, _<_};
 ghost use lib.ListN.{length};
 ghost use Rattle.spec.specs.Bytes.{tabulate};
 ghost use Rattle.spec.specs.Gf256.{SboxTable};
 ghost use Rattle.spec.specs.Generator.{addToWord, addToUpperWord, addToLowerWord, generatorBlock, generatorByte};
-ghost use Rattle.aes.specs.RoundKeys.{roundKeys};
+ghost use Rattle.aes_keys.specs.RoundKeys.{Keyed};
 ghost use Rattle.generator.specs.Stored.{Stored};
 use aes::Blocks;
 
@@ -37,28 +37,43 @@ fn counter(iv: [[u8; 4]; 4], tweak: u32, n: u32) -> [[u8; 4]; 4]
 }
 
 // Block n, for the round keys of any key.
-pub fn block(t: &[u8; 256], keys: &[[[u8; 4]; 4]; 11], iv: [u8; 16], tweak: u32, n: u32) -> [u8; 16]
+pub fn block(
+    t: &[u8; 256],
+    keys: &[[[u8; 4]; 4]; 15],
+    rounds: usize,
+    iv: [u8; 16],
+    tweak: u32,
+    n: u32,
+) -> [u8; 16]
     requires { ⌜ SboxTable (now t) ⌝ }
-    ensures { λ r. ⌜ ((key : List ℕ) → now (keys .entry) ≡ roundKeys 4 key → r ≡ generatorBlock 4 key iv tweak n) ⌝ }
+    requires { ⌜ (10 ≤ rounds) × (rounds ≤ 14) ⌝ }
+    ensures { λ r. ⌜ ((nk : ℕ) (key : List ℕ) → rounds ≡ nk + 6 → Keyed nk key (now (keys .entry)) → r ≡ generatorBlock nk key iv tweak n) ⌝ }
 {
-    aes::bytes_of(aes::encrypt(t, keys, counter(aes::load_state(&iv), tweak, n)))
+    aes::bytes_of(aes::encrypt(t, keys, rounds, counter(aes::load_state(&iv), tweak, n)))
 }
 
 // Blocks n and n + 1, encrypted together.
 pub fn block_pair(
     t: &[u8; 256],
-    keys: &[[[u8; 4]; 4]; 11],
+    keys: &[[[u8; 4]; 4]; 15],
+    rounds: usize,
     iv: [u8; 16],
     tweak: u32,
     n: u32,
 ) -> Blocks
     requires { ⌜ SboxTable (now t) ⌝ }
-    requires { ⌜ n + 1 < 2 ^ 32 ⌝ }
-    ensures { λ r. ⌜ ((key : List ℕ) → now (keys .entry) ≡ roundKeys 4 key
-        → (r .first ≡ generatorBlock 4 key iv tweak n) × (r .second ≡ generatorBlock 4 key iv tweak (n + 1))) ⌝ }
+    requires { ⌜ (n + 1 < 2 ^ 32) × (10 ≤ rounds) × (rounds ≤ 14) ⌝ }
+    ensures { λ r. ⌜ ((nk : ℕ) (key : List ℕ) → rounds ≡ nk + 6 → Keyed nk key (now (keys .entry))
+        → (r .first ≡ generatorBlock nk key iv tweak n) × (r .second ≡ generatorBlock nk key iv tweak (n + 1))) ⌝ }
 {
     let s = aes::load_state(&iv);
-    aes::encrypt_pair(t, keys, counter(s, tweak, n), counter(s, tweak, n + 1))
+    aes::encrypt_pair(
+        t,
+        keys,
+        rounds,
+        counter(s, tweak, n),
+        counter(s, tweak, n + 1),
+    )
 }
 
 // Stores a whole block at place p of out: a copy of 16 bytes, which is quicker where their number is a constant.
@@ -97,20 +112,39 @@ fn store(block: [u8; 16], from: usize, p: usize, out: &mut [u8]) -> usize
     store_part(block, from, p, out)
 }
 
-// Fills out with the output from byte `first` on: byte p of the output is byte p % 16 of block p / 16.
-pub fn fill(t: &[u8; 256], key: &[u8], iv: [u8; 16], tweak: u32, first: usize, out: &mut [u8])
+// Fills out with the output from byte `first` on, for the round keys of any key: byte p of the output is byte p % 16 of block p / 16.
+pub fn fill_keyed(
+    t: &[u8; 256],
+    keys: &[[[u8; 4]; 4]; 15],
+    rounds: usize,
+    iv: [u8; 16],
+    tweak: u32,
+    first: usize,
+    out: &mut [u8],
+)
     requires { ⌜ SboxTable (now t) ⌝ }
-    requires { ⌜ (length (now key) ≡ 16) × (first + length (now out) < 2 ^ 32) ⌝ }
-    ensures { λ _. ⌜ now (out .exit) ≡ tabulate (length (now (out .entry))) (λ p. generatorByte 4 (now (key .entry)) iv tweak (first + p)) ⌝ }
+    requires { ⌜ (10 ≤ rounds) × (rounds ≤ 14) × (first + length (now out) < 2 ^ 32) ⌝ }
+    ensures { λ _. ⌜ ((nk : ℕ) (key : List ℕ) → rounds ≡ nk + 6 → Keyed nk key (now (keys .entry))
+        → now (out .exit) ≡ tabulate (length (now (out .entry))) (λ p. generatorByte nk key iv tweak (first + p))) ⌝ }
 {
-    let keys = aes::key_schedule(t, key);
     let mut p = 0;
     while p < out.len() {
         let at = first + p;
-        let pair = block_pair(t, &keys, iv, tweak, (at / 16) as u32);
+        let pair = block_pair(t, keys, rounds, iv, tweak, (at / 16) as u32);
         let one = pair.first;
         let two = pair.second;
         let mid = store(one, at % 16, p, out);
         p = store(two, 0, mid, out);
     }
+}
+
+// The same for a key.
+pub fn fill(t: &[u8; 256], key: &[u8], iv: [u8; 16], tweak: u32, first: usize, out: &mut [u8])
+    requires { ⌜ SboxTable (now t) ⌝ }
+    requires { ⌜ (16 ≤ length (now key)) × (length (now key) ≤ 32) × (length (now key) % 8 ≡ 0) × (first + length (now out) < 2 ^ 32) ⌝ }
+    ensures { λ _. ⌜ ((nk : ℕ) → length (now (key .entry)) ≡ 4 * nk
+        → now (out .exit) ≡ tabulate (length (now (out .entry))) (λ p. generatorByte nk (now (key .entry)) iv tweak (first + p))) ⌝ }
+{
+    let keys = aes::key_schedule(t, key);
+    fill_keyed(t, &keys, key.len() / 4 + 6, iv, tweak, first, out);
 }

@@ -3,7 +3,7 @@ use Prim.Native.Nat.{ℕ, zero, suc, _+_, _-_, _*_, _/_, _%_, _≤_, _<_}
 use mathlib.Core.Path.{_≡_, refl, sym, ap, ap₂, _∙_}
 use mathlib.Core.List.{List, _++_, append-nil, append-assoc}
 use native.Mathlib.Omega.{arith}
-use native.Mathlib.Nat.{add-zero, add-suc, zero-mul, mul-suc, mul-zero, mul-le-mul, lt-of-mul-lt-mul-left, le-refl, mod-lt, div-add-mod}
+use native.Mathlib.Nat.{add-zero, add-suc, zero-mul, mul-suc, mul-zero, mul-add, mul-le-mul, lt-of-mul-lt-mul-left, le-refl, mod-lt, div-add-mod}
 use native.Mathlib.Numerals.{add-one}
 use native.Mathlib.Decide.{decLt}
 use lib.ListN.{length, getD, take, drop, length-append, length-drop}
@@ -131,3 +131,10 @@ pub mul-within : (w c n : ℕ) → c < n → w * c + w ≤ w * n
 mul-within w c n h =
     let l : w * suc c ≤ w * n = mul-le-mul (le-refl w) h in
     omega (arith, mul-suc w c)
+
+pub mul-limit : (w c n m : ℕ) → w ≤ n → c ≤ m → w * c ≤ n * m
+mul-limit w c n m h k = mul-le-mul h k
+
+-- t blocks are n of them and the rest
+pub mul-rest : (w n t : ℕ) → n ≤ t → w * t ≡ w * n + w * (t - n)
+mul-rest w n t h = ap (λ (m : ℕ). w * m) (omega arith) ∙ mul-add w n (t - n)

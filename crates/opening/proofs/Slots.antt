@@ -9,7 +9,7 @@ use lib.ListN.{getD, take}
 use lib.Seq.{getD-take}
 use Rattle.spec.specs.declared.Shape.{Shape}
 use Rattle.spec.specs.Bytes.{concat, zeros}
-use Rattle.spec.specs.Shapes.{level, nodeBytes, leaves, shapeOk, hiddenIndex, hiddenLeaves, planned, plannedCount}
+use Rattle.spec.specs.Shapes.{nodeBytes, leaves, shapeOk, hiddenIndex, hiddenLeaves, planned, plannedCount}
 use Rattle.spec.specs.Leaves.{nodeAt}
 use Rattle.spec.specs.Signer.{leafCommitmentAt, openingOf}
 use Rattle.laws.proofs.Concat.{concat-same}
@@ -29,9 +29,9 @@ module _ (s : Shape) (ch nodes : List ℕ) (n : ℕ) (count : n ≡ plannedCount
       omega arith
 
   pub opening-of : (tree lcs hidden : List ℕ) → hidden ≡ concat (s .tau) (λ i. leafCommitmentAt s lcs i (hiddenIndex s ch i))
-      → (hidden ++ concat n (λ m. nodeAt s tree (getD nodes m 0))) ++ zeros (16 * (s .t - n)) ≡ openingOf s ch tree lcs
-  unfolding level nodeBytes openingOf
+      → (hidden ++ concat n (λ m. nodeAt s tree (getD nodes m 0))) ++ zeros (nodeBytes s * (s .t - n)) ≡ openingOf s ch tree lcs
+  unfolding openingOf
   opening-of tree lcs hidden e =
       let written = concat-same (λ m. nodeAt s tree (getD nodes m 0)) (λ m. nodeAt s tree (getD (planned s ch) m 0)) n (λ m h. ap (nodeAt s tree) (listed m h)) in
-      ap₂ (λ (x y : List ℕ). (x ++ y) ++ zeros (16 * (s .t - n))) e written
-      ∙ ap (λ (x : ℕ). (concat (s .tau) (λ i. leafCommitmentAt s lcs i (hiddenIndex s ch i)) ++ concat x (λ m. nodeAt s tree (getD (planned s ch) m 0))) ++ zeros (16 * (s .t - x))) count
+      ap₂ (λ (x y : List ℕ). (x ++ y) ++ zeros (nodeBytes s * (s .t - n))) e written
+      ∙ ap (λ (x : ℕ). (concat (s .tau) (λ i. leafCommitmentAt s lcs i (hiddenIndex s ch i)) ++ concat x (λ m. nodeAt s tree (getD (planned s ch) m 0))) ++ zeros (nodeBytes s * (s .t - x))) count

@@ -1,6 +1,6 @@
 -- The shape rules as facts, and the numbers that follow: a vector's bits lie in the challenge, its leaves in the tree, and no tree is large. By taking the
 -- conjunction of the rules apart.
-use Prim.Native.Nat.{ℕ, zero, suc, _+_, _-_, _*_, _^_, _≤_, _<_}
+use Prim.Native.Nat.{ℕ, zero, suc, _+_, _-_, _*_, _%_, _^_, _≤_, _<_}
 use mathlib.Core.Path.{_≡_, refl, sym, ap, ap₂, _∙_}
 use mathlib.Core.Bool.{Bool, true, false, _&&_, _||_, true≢false}
 use native.Mathlib.Omega.{arith}
@@ -10,7 +10,7 @@ use lib.Dec.{eqb, leb, ltb}
 use lib.Pow.{pow-mono, pow-pos}
 use borrow.Author.Tests.{leb-true, ltb-true, le-leb, lt-ltb, le-ltb, eq-eqb, ne-eqb}
 use Rattle.spec.specs.declared.Shape.{Shape}
-use Rattle.spec.specs.Shapes.{level, deeper, depthOf, entriesOf, firstBit, leaves, shapeOk}
+use Rattle.spec.specs.Shapes.{level, nodeBytes, challengeBytes, leafCommitmentBytes, hashBytes, keyWords, deeper, depthOf, entriesOf, firstBit, leaves, shapeOk}
 use Rattle.laws.proofs.Conjunctions.{refuted}
 use Rattle.laws.proofs.Segments.{segment-before}
 use Rattle.planning_laws.proofs.Depths.{depth-range, depth-deep, depth-flat, bit-next, leaves-split}
@@ -24,7 +24,7 @@ pub record ShapeFacts (s : Shape) : Type 0 where
   pub w-max : s .w ≤ 127
   pub t-pos : 1 ≤ s .t
   pub t-max : s .t ≤ 512
-  pub total : s .tau * s .k + deeper s + s .w ≡ 128
+  pub total : s .tau * s .k + deeper s + s .w ≡ level s
   pub few : deeper s < s .tau
 
 all-nine : (a b c d e f g h i : Bool) → (a && b && c && d && e && f && g && h && i) ≡ true
@@ -40,18 +40,18 @@ all-nine true true true true true true true false i p = absurd (true≢false (sy
 all-nine true true true true true true true true false p = absurd (true≢false (sym p))
 all-nine true true true true true true true true true p = (refl, refl, refl, refl, refl, refl, refl, refl, refl)
 
-pub deeper-is : (s : Shape) → deeper s ≡ 128 - s .w - s .tau * s .k
-unfolding deeper level
+pub deeper-is : (s : Shape) → deeper s ≡ level s - s .w - s .tau * s .k
+unfolding deeper
 deeper-is s = refl
 
 pub shape-facts : (s : Shape) → shapeOk s ≡ true → ShapeFacts s
-unfolding shapeOk level
+unfolding shapeOk
 shape-facts s e =
     let q =
     all-nine (leb 1 (s .tau)) (leb (s .tau) 32) (leb 1 (s .k)) (leb (depthOf s 0) 12) (leb (s .w) 127) (leb 1 (s .t)) (leb (s .t) 512)
-    (leb (s .tau * s .k + s .w) 128) (ltb (deeper s) (s .tau)) e in
+    (leb (s .tau * s .k + s .w) (level s)) (ltb (deeper s) (s .tau)) e in
     let depth : depthOf s 0 ≤ 12 = leb-true _ _ (q .3) in
-    let room : s .tau * s .k + s .w ≤ 128 = leb-true _ _ (q .7) in
+    let room : s .tau * s .k + s .w ≤ level s = leb-true _ _ (q .7) in
     record {
       tau-pos = leb-true _ _ (q .0);
       tau-max = leb-true _ _ (q .1);
@@ -68,9 +68,9 @@ shape-facts s e =
 pub shape-refused : (s : Shape) → (ShapeFacts s → ⊥) → false ≡ shapeOk s
 shape-refused s h = refuted (shapeOk s) (λ e. h (shape-facts s e))
 
-shape-accepted : (s : Shape) → 1 ≤ s .tau → s .tau ≤ 32 → 1 ≤ s .k → depthOf s 0 ≤ 12 → s .w ≤ 127 → 1 ≤ s .t → s .t ≤ 512 → s .tau * s .k + s .w ≤ 128
+shape-accepted : (s : Shape) → 1 ≤ s .tau → s .tau ≤ 32 → 1 ≤ s .k → depthOf s 0 ≤ 12 → s .w ≤ 127 → 1 ≤ s .t → s .t ≤ 512 → s .tau * s .k + s .w ≤ level s
     → deeper s < s .tau → true ≡ shapeOk s
-unfolding shapeOk level
+unfolding shapeOk
 shape-accepted s a b c d e f g h i =
     simp (
       le-leb 1 (s .tau) a,
@@ -80,12 +80,12 @@ shape-accepted s a b c d e f g h i =
       le-leb (s .w) 127 e,
       le-leb 1 (s .t) f,
       le-leb (s .t) 512 g,
-      le-leb (s .tau * s .k + s .w) 128 h,
+      le-leb (s .tau * s .k + s .w) (level s) h,
       lt-ltb (deeper s) (s .tau) i,
     )
 
 -- with every other limit kept, the depth of the deeper vectors decides
-pub shape-by-depth : (s : Shape) (r : ℕ) → 1 ≤ s .tau → s .tau ≤ 32 → 1 ≤ s .k → s .k ≤ 12 → s .w ≤ 127 → 1 ≤ s .t → s .t ≤ 512 → s .tau * s .k + s .w ≤ 128
+pub shape-by-depth : (s : Shape) (r : ℕ) → 1 ≤ s .tau → s .tau ≤ 32 → 1 ≤ s .k → s .k ≤ 12 → s .w ≤ 127 → 1 ≤ s .t → s .t ≤ 512 → s .tau * s .k + s .w ≤ level s
     → r ≡ deeper s → r < s .tau → (eqb r 0 || ltb (s .k) 12) ≡ shapeOk s
 shape-by-depth s r a b c d e f g h i j = go (decLt 0 r) (decLt (s .k) 12)
   where
@@ -100,13 +100,43 @@ shape-by-depth s r a b c d e f g h i j = go (decLt 0 r) (decLt (s .k) 12)
         ap₂ _||_ (ne-eqb r 0 (λ z. omega arith)) (le-ltb (s .k) 12 (omega arith))
         ∙ shape-refused s (λ m. let z = depth-deep s 0 (omega arith) in omega (arith, m .depth-max))
 
+-- ---- widths: what holds of them at every level
+
+pub record Widths (s : Shape) : Type 0 where
+  pub level-max : level s ≤ 256
+  pub node-min : 16 ≤ nodeBytes s
+  pub node-max : nodeBytes s ≤ 32
+  pub node-eight : nodeBytes s % 8 ≡ 0
+  pub node-words : nodeBytes s ≡ 4 * keyWords s
+  pub node-bits : level s ≡ 8 * nodeBytes s
+  pub challenge-node : challengeBytes s ≡ nodeBytes s
+  pub commitment-min : 1 ≤ leafCommitmentBytes s
+  pub commitment-max : leafCommitmentBytes s ≤ 96
+  pub hash-nodes : hashBytes s ≡ 2 * nodeBytes s
+
+pub widths : (s : Shape) → ShapeFacts s → Widths s
+unfolding level nodeBytes challengeBytes leafCommitmentBytes hashBytes keyWords
+widths s f =
+    record {
+      level-max = omega arith;
+      node-min = omega arith;
+      node-max = omega arith;
+      node-eight = refl;
+      node-words = refl;
+      node-bits = refl;
+      challenge-node = refl;
+      commitment-min = omega arith;
+      commitment-max = omega arith;
+      hash-nodes = refl;
+    }
+
 -- ---- numbers
 
-pub bit-all : (s : Shape) → ShapeFacts s → firstBit s (s .tau) + s .w ≡ 128
+pub bit-all : (s : Shape) → ShapeFacts s → firstBit s (s .tau) + s .w ≡ level s
 unfolding firstBit
 bit-all s f = omega arith
 
-pub vector-bits : (s : Shape) (i : ℕ) → ShapeFacts s → i < s .tau → firstBit s i + depthOf s i ≤ 128
+pub vector-bits : (s : Shape) (i : ℕ) → ShapeFacts s → i < s .tau → firstBit s i + depthOf s i ≤ level s
 vector-bits s i f h =
     let a = segment-before (firstBit s) (depthOf s) (s .tau) i (λ n l. bit-next s n) h in
     let b = bit-all s f in
@@ -142,7 +172,7 @@ leaves-bound tau r (suc (suc (suc (suc (suc (suc (suc (suc (suc (suc (suc (suc z
 leaves-bound tau r (suc (suc (suc (suc (suc (suc (suc (suc (suc (suc (suc (suc (suc k))))))))))))) a b d c e = absurd (omega arith)
 
 pub leaves-max : (s : Shape) → ShapeFacts s → leaves s ≤ 40960
-unfolding leaves
+unfolding leaves level
 leaves-max s f =
     leaves-bound (s .tau) (deeper s) (s .k) (f .tau-max) (f .k-max) (λ h. let d = depth-deep s 0 h in omega (arith, f .depth-max)) (f .few)
     (omega (arith, f .total))

@@ -3,7 +3,7 @@ ghost use mathlib.Core.Path.{_≡_};
 ghost use mathlib.Core.Bool.{true};
 ghost use Prim.Native.Nat.{_+_, _*_, _≤_};
 ghost use lib.ListN.{length};
-ghost use Rattle.spec.specs.Shapes.{shapeOk, plannedCount, treeBytes, leafCommitmentsBytes, openingBytes, matrixBytes, correctionsBytes};
+ghost use Rattle.spec.specs.Shapes.{challengeBytes, leafCommitmentBytes, hashBytes, ivBytes, shapeOk, plannedCount, treeBytes, leafCommitmentsBytes, openingBytes, matrixBytes, correctionsBytes};
 ghost use Rattle.spec.specs.Primitives.{faest};
 ghost use Rattle.spec.specs.Calls.{Reconstructed, reconstructed};
 use spec::Shape;
@@ -25,15 +25,16 @@ fn write_all(
     lcs: &mut [u8],
     q: &mut [u8],
 )
-    requires { ⌜ (shapeOk s ≡ true) × (z .first + z .width ≤ 8192) × (n ≡ plannedCount s (now ch)) × (n ≤ s .t) × (length (now keys) ≡ 48 * s .tau) × (length (now hashes) ≡ 32 * s .tau) ⌝ }
-    requires { ⌜ (length (now iv) ≡ 16) × (length (now ch) ≡ 16) × (length (now corrections) ≡ correctionsBytes s (z .width)) × (length (now opening) ≡ openingBytes s) ⌝ }
-    requires { ⌜ (length (now commitment) ≡ 32) × (length (now tree) ≡ treeBytes s) × (length (now lcs) ≡ leafCommitmentsBytes s) × (length (now q) ≡ matrixBytes s (z .width)) ⌝ }
+    requires { ⌜ (shapeOk s ≡ true) × (z .first + z .width ≤ 8192) × (n ≡ plannedCount s (now ch)) × (n ≤ s .t) × (length (now keys) ≡ leafCommitmentBytes s * s .tau) × (length (now hashes) ≡ hashBytes s * s .tau) ⌝ }
+    requires { ⌜ (length (now iv) ≡ ivBytes) × (length (now ch) ≡ challengeBytes s) × (length (now corrections) ≡ correctionsBytes s (z .width)) × (length (now opening) ≡ openingBytes s) ⌝ }
+    requires { ⌜ (length (now commitment) ≡ hashBytes s) × (length (now tree) ≡ treeBytes s) × (length (now lcs) ≡ leafCommitmentsBytes s) × (length (now q) ≡ matrixBytes s (z .width)) ⌝ }
     ensures { λ _. ⌜ _≡_ {A = Reconstructed} (record { commitment = now (commitment .exit); tree = now (tree .exit); leafCommitments = now (lcs .exit); q = now (q .exit) })
         (reconstructed faest s z (now (iv .entry)) (now (ch .entry)) (now (corrections .entry)) (now (opening .entry))) ⌝ }
 {
+    let r = rules::rate_bytes(s);
     let t = aes::table();
     let x = generator::load_iv(iv);
-    shake::h0(iv, keys);
+    shake::h0(r, iv, keys);
     verifier_tree::reconstruct_tree(&t, s, ch, x, n, opening, tree);
     verifier_vectors::write_vectors(
         &t,
@@ -49,7 +50,7 @@ fn write_all(
         q,
         hashes,
     );
-    shake::h1(hashes, commitment);
+    shake::h1(r, hashes, commitment);
 }
 
 // Writes what reconstruct writes, once every test has been passed.
@@ -67,14 +68,16 @@ pub fn write_reconstruction(
     q: &mut [u8],
 )
     requires { ⌜ (shapeOk s ≡ true) × (z .first + z .width ≤ 8192) × (n ≡ plannedCount s (now ch)) × (n ≤ s .t) ⌝ }
-    requires { ⌜ (length (now iv) ≡ 16) × (length (now ch) ≡ 16) × (length (now corrections) ≡ correctionsBytes s (z .width)) × (length (now opening) ≡ openingBytes s) ⌝ }
-    requires { ⌜ (length (now commitment) ≡ 32) × (length (now tree) ≡ treeBytes s) × (length (now lcs) ≡ leafCommitmentsBytes s) × (length (now q) ≡ matrixBytes s (z .width)) ⌝ }
+    requires { ⌜ (length (now iv) ≡ ivBytes) × (length (now ch) ≡ challengeBytes s) × (length (now corrections) ≡ correctionsBytes s (z .width)) × (length (now opening) ≡ openingBytes s) ⌝ }
+    requires { ⌜ (length (now commitment) ≡ hashBytes s) × (length (now tree) ≡ treeBytes s) × (length (now lcs) ≡ leafCommitmentsBytes s) × (length (now q) ≡ matrixBytes s (z .width)) ⌝ }
     ensures { λ _. ⌜ _≡_ {A = Reconstructed} (record { commitment = now (commitment .exit); tree = now (tree .exit); leafCommitments = now (lcs .exit); q = now (q .exit) })
         (reconstructed faest s z (now (iv .entry)) (now (ch .entry)) (now (corrections .entry)) (now (opening .entry))) ⌝ }
 {
     let tau = s.tau;
-    let mut keys = [0u8; 1536];
-    let mut hashes = [0u8; 1024];
+    let w = rules::commitment_bytes(s);
+    let h = rules::hash_bytes(s);
+    let mut keys = [0u8; 3072];
+    let mut hashes = [0u8; 2048];
     write_all(
         s,
         z,
@@ -83,8 +86,8 @@ pub fn write_reconstruction(
         ch,
         corrections,
         opening,
-        &mut keys[0..48 * tau],
-        &mut hashes[0..32 * tau],
+        &mut keys[0..w * tau],
+        &mut hashes[0..h * tau],
         commitment,
         tree,
         lcs,

@@ -1,7 +1,7 @@
 // The row of a seed, section 5.5.2 of document 000 with tweak i + 2^31: added block by block to a sum of rows, so that outside the lent buffers no array has
 // more than 16 bytes of a row.
 ghost use mathlib.Core.Path.{_≡_};
-ghost use Prim.Native.Nat.{_+_, _-_, _≤_, _<_, min};
+ghost use Prim.Native.Nat.{ℕ, _+_, _-_, _*_, _%_, _≤_, _<_, min};
 ghost use lib.ListN.{length, getD};
 ghost use Rattle.spec.specs.Gf256.{SboxTable};
 ghost use Rattle.spec.specs.Generator.{generatorByte};
@@ -21,10 +21,12 @@ fn add_block(block: [u8; 16], from: usize, at: usize, sum: &mut [u8]) -> usize
 // Adds the bytes of a seed's row from byte `first` on, as many as the sum has, to the sum.
 pub fn add_row(t: &[u8; 256], seed: &[u8], iv: [u8; 16], tweak: u32, first: usize, sum: &mut [u8])
     requires { ⌜ SboxTable (now t) ⌝ }
-    requires { ⌜ (length (now seed) ≡ 16) × (first + length (now sum) ≤ 8192) ⌝ }
-    ensures { λ _. ⌜ Xored 0 (length (now (sum .entry))) (λ p. generatorByte 4 (now (seed .entry)) iv tweak (first + p)) (now (sum .entry)) (now (sum .exit)) ⌝ }
+    requires { ⌜ (16 ≤ length (now seed)) × (length (now seed) ≤ 32) × (length (now seed) % 8 ≡ 0) × (first + length (now sum) ≤ 8192) ⌝ }
+    ensures { λ _. ⌜ ((nk : ℕ) → length (now (seed .entry)) ≡ 4 * nk
+        → Xored 0 (length (now (sum .entry))) (λ p. generatorByte nk (now (seed .entry)) iv tweak (first + p)) (now (sum .entry)) (now (sum .exit))) ⌝ }
 {
     let keys = aes::key_schedule(t, seed);
+    let rounds = seed.len() / 4 + 6;
     let b = sum.len();
     let mut at = 0;
     while at < b {
@@ -32,13 +34,13 @@ pub fn add_row(t: &[u8; 256], seed: &[u8], iv: [u8; 16], tweak: u32, first: usiz
         // the first block is cut in front, the last behind
         let from = p % 16;
         if 16 - from < b - at {
-            let pair = generator::block_pair(t, &keys, iv, tweak, (p / 16) as u32);
+            let pair = generator::block_pair(t, &keys, rounds, iv, tweak, (p / 16) as u32);
             let one = pair.first;
             let two = pair.second;
             let mid = add_block(one, from, at, sum);
             at = add_block(two, 0, mid, sum);
         } else {
-            let block = generator::block(t, &keys, iv, tweak, (p / 16) as u32);
+            let block = generator::block(t, &keys, rounds, iv, tweak, (p / 16) as u32);
             at = add_block(block, from, at, sum);
         }
     }

@@ -2,7 +2,7 @@
 ghost use mathlib.Core.Path.{_≡_};
 ghost use mathlib.Core.Bool.{true};
 ghost use Prim.Native.Nat.{_+_, _-_, _*_, _^_, _<_, _≤_};
-ghost use Rattle.spec.specs.Shapes.{resolved, shapeOk, deeper, depthOf, entriesOf, firstBit, firstEntry, leaves, leafOf};
+ghost use Rattle.spec.specs.Shapes.{resolved, level, nodeBytes, leafCommitmentBytes, hashBytes, rate, shapeOk, deeper, depthOf, entriesOf, firstBit, firstEntry, leaves, leafOf};
 ghost use mathlib.Core.List.{[], _∷_};
 ghost use Rattle.spec.specs.Calls.{rowOk, stretchOk, fits};
 use spec::Answer;
@@ -144,12 +144,52 @@ fn power(d: usize) -> usize
     1usize << d
 }
 
+// The level in bits, which is also the number of columns of V and Q.
+pub fn level_bits(s: Shape) -> usize
+    requires { ⌜ shapeOk s ≡ true ⌝ }
+    ensures { λ r. ⌜ (r ≡ level s) × (r ≤ 256) ⌝ }
+{
+    128
+}
+
+// The bytes of a node, of a seed and of a challenge.
+pub fn node_bytes(s: Shape) -> usize
+    requires { ⌜ shapeOk s ≡ true ⌝ }
+    ensures { λ r. ⌜ (r ≡ nodeBytes s) × (16 ≤ r) × (r ≤ 32) ⌝ }
+{
+    level_bits(s) / 8
+}
+
+// The bytes of a leaf commitment and of a hash key.
+pub fn commitment_bytes(s: Shape) -> usize
+    requires { ⌜ shapeOk s ≡ true ⌝ }
+    ensures { λ r. ⌜ (r ≡ leafCommitmentBytes s) × (r ≤ 96) ⌝ }
+{
+    3 * node_bytes(s)
+}
+
+// The bytes of a hash of leaf commitments and of the commitment.
+pub fn hash_bytes(s: Shape) -> usize
+    requires { ⌜ shapeOk s ≡ true ⌝ }
+    ensures { λ r. ⌜ (r ≡ hashBytes s) × (r ≤ 64) ⌝ }
+{
+    2 * node_bytes(s)
+}
+
+// The rate of SHAKE in bytes.
+pub fn rate_bytes(s: Shape) -> usize
+    requires { ⌜ shapeOk s ≡ true ⌝ }
+    ensures { λ r. ⌜ (r ≡ rate s) × (0 < r) × (r ≤ 168) ⌝ }
+{
+    168
+}
+
 // How many vectors are deeper than the others: r, the first r.
 pub fn deeper_count(s: Shape) -> usize
     requires { ⌜ shapeOk s ≡ true ⌝ }
     ensures { λ r. ⌜ (r ≡ deeper s) × (r < s .tau) ⌝ }
 {
-    128 - s.w - s.tau * s.k
+    level_bits(s) - s.w - s.tau * s.k
 }
 
 // The depth of vector i, the number of its bits and of its columns.
@@ -171,7 +211,7 @@ pub fn entry_count(s: Shape, i: usize) -> usize
 // The first bit, and the first column, of vector i; behind the last vector, those of the grinding bits.
 pub fn first_bit(s: Shape, i: usize) -> usize
     requires { ⌜ (shapeOk s ≡ true) × (i ≤ s .tau) ⌝ }
-    ensures { λ r. ⌜ (r ≡ firstBit s i) × (r ≤ 128) ⌝ }
+    ensures { λ r. ⌜ (r ≡ firstBit s i) × (r ≤ level s) × (r ≤ 256) ⌝ }
 {
     i * s.k + numbers::min(i, deeper_count(s))
 }

@@ -1,5 +1,5 @@
 // The sponge of FIPS 202, section 4, with the suffix and padding of SHAKE (section 6.2), and the hashes H0 and H1 of document 000, section 3.3.
-// The rate, in bytes, is a parameter of each function of the sponge: 168 is SHAKE128, 136 SHAKE256.
+// The rate, in bytes, is a parameter: 168 is SHAKE128, 136 SHAKE256. A block has room for the larger; at rate 136 its last 32 bytes stay zeros.
 ghost use mathlib.Core.Path.{_≡_};
 ghost use mathlib.Core.List.{List, [], _∷_, _++_};
 ghost use Prim.Native.Nat.{ℕ, _+_, _-_, _<_, _≤_};
@@ -220,41 +220,30 @@ fn hash(s: Sponge, rate: usize, domain: u8, out: &mut [u8])
     squeeze(u, rate, out);
 }
 
-// H0, the hash for commitment keys, at level 128.
-pub fn h0(iv: &[u8], out: &mut [u8])
-    ensures { λ _. ⌜ now (out .exit) ≡ hash0 168 (now (iv .entry)) (length (now (out .entry))) ⌝ }
+// H0, the hash for commitment keys.
+pub fn h0(rate: usize, iv: &[u8], out: &mut [u8])
+    requires { ⌜ (rate ≤ 168) × (0 < rate) ⌝ }
+    ensures { λ _. ⌜ now (out .exit) ≡ hash0 rate (now (iv .entry)) (length (now (out .entry))) ⌝ }
 {
     let s = new();
-    let t = absorb(s, 168, iv);
-    hash(t, 168, 0, out);
+    let t = absorb(s, rate, iv);
+    hash(t, rate, 0, out);
 }
 
-// H1, the hash for vector commitments, at level 128, of a message that comes in parts: the start, a part, and the end.
-pub fn h1_start() -> Sponge
-    ensures { λ s. ⌜ Holds 168 [] (s .lanes) (s .fill) ⌝ }
+// H1, the hash for vector commitments, of a message that the sponge has absorbed in parts.
+pub fn h1_finish(s: Sponge, rate: usize, out: &mut [u8])
+    requires { ⌜ (rate ≤ 168) × (s .fill < rate) ⌝ }
+    ensures { λ _. ⌜ ((m : List ℕ) → Holds rate m (s .lanes) (s .fill) → now (out .exit) ≡ hash1 rate m (length (now (out .entry)))) ⌝ }
 {
-    new()
-}
-
-pub fn h1_absorb(s: Sponge, part: &[u8]) -> Sponge
-    requires { ⌜ s .fill < 168 ⌝ }
-    ensures { λ r. ⌜ Took 168 (s .lanes) (s .fill) (now (part .entry)) (r .lanes) (r .fill) ⌝ }
-{
-    absorb(s, 168, part)
-}
-
-pub fn h1_finish(s: Sponge, out: &mut [u8])
-    requires { ⌜ s .fill < 168 ⌝ }
-    ensures { λ _. ⌜ ((m : List ℕ) → Holds 168 m (s .lanes) (s .fill) → now (out .exit) ≡ hash1 168 m (length (now (out .entry)))) ⌝ }
-{
-    hash(s, 168, 1, out);
+    hash(s, rate, 1, out);
 }
 
 // H1 of a message that comes whole.
-pub fn h1(message: &[u8], out: &mut [u8])
-    ensures { λ _. ⌜ now (out .exit) ≡ hash1 168 (now (message .entry)) (length (now (out .entry))) ⌝ }
+pub fn h1(rate: usize, message: &[u8], out: &mut [u8])
+    requires { ⌜ (rate ≤ 168) × (0 < rate) ⌝ }
+    ensures { λ _. ⌜ now (out .exit) ≡ hash1 rate (now (message .entry)) (length (now (out .entry))) ⌝ }
 {
-    let s = h1_start();
-    let t = h1_absorb(s, message);
-    h1_finish(t, out);
+    let s = new();
+    let t = absorb(s, rate, message);
+    h1_finish(t, rate, out);
 }

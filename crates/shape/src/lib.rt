@@ -1,9 +1,11 @@
 // The public calls decode and plan.
 ghost use mathlib.Core.Path.{_≡_};
+ghost use mathlib.Core.Bool.{true};
 ghost use Prim.Native.Nat.{_≤_};
 ghost use lib.ListN.{length, take, drop};
-ghost use mathlib.Core.List.{_++_};
-ghost use Rattle.spec.specs.Calls.{Decode, Plan};
+ghost use mathlib.Core.List.{[], _∷_, _++_};
+ghost use Rattle.spec.specs.Shapes.{challengeBytes, shapeOk};
+ghost use Rattle.spec.specs.Calls.{fits, Decode, Plan};
 use spec::Answer;
 use spec::Shape;
 
@@ -19,6 +21,14 @@ fn copy_front(from: &[u32], n: usize, to: &mut [u32])
     }
 }
 
+// Whether the challenge has its length, and a list n numbers.
+fn list_fits(s: Shape, challenge: usize, list: usize, n: usize) -> bool
+    requires { ⌜ shapeOk s ≡ true ⌝ }
+    ensures { λ r. ⌜ r ≡ fits ((challenge, challengeBytes s) ∷ (list, n) ∷ []) ⌝ }
+{
+    rules::fit2(challenge, rules::node_bytes(s), list, n)
+}
+
 // DECODE: the hidden indices of a challenge.
 pub fn decode(shape: Shape, challenge: &[u8], indices: &mut [u32]) -> Answer
     ensures { λ r. ⌜ Decode shape (now (challenge .entry)) (now (indices .entry)) (now (indices .exit)) r ⌝ }
@@ -27,7 +37,7 @@ pub fn decode(shape: Shape, challenge: &[u8], indices: &mut [u32]) -> Answer
     if !rules::is_shape(s) {
         return rules::answer(1, 0);
     }
-    if !rules::fit2(challenge.len(), 16, indices.len(), s.tau) {
+    if !list_fits(s, challenge.len(), indices.len(), s.tau) {
         return rules::answer(3, 0);
     }
     if !challenge::grinding_ok(s, challenge) {
@@ -45,7 +55,7 @@ pub fn plan(shape: Shape, challenge: &[u8], nodes: &mut [u32]) -> Answer
     if !rules::is_shape(s) {
         return rules::answer(1, 0);
     }
-    if !rules::fit2(challenge.len(), 16, nodes.len(), s.t) {
+    if !list_fits(s, challenge.len(), nodes.len(), s.t) {
         return rules::answer(3, 0);
     }
     if !challenge::grinding_ok(s, challenge) {

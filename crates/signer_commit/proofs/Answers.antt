@@ -9,7 +9,7 @@ use lib.ListN.{length}
 use Rattle.spec.specs.declared.Shape.{Shape}
 use Rattle.spec.specs.declared.Stretch.{Stretch}
 use Rattle.spec.specs.declared.Answer.{Answer}
-use Rattle.spec.specs.Shapes.{resolved, level, nodeBytes, hashBytes, shapeOk, treeBytes, leafCommitmentsBytes, matrixBytes, correctionsBytes}
+use Rattle.spec.specs.Shapes.{resolved, nodeBytes, hashBytes, ivBytes, shapeOk, treeBytes, leafCommitmentsBytes, matrixBytes, correctionsBytes}
 use Rattle.spec.specs.Primitives.{faest}
 use Rattle.spec.specs.Leaves.{leafCommitments, commitmentOf}
 use Rattle.spec.specs.Rows.{stretchByte, matrixOf}
@@ -19,9 +19,9 @@ use Rattle.spec.specs.Calls.{fits, rowOk, stretchOk, Committed, committed, comm
 -- the lengths that commit compares
 abbrev pub Lengths : Shape → ℕ → List ℕ → List ℕ → Committed → List (ℕ × ℕ)
 Lengths t b root iv x =
-    (length root, 16)
-    ∷ (length iv, 16)
-    ∷ (length (x .commitment), 32)
+    (length root, nodeBytes t)
+    ∷ (length iv, ivBytes)
+    ∷ (length (x .commitment), hashBytes t)
     ∷ (length (x .tree), treeBytes t)
     ∷ (length (x .leafCommitments), leafCommitmentsBytes t)
     ∷ (length (x .u), b)
@@ -50,12 +50,12 @@ module _ (s t : Shape) (e : t ≡ resolved s) (n : ℕ) (z : Stretch) (root iv :
 
   pub commit-3 : shapeOk t ≡ true → rowOk n ≡ true → stretchOk (n / 8) z ≡ true → fits (Lengths t (z .width) root iv x) ≡ false → (r .number ≡ 3) × (r .count ≡ 0)
       → CommitStretch faest s n z root iv x x r
-  unfolding commitStretchNumber level nodeBytes hashBytes
+  unfolding commitStretchNumber
   commit-3 a b c d = commit-refused 3 (rw (rw e at a, b, c, rw e at d) refl) refl
 
   pub commit-0 : (y : Committed) → shapeOk t ≡ true → rowOk n ≡ true → stretchOk (n / 8) z ≡ true → fits (Lengths t (z .width) root iv x) ≡ true → y ≡ committed faest t z root iv
       → (r .number ≡ 0) × (r .count ≡ 0) → CommitStretch faest s n z root iv x y r
-  unfolding commitStretchNumber level nodeBytes hashBytes
+  unfolding commitStretchNumber
   commit-0 y a b c d w q = record { number = q .0 ∙ sym (rw (rw e at a, b, c, rw e at d) refl); count = q .1; buffers = rw (q .0) (rw e at w) }
 
 -- ---- what is written

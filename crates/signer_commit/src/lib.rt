@@ -4,7 +4,7 @@ ghost use mathlib.Core.Bool.{true};
 ghost use mathlib.Core.List.{[], _∷_};
 ghost use Prim.Native.Nat.{_+_, _*_, _≤_};
 ghost use lib.ListN.{length};
-ghost use Rattle.spec.specs.Shapes.{shapeOk, treeBytes, leafCommitmentsBytes, matrixBytes, correctionsBytes};
+ghost use Rattle.spec.specs.Shapes.{nodeBytes, leafCommitmentBytes, hashBytes, ivBytes, shapeOk, treeBytes, leafCommitmentsBytes, matrixBytes, correctionsBytes};
 ghost use Rattle.spec.specs.Primitives.{faest};
 ghost use Rattle.spec.specs.Calls.{fits, Committed, committed, Commit, CommitStretch};
 use spec::Answer;
@@ -25,26 +25,25 @@ fn commit_lengths(
     corrections: usize,
 ) -> bool
     requires { ⌜ (shapeOk s ≡ true) × (b ≤ 8192) ⌝ }
-    ensures { λ r. ⌜ r ≡ fits ((root, 16) ∷ (iv, 16) ∷ (commitment, 32) ∷ (tree, treeBytes s) ∷ (lcs, leafCommitmentsBytes s) ∷ (u, b) ∷ (v, matrixBytes s b) ∷ (corrections, correctionsBytes s b) ∷ []) ⌝ }
+    ensures { λ r. ⌜ r ≡ fits ((root, nodeBytes s) ∷ (iv, ivBytes) ∷ (commitment, hashBytes s) ∷ (tree, treeBytes s) ∷ (lcs, leafCommitmentsBytes s) ∷ (u, b) ∷ (v, matrixBytes s b) ∷ (corrections, correctionsBytes s b) ∷ []) ⌝ }
 {
-    let leaves = rules::leaf_count(s);
     rules::fit8(
         root,
-        16,
+        rules::node_bytes(s),
         iv,
         16,
         commitment,
-        32,
+        rules::hash_bytes(s),
         tree,
-        16 * (2 * leaves - 1),
+        lengths::tree_bytes(s),
         lcs,
-        48 * leaves,
+        lengths::leaf_commitments_bytes(s),
         u,
         b,
         v,
-        b * 128,
+        lengths::matrix_bytes(s, b),
         corrections,
-        b * (s.tau - 1),
+        lengths::corrections_bytes(s, b),
     )
 }
 
@@ -63,17 +62,18 @@ fn write_all(
     v: &mut [u8],
     corrections: &mut [u8],
 )
-    requires { ⌜ (shapeOk s ≡ true) × (z .first + z .width ≤ 8192) × (length (now root) ≡ 16) × (length (now iv) ≡ 16) × (length (now keys) ≡ 48 * s .tau) × (length (now hashes) ≡ 32 * s .tau) ⌝ }
-    requires { ⌜ (length (now commitment) ≡ 32) × (length (now tree) ≡ treeBytes s) × (length (now lcs) ≡ leafCommitmentsBytes s) × (length (now u) ≡ z .width) × (length (now v) ≡ matrixBytes s (z .width)) × (length (now corrections) ≡ correctionsBytes s (z .width)) ⌝ }
+    requires { ⌜ (shapeOk s ≡ true) × (z .first + z .width ≤ 8192) × (length (now root) ≡ nodeBytes s) × (length (now iv) ≡ ivBytes) × (length (now keys) ≡ leafCommitmentBytes s * s .tau) × (length (now hashes) ≡ hashBytes s * s .tau) ⌝ }
+    requires { ⌜ (length (now commitment) ≡ hashBytes s) × (length (now tree) ≡ treeBytes s) × (length (now lcs) ≡ leafCommitmentsBytes s) × (length (now u) ≡ z .width) × (length (now v) ≡ matrixBytes s (z .width)) × (length (now corrections) ≡ correctionsBytes s (z .width)) ⌝ }
     ensures { λ _. ⌜ _≡_ {A = Committed} (record { commitment = now (commitment .exit); tree = now (tree .exit); leafCommitments = now (lcs .exit); u = now (u .exit); v = now (v .exit); corrections = now (corrections .exit) })
         (committed faest s z (now (root .entry)) (now (iv .entry))) ⌝ }
 {
+    let r = rules::rate_bytes(s);
     let t = aes::table();
     let x = generator::load_iv(iv);
-    shake::h0(iv, keys);
-    signer_tree::grow(&t, root, x, rules::leaf_count(s), tree);
+    shake::h0(r, iv, keys);
+    signer_tree::grow(&t, s, root, x, tree);
     signer_vectors::write_vectors(&t, s, z, x, keys, tree, lcs, u, v, corrections, hashes);
-    shake::h1(hashes, commitment);
+    shake::h1(r, hashes, commitment);
 }
 
 // Writes what commit writes, once every test has been passed.
@@ -89,21 +89,23 @@ fn write_commitment(
     v: &mut [u8],
     corrections: &mut [u8],
 )
-    requires { ⌜ (shapeOk s ≡ true) × (z .first + z .width ≤ 8192) × (length (now root) ≡ 16) × (length (now iv) ≡ 16) ⌝ }
-    requires { ⌜ (length (now commitment) ≡ 32) × (length (now tree) ≡ treeBytes s) × (length (now lcs) ≡ leafCommitmentsBytes s) × (length (now u) ≡ z .width) × (length (now v) ≡ matrixBytes s (z .width)) × (length (now corrections) ≡ correctionsBytes s (z .width)) ⌝ }
+    requires { ⌜ (shapeOk s ≡ true) × (z .first + z .width ≤ 8192) × (length (now root) ≡ nodeBytes s) × (length (now iv) ≡ ivBytes) ⌝ }
+    requires { ⌜ (length (now commitment) ≡ hashBytes s) × (length (now tree) ≡ treeBytes s) × (length (now lcs) ≡ leafCommitmentsBytes s) × (length (now u) ≡ z .width) × (length (now v) ≡ matrixBytes s (z .width)) × (length (now corrections) ≡ correctionsBytes s (z .width)) ⌝ }
     ensures { λ _. ⌜ _≡_ {A = Committed} (record { commitment = now (commitment .exit); tree = now (tree .exit); leafCommitments = now (lcs .exit); u = now (u .exit); v = now (v .exit); corrections = now (corrections .exit) })
         (committed faest s z (now (root .entry)) (now (iv .entry))) ⌝ }
 {
     let tau = s.tau;
-    let mut keys = [0u8; 1536];
-    let mut hashes = [0u8; 1024];
+    let w = rules::commitment_bytes(s);
+    let h = rules::hash_bytes(s);
+    let mut keys = [0u8; 3072];
+    let mut hashes = [0u8; 2048];
     write_all(
         s,
         z,
         root,
         iv,
-        &mut keys[0..48 * tau],
-        &mut hashes[0..32 * tau],
+        &mut keys[0..w * tau],
+        &mut hashes[0..h * tau],
         commitment,
         tree,
         lcs,

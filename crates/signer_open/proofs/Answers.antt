@@ -9,19 +9,19 @@ use lib.ListN.{length}
 use borrow.Author.Tests.{le-leb, lt-leb}
 use Rattle.spec.specs.declared.Shape.{Shape}
 use Rattle.spec.specs.declared.Answer.{Answer}
-use Rattle.spec.specs.Shapes.{resolved, level, challengeBytes, shapeOk, grindingOk, plannedCount, treeBytes, leafCommitmentsBytes, openingBytes}
+use Rattle.spec.specs.Shapes.{resolved, challengeBytes, shapeOk, grindingOk, plannedCount, treeBytes, leafCommitmentsBytes, openingBytes}
 use Rattle.spec.specs.Signer.{openingOf}
 use Rattle.laws.proofs.Lengths.{fits-sized}
 use Rattle.spec.specs.Calls.{fits, countWith, nodesOk, planNumber, openLengths, Open}
 
 -- the lengths that open compares
 abbrev pub Fit : Shape → List ℕ → List ℕ → List ℕ → List ℕ → Bool
-Fit t ch tree lcs xs = fits ((length ch, 16) ∷ (length tree, treeBytes t) ∷ (length lcs, leafCommitmentsBytes t) ∷ (length xs, openingBytes t) ∷ [])
+Fit t ch tree lcs xs = fits ((length ch, challengeBytes t) ∷ (length tree, treeBytes t) ∷ (length lcs, leafCommitmentsBytes t) ∷ (length xs, openingBytes t) ∷ [])
 
 pub fit-open : (t : Shape) (ch tree lcs xs : List ℕ) → Fit t ch tree lcs xs ≡ true
-    → (length ch ≡ 16) × (length tree ≡ treeBytes t) × (length lcs ≡ leafCommitmentsBytes t) × (length xs ≡ openingBytes t)
+    → (length ch ≡ challengeBytes t) × (length tree ≡ treeBytes t) × (length lcs ≡ leafCommitmentsBytes t) × (length xs ≡ openingBytes t)
 fit-open t ch tree lcs xs h =
-    let q = fits-sized ((length ch, 16) ∷ (length tree, treeBytes t) ∷ (length lcs, leafCommitmentsBytes t) ∷ (length xs, openingBytes t) ∷ []) h in
+    let q = fits-sized ((length ch, challengeBytes t) ∷ (length tree, treeBytes t) ∷ (length lcs, leafCommitmentsBytes t) ∷ (length xs, openingBytes t) ∷ []) h in
     (q .0, q .1 .0, q .1 .1 .0, q .1 .1 .1 .0)
 
 module _ (s t : Shape) (e : t ≡ resolved s) (ch tree lcs xs : List ℕ) (r : Answer) where
@@ -34,23 +34,23 @@ module _ (s t : Shape) (e : t ≡ resolved s) (ch tree lcs xs : List ℕ) (r : A
   open-1 a = open-refused 1 0 (rw (rw e at a) refl) refl refl
 
   pub open-3 : shapeOk t ≡ true → Fit t ch tree lcs xs ≡ false → (r .number ≡ 3) × (r .count ≡ 0) → Open s ch tree lcs xs xs r
-  unfolding planNumber countWith challengeBytes level
+  unfolding planNumber countWith
   open-3 a b = open-refused 3 0 (rw (rw e at a, rw e at b) refl) refl refl
 
   pub open-4 : shapeOk t ≡ true → Fit t ch tree lcs xs ≡ true → grindingOk t ch ≡ false → (r .number ≡ 4) × (r .count ≡ 0) → Open s ch tree lcs xs xs r
-  unfolding planNumber countWith challengeBytes level
+  unfolding planNumber countWith
   open-4 a b d = open-refused 4 0 (rw (rw e at a, rw e at b, rw e at d) refl) refl refl
 
   pub open-5 : (n : ℕ) → shapeOk t ≡ true → Fit t ch tree lcs xs ≡ true → grindingOk t ch ≡ true → n ≡ plannedCount t ch → t .t < n
       → (r .number ≡ 5) × (r .count ≡ n) → Open s ch tree lcs xs xs r
-  unfolding planNumber countWith nodesOk challengeBytes level
+  unfolding planNumber countWith nodesOk
   open-5 n a b d c h =
       let over : t .t < plannedCount t ch = rw c at h in
       open-refused 5 n (rw (rw e at a, rw e at b, rw e at d, rw e at (lt-leb (plannedCount t ch) (t .t) over)) refl) refl (sym (rw e at c))
 
   pub open-0 : (n : ℕ) (ys : List ℕ) → shapeOk t ≡ true → Fit t ch tree lcs xs ≡ true → grindingOk t ch ≡ true → n ≡ plannedCount t ch → n ≤ t .t
       → ys ≡ openingOf t ch tree lcs → (r .number ≡ 0) × (r .count ≡ n) → Open s ch tree lcs xs ys r
-  unfolding planNumber countWith nodesOk challengeBytes level
+  unfolding planNumber countWith nodesOk
   open-0 n ys a b d c h w q =
       let within : plannedCount t ch ≤ t .t = rw c at h in
       record {

@@ -2,7 +2,7 @@
 ghost use mathlib.Core.Path.{_≡_};
 ghost use mathlib.Core.Bool.{true};
 ghost use mathlib.Core.List.{[], _∷_};
-ghost use Rattle.spec.specs.Shapes.{shapeOk, treeBytes, leafCommitmentsBytes, openingBytes};
+ghost use Rattle.spec.specs.Shapes.{challengeBytes, shapeOk, treeBytes, leafCommitmentsBytes, openingBytes};
 ghost use Rattle.spec.specs.Calls.{fits, Open};
 use spec::Answer;
 use spec::Shape;
@@ -10,18 +10,17 @@ use spec::Shape;
 // Whether the buffers of open have their lengths.
 fn open_lengths(s: Shape, challenge: usize, tree: usize, commitments: usize, opening: usize) -> bool
     requires { ⌜ shapeOk s ≡ true ⌝ }
-    ensures { λ r. ⌜ r ≡ fits ((challenge, 16) ∷ (tree, treeBytes s) ∷ (commitments, leafCommitmentsBytes s) ∷ (opening, openingBytes s) ∷ []) ⌝ }
+    ensures { λ r. ⌜ r ≡ fits ((challenge, challengeBytes s) ∷ (tree, treeBytes s) ∷ (commitments, leafCommitmentsBytes s) ∷ (opening, openingBytes s) ∷ []) ⌝ }
 {
-    let leaves = rules::leaf_count(s);
     rules::fit4(
         challenge,
-        16,
+        rules::node_bytes(s),
         tree,
-        16 * (2 * leaves - 1),
+        lengths::tree_bytes(s),
         commitments,
-        48 * leaves,
+        lengths::leaf_commitments_bytes(s),
         opening,
-        48 * s.tau + 16 * s.t,
+        lengths::opening_bytes(s),
     )
 }
 

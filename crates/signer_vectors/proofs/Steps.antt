@@ -14,14 +14,14 @@ use Rattle.spec.specs.declared.Stretch.{Stretch}
 use Rattle.spec.specs.Bytes.{bit, tabulate, concat, zeros}
 use Rattle.spec.specs.Sponge.{sponge, shake}
 use Rattle.spec.specs.Hashes.{hash1}
-use Rattle.spec.specs.Shapes.{level, nodeBytes, leafCommitmentBytes, hashBytes, rate, depthOf, entriesOf, firstBit, firstEntry}
+use Rattle.spec.specs.Shapes.{leafCommitmentBytes, hashBytes, rate, depthOf, entriesOf, firstBit, firstEntry}
 use Rattle.spec.specs.Primitives.{faest}
 use Rattle.spec.specs.Leaves.{leafKey, leafCommitment, vectorCommitments, vectorHash}
 use Rattle.spec.specs.Rows.{stretchByte, uByte, columnByte}
 use Rattle.spec.specs.Signer.{signerLeafCommitment, signerU, signerColumn, correction}
 use Rattle.laws.proofs.Lists.{length-tabulate, getD-tabulate, tabulate-same, is-tabulate}
 use Rattle.laws.proofs.Sums.{xor-same}
-use Rattle.laws.proofs.Concat.{concat-same, even-length}
+use Rattle.laws.proofs.Concat.{concat-same, even-length, mul-next}
 use Rattle.laws.proofs.Strings.{getD-zeros}
 use Rattle.planning_laws.proofs.Depths.{bit-none, entry-none}
 use Rattle.columns.specs.Columns.{Added}
@@ -44,14 +44,14 @@ module _ (s : Shape) (z : Stretch) (iv tree : List ℕ) where
   abbrev b : ℕ
   b = z .width
 
-  pub converted : (i : ℕ) (total total′ old lcs cols before hash : List ℕ) → length total ≡ b → length old ≡ 48 * entriesOf s i → length before ≡ 32
-      → Written (λ e. leafCommitment faest s iv i (leafKey s tree i e)) 0 0 (entriesOf s i) old lcs → Added b 1 (λ j p. uByte s row i p) total total′
-      → cols ≡ concat (depthOf s i) (λ j. tabulate b (columnByte s row (λ e. bitXor e 0) i j)) → hash ≡ hash1 168 lcs (length before)
+  pub converted : (i : ℕ) (total total′ old lcs cols before hash : List ℕ) → length total ≡ b → length old ≡ leafCommitmentBytes s * entriesOf s i → length before ≡ hashBytes s
+      → Written (leafCommitmentBytes s) (λ e. leafCommitment faest s iv i (leafKey s tree i e)) 0 0 (entriesOf s i) old lcs → Added b 1 (λ j p. uByte s row i p) total total′
+      → cols ≡ concat (depthOf s i) (λ j. tabulate b (columnByte s row (λ e. bitXor e 0) i j)) → hash ≡ hash1 (rate s) lcs (length before)
       → Converted s z iv tree i total total′ lcs cols hash
-  unfolding level nodeBytes hashBytes rate faest entriesOf vectorCommitments vectorHash columnByte signerLeafCommitment signerColumn
+  unfolding faest entriesOf vectorCommitments vectorHash columnByte signerLeafCommitment signerColumn
   converted i total total′ old lcs cols before hash et el eh l t c h =
       let own : ℕ → List ℕ = λ e. leafCommitment faest s iv i (leafKey s tree i e) in
-      let leaves = written-all own 0 (depthOf s i) 0 own old lcs (pow-pos (depthOf s i)) el (λ x k. refl) (λ x k. absurd (omega arith)) l in
+      let leaves = written-all (leafCommitmentBytes s) own 0 (depthOf s i) 0 own old lcs (pow-pos (depthOf s i)) el (λ x k. refl) (λ x k. absurd (omega arith)) l in
       record {
         leaves = leaves;
         sum = sum-of b (uByte s row i) total total′ et t;
@@ -60,7 +60,7 @@ module _ (s : Shape) (z : Stretch) (iv tree : List ℕ) where
             (λ j hj. tabulate-same b (columnByte s row (λ e. bitXor e 0) i j) (columnByte s row (λ e. e) i j)
             (λ p hp. xor-same (2 ^ depthOf s i) (λ e. bit j (bitXor e 0) * row i e p) (λ e. bit j e * row i e p)
             (λ e k. ap (λ (x : ℕ). bit j x * row i e p) (xor-zero-r e))));
-        digest = h ∙ ap₂ (λ (x : List ℕ) (y : ℕ). hash1 168 x y) leaves eh;
+        digest = h ∙ ap₂ (λ (x : List ℕ) (y : ℕ). hash1 (rate s) x y) leaves eh;
       }
 
   -- the u of vector 0, from a total that was zeros
@@ -80,16 +80,16 @@ module _ (s : Shape) (z : Stretch) (iv tree : List ℕ) where
 
   -- ---- lengths
 
-  leaves-length : (i : ℕ) → length (vectorCommitments s (signerLeafCommitment faest s iv tree) i) ≡ 48 * entriesOf s i
-  unfolding level nodeBytes leafCommitmentBytes leafCommitment vectorCommitments signerLeafCommitment
-  leaves-length i = even-length (signerLeafCommitment faest s iv tree i) 48 (entriesOf s i) (λ j h. rw length-tabulate)
+  leaves-length : (i : ℕ) → length (vectorCommitments s (signerLeafCommitment faest s iv tree) i) ≡ leafCommitmentBytes s * entriesOf s i
+  unfolding leafCommitment vectorCommitments signerLeafCommitment
+  leaves-length i = even-length (signerLeafCommitment faest s iv tree i) (leafCommitmentBytes s) (entriesOf s i) (λ j h. rw length-tabulate)
 
   columns-length : (i : ℕ) → length (concat (depthOf s i) (signerColumn s b row i)) ≡ b * depthOf s i
   unfolding signerColumn
   columns-length i = even-length (signerColumn s b row i) b (depthOf s i) (λ j h. rw length-tabulate)
 
-  digest-length : (i : ℕ) → length (vectorHash faest s (signerLeafCommitment faest s iv tree) i) ≡ 32
-  unfolding level nodeBytes hashBytes faest hash1 shake sponge vectorHash
+  digest-length : (i : ℕ) → length (vectorHash faest s (signerLeafCommitment faest s iv tree) i) ≡ hashBytes s
+  unfolding faest hash1 shake sponge vectorHash
   digest-length i = rw length-tabulate
 
   -- ---- buffers
@@ -113,37 +113,38 @@ module _ (s : Shape) (z : Stretch) (iv tree : List ℕ) where
 
   -- the parts lent, as the fronts of their buffers
   pub fronts : (i : ℕ) (total sum d e f ls cols hash zl zv zh : List ℕ) → Converted s z iv tree i total sum ls cols hash
-      → Converted s z iv tree i total sum (take (48 * entriesOf s i) (take 0 d ++ (ls ++ zl))) (take (b * depthOf s i) (take 0 e ++ (cols ++ zv))) (take 32 (take 0 f ++ (hash ++ zh)))
+      → Converted s z iv tree i total sum (take (leafCommitmentBytes s * entriesOf s i) (take 0 d ++ (ls ++ zl))) (take (b * depthOf s i) (take 0 e ++ (cols ++ zv))) (take (hashBytes s) (take 0 f ++ (hash ++ zh)))
   fronts i total sum d e f ls cols hash zl zv zh r =
       record {
-        leaves = take-at ls zl (48 * entriesOf s i) (ap length (r .leaves) ∙ leaves-length i) ∙ r .leaves;
+        leaves = take-at ls zl (leafCommitmentBytes s * entriesOf s i) (ap length (r .leaves) ∙ leaves-length i) ∙ r .leaves;
         sum = r .sum;
         columns = take-at cols zv (b * depthOf s i) (ap length (r .columns) ∙ columns-length i) ∙ r .columns;
-        digest = take-at hash zh 32 (ap length (r .digest) ∙ digest-length i) ∙ r .digest;
+        digest = take-at hash zh (hashBytes s) (ap length (r .digest) ∙ digest-length i) ∙ r .digest;
       }
 
-  pub up-start : (total sum lcs cs v hs : List ℕ) → Converted s z iv tree 0 total sum (take (48 * entriesOf s 0) lcs) (take (b * depthOf s 0) v) (take 32 hs) → UpTo s z iv tree 0 lcs cs v hs
+  pub up-start : (total sum lcs cs v hs : List ℕ) → Converted s z iv tree 0 total sum (take (leafCommitmentBytes s * entriesOf s 0) lcs) (take (b * depthOf s 0) v) (take (hashBytes s) hs) → UpTo s z iv tree 0 lcs cs v hs
   unfolding concat
   up-start total sum lcs cs v hs r =
       record {
-        leaves = start Leaves (48 * entriesOf s 0) (48 * firstEntry s 0) (48 * firstEntry s (0 + 1)) lcs (ap (λ (n : ℕ). 48 * n) (entry-none s)) (commitments-next s 0) (r .leaves);
+        leaves = start Leaves (leafCommitmentBytes s * entriesOf s 0) (leafCommitmentBytes s * firstEntry s 0) (leafCommitmentBytes s * firstEntry s (0 + 1)) lcs (ap (λ (n : ℕ). leafCommitmentBytes s * n) (entry-none s) ∙ mul-zero (leafCommitmentBytes s)) (commitments-next s 0) (r .leaves);
         sums = ap (λ (m : ℕ). take m cs) (mul-zero b);
         columns = start Columns (b * depthOf s 0) (b * firstBit s 0) (b * firstBit s (0 + 1)) v (ap (λ (n : ℕ). b * n) (bit-none s) ∙ mul-zero b) (columns-next s 0 b) (r .columns);
-        digests = start Digest 32 0 (32 * (0 + 1)) hs refl refl (r .digest);
+        digests = start Digest (hashBytes s) (hashBytes s * 0) (hashBytes s * (0 + 1)) hs (mul-zero (hashBytes s)) (mul-next (hashBytes s) 0) (r .digest);
       }
 
-  pub up-more : (j l c : ℕ) (u sum lcs cs v hs ls cols hash zl zc zv zh : List ℕ) → l ≡ 48 * firstEntry s (j + 1) → c ≡ b * firstBit s (j + 1) → u ≡ signerU s b row
-      → 48 * firstEntry s (j + 1 + 1) ≤ length lcs → b * j + b ≤ length cs → b * firstBit s (j + 1 + 1) ≤ length v → 32 * (j + 1) + 32 ≤ length hs
+  pub up-more : (j l c h : ℕ) (u sum lcs cs v hs ls cols hash zl zc zv zh : List ℕ) → l ≡ leafCommitmentBytes s * firstEntry s (j + 1) → c ≡ b * firstBit s (j + 1) → h ≡ hashBytes s → u ≡ signerU s b row
+      → leafCommitmentBytes s * firstEntry s (j + 1 + 1) ≤ length lcs → b * j + b ≤ length cs → b * firstBit s (j + 1 + 1) ≤ length v → h * (j + 1) + h ≤ length hs
       → Converted s z iv tree (j + 1) u sum ls cols hash → UpTo s z iv tree j lcs cs v hs
-      → UpTo s z iv tree (j + 1) (take l lcs ++ (ls ++ zl)) (take (b * j) cs ++ (sum ++ zc)) (take c v ++ (cols ++ zv)) (take (32 * (j + 1)) hs ++ (hash ++ zh))
-  up-more j l c u sum lcs cs v hs ls cols hash zl zc zv zh el ec eu hl hc hv hh x r =
+      → UpTo s z iv tree (j + 1) (take l lcs ++ (ls ++ zl)) (take (b * j) cs ++ (sum ++ zc)) (take c v ++ (cols ++ zv)) (take (h * (j + 1)) hs ++ (hash ++ zh))
+  up-more j l c h u sum lcs cs v hs ls cols hash zl zc zv zh el ec ek eu hl hc hv hh x r =
+      let next = mul-next (hashBytes s) (j + 1) in
       let same = correction-of (j + 1) u sum eu (x .sum) in
       let long = ap length (x .sum) ∙ length-tabulate b (λ p. bitXor (getD u p 0) (uByte s row (j + 1) p)) in
       record {
-        leaves = put-behind Leaves l (48 * firstEntry s (j + 1)) (48 * entriesOf s (j + 1)) (48 * firstEntry s (j + 1 + 1)) (j + 1) lcs ls zl el (commitments-next s (j + 1)) hl (ap length (x .leaves) ∙ leaves-length (j + 1)) (x .leaves) (r .leaves);
+        leaves = put-behind Leaves l (leafCommitmentBytes s * firstEntry s (j + 1)) (leafCommitmentBytes s * entriesOf s (j + 1)) (leafCommitmentBytes s * firstEntry s (j + 1 + 1)) (j + 1) lcs ls zl el (commitments-next s (j + 1)) hl (ap length (x .leaves) ∙ leaves-length (j + 1)) (x .leaves) (r .leaves);
         sums = put-block Correction b j cs sum zc hc long same (r .sums);
         columns = put-behind Columns c (b * firstBit s (j + 1)) (b * depthOf s (j + 1)) (b * firstBit s (j + 1 + 1)) (j + 1) v cols zv ec (columns-next s (j + 1) b) hv (ap length (x .columns) ∙ columns-length (j + 1)) (x .columns) (r .columns);
-        digests = put-block Digest 32 (j + 1) hs hash zh hh (ap length (x .digest) ∙ digest-length (j + 1)) (x .digest) (r .digests);
+        digests = put-behind Digest (h * (j + 1)) (hashBytes s * (j + 1)) (hashBytes s) (hashBytes s * (j + 1 + 1)) (j + 1) hs hash zh (ap (λ (n : ℕ). n * (j + 1)) ek) next (let q : h * (j + 1) ≡ hashBytes s * (j + 1) = ap (λ (n : ℕ). n * (j + 1)) ek in omega arith) (ap length (x .digest) ∙ digest-length (j + 1)) (x .digest) (r .digests);
       }
 
 -- a buffer that was filled from another of its length

@@ -7,7 +7,7 @@ use lib.ListN.{getD, take}
 use Rattle.spec.specs.declared.Shape.{Shape}
 use Rattle.spec.specs.declared.Stretch.{Stretch}
 use Rattle.spec.specs.Bytes.{tabulate, concat}
-use Rattle.spec.specs.Shapes.{depthOf, firstBit, firstEntry}
+use Rattle.spec.specs.Shapes.{leafCommitmentBytes, hashBytes, depthOf, firstBit, firstEntry}
 use Rattle.spec.specs.Primitives.{faest}
 use Rattle.spec.specs.Leaves.{vectorCommitments, vectorHash}
 use Rattle.spec.specs.Rows.{stretchByte, uByte}
@@ -22,7 +22,7 @@ pub record Converted (s : Shape) (z : Stretch) (iv tree : List ℕ) (i : ℕ) (t
 
 -- vectors 0 to j stand at the front of the buffers
 pub record UpTo (s : Shape) (z : Stretch) (iv tree : List ℕ) (j : ℕ) (lcs corrections v hashes : List ℕ) : Type 0 where
-  pub leaves : take (48 * firstEntry s (j + 1)) lcs ≡ concat (j + 1) (vectorCommitments s (signerLeafCommitment faest s iv tree))
+  pub leaves : take (leafCommitmentBytes s * firstEntry s (j + 1)) lcs ≡ concat (j + 1) (vectorCommitments s (signerLeafCommitment faest s iv tree))
   pub sums : take (z .width * j) corrections ≡ concat j (λ i. correction s (z .width) (stretchByte faest s z iv tree) (i + 1))
   pub columns : take (z .width * firstBit s (j + 1)) v ≡ concat (j + 1) (λ i. concat (depthOf s i) (signerColumn s (z .width) (stretchByte faest s z iv tree) i))
-  pub digests : take (32 * (j + 1)) hashes ≡ concat (j + 1) (vectorHash faest s (signerLeafCommitment faest s iv tree))
+  pub digests : take (hashBytes s * (j + 1)) hashes ≡ concat (j + 1) (vectorHash faest s (signerLeafCommitment faest s iv tree))

@@ -5,7 +5,7 @@ ghost use Prim.Native.Nat.{_+_, _*_, _≤_, _<_};
 ghost use lib.ListN.{length, take};
 ghost use Rattle.spec.specs.Bytes.{concat, zeros};
 ghost use Rattle.spec.specs.Gf256.{SboxTable};
-ghost use Rattle.spec.specs.Shapes.{shapeOk, depthOf, entriesOf, treeBytes, leafCommitmentsBytes, matrixBytes, correctionsBytes};
+ghost use Rattle.spec.specs.Shapes.{leafCommitmentBytes, hashBytes, shapeOk, depthOf, entriesOf, treeBytes, leafCommitmentsBytes, matrixBytes, correctionsBytes};
 ghost use Rattle.spec.specs.Primitives.{faest};
 ghost use Rattle.spec.specs.Leaves.{leafCommitments, vectorHash};
 ghost use Rattle.spec.specs.Rows.{stretchByte, matrixOf};
@@ -30,13 +30,15 @@ fn convert(
     hash: &mut [u8],
 )
     requires { ⌜ SboxTable (now t) ⌝ }
-    requires { ⌜ (shapeOk s ≡ true) × (i < s .tau) × (z .first + z .width ≤ 8192) × (now keys ≡ faest .h0 s iv (48 * s .tau)) × (length (now tree) ≡ treeBytes s) ⌝ }
-    requires { ⌜ (length (now lcs) ≡ 48 * entriesOf s i) × (length (now total) ≡ z .width) × (length (now cols) ≡ z .width * depthOf s i) × (length (now hash) ≡ 32) ⌝ }
+    requires { ⌜ (shapeOk s ≡ true) × (i < s .tau) × (z .first + z .width ≤ 8192) × (now keys ≡ faest .h0 s iv (leafCommitmentBytes s * s .tau)) × (length (now tree) ≡ treeBytes s) ⌝ }
+    requires { ⌜ (length (now lcs) ≡ leafCommitmentBytes s * entriesOf s i) × (length (now total) ≡ z .width) × (length (now cols) ≡ z .width * depthOf s i) × (length (now hash) ≡ hashBytes s) ⌝ }
     ensures { λ _. ⌜ Converted s z iv (now (tree .entry)) i (now (total .entry)) (now (total .exit)) (now (lcs .exit)) (now (cols .exit)) (now (hash .exit)) ⌝ }
 {
-    let m = field::multiples(&keys[48 * i..48 * i + 48]);
+    let w = rules::commitment_bytes(s);
+    let r = rules::rate_bytes(s);
+    let m = leaf::hash_multiples(s, &keys[w * i..w * i + w]);
     vector::add_entries(t, &m, s, i, 0, 0, z, iv, tree, lcs, total, cols);
-    shake::h1(lcs, hash);
+    shake::h1(r, lcs, hash);
 }
 
 // Vector i, whose rows make u, in the parts at the front of the buffers.
@@ -54,12 +56,13 @@ fn vector_of_u(
     hashes: &mut [u8],
 )
     requires { ⌜ SboxTable (now t) ⌝ }
-    requires { ⌜ (shapeOk s ≡ true) × (i < s .tau) × (z .first + z .width ≤ 8192) × (now keys ≡ faest .h0 s iv (48 * s .tau)) × (length (now tree) ≡ treeBytes s) ⌝ }
-    requires { ⌜ (48 * entriesOf s i ≤ length (now lcs)) × (length (now u) ≡ z .width) × (z .width * depthOf s i ≤ length (now v)) × (32 ≤ length (now hashes)) ⌝ }
-    ensures { λ _. ⌜ Converted s z iv (now (tree .entry)) i (zeros (z .width)) (now (u .exit)) (take (48 * entriesOf s i) (now (lcs .exit))) (take (z .width * depthOf s i) (now (v .exit))) (take 32 (now (hashes .exit))) ⌝ }
+    requires { ⌜ (shapeOk s ≡ true) × (i < s .tau) × (z .first + z .width ≤ 8192) × (now keys ≡ faest .h0 s iv (leafCommitmentBytes s * s .tau)) × (length (now tree) ≡ treeBytes s) ⌝ }
+    requires { ⌜ (leafCommitmentBytes s * entriesOf s i ≤ length (now lcs)) × (length (now u) ≡ z .width) × (z .width * depthOf s i ≤ length (now v)) × (hashBytes s ≤ length (now hashes)) ⌝ }
+    ensures { λ _. ⌜ Converted s z iv (now (tree .entry)) i (zeros (z .width)) (now (u .exit)) (take (leafCommitmentBytes s * entriesOf s i) (now (lcs .exit))) (take (z .width * depthOf s i) (now (v .exit))) (take (hashBytes s) (now (hashes .exit))) ⌝ }
 {
     let b = z.width;
-    let w = 48 * rules::entry_count(s, i);
+    let h = rules::hash_bytes(s);
+    let w = rules::commitment_bytes(s) * rules::entry_count(s, i);
     let c = b * rules::depth_of(s, i);
     buffers::clear_from(u, 0);
     convert(
@@ -73,7 +76,7 @@ fn vector_of_u(
         &mut lcs[0..w],
         u,
         &mut v[0..c],
-        &mut hashes[0..32],
+        &mut hashes[0..h],
     );
 }
 
@@ -93,8 +96,8 @@ fn correct(
     hash: &mut [u8],
 )
     requires { ⌜ SboxTable (now t) ⌝ }
-    requires { ⌜ (shapeOk s ≡ true) × (i < s .tau) × (z .first + z .width ≤ 8192) × (now keys ≡ faest .h0 s iv (48 * s .tau)) × (length (now tree) ≡ treeBytes s) ⌝ }
-    requires { ⌜ (length (now u) ≡ z .width) × (length (now lcs) ≡ 48 * entriesOf s i) × (length (now correction) ≡ z .width) × (length (now cols) ≡ z .width * depthOf s i) × (length (now hash) ≡ 32) ⌝ }
+    requires { ⌜ (shapeOk s ≡ true) × (i < s .tau) × (z .first + z .width ≤ 8192) × (now keys ≡ faest .h0 s iv (leafCommitmentBytes s * s .tau)) × (length (now tree) ≡ treeBytes s) ⌝ }
+    requires { ⌜ (length (now u) ≡ z .width) × (length (now lcs) ≡ leafCommitmentBytes s * entriesOf s i) × (length (now correction) ≡ z .width) × (length (now cols) ≡ z .width * depthOf s i) × (length (now hash) ≡ hashBytes s) ⌝ }
     ensures { λ _. ⌜ Converted s z iv (now (tree .entry)) i (now (u .entry)) (now (correction .exit)) (now (lcs .exit)) (now (cols .exit)) (now (hash .exit)) ⌝ }
 {
     bytes::copy(u, correction);
@@ -117,12 +120,13 @@ fn other_vector(
     hashes: &mut [u8],
 )
     requires { ⌜ SboxTable (now t) ⌝ }
-    requires { ⌜ (shapeOk s ≡ true) × (j + 1 < s .tau) × (z .first + z .width ≤ 8192) × (now keys ≡ faest .h0 s iv (48 * s .tau)) × (length (now tree) ≡ treeBytes s) × (now u ≡ signerU s (z .width) (stretchByte faest s z iv (now tree))) ⌝ }
-    requires { ⌜ (length (now lcs) ≡ leafCommitmentsBytes s) × (length (now corrections) ≡ correctionsBytes s (z .width)) × (length (now v) ≡ matrixBytes s (z .width)) × (length (now hashes) ≡ 32 * s .tau) ⌝ }
+    requires { ⌜ (shapeOk s ≡ true) × (j + 1 < s .tau) × (z .first + z .width ≤ 8192) × (now keys ≡ faest .h0 s iv (leafCommitmentBytes s * s .tau)) × (length (now tree) ≡ treeBytes s) × (now u ≡ signerU s (z .width) (stretchByte faest s z iv (now tree))) ⌝ }
+    requires { ⌜ (length (now lcs) ≡ leafCommitmentsBytes s) × (length (now corrections) ≡ correctionsBytes s (z .width)) × (length (now v) ≡ matrixBytes s (z .width)) × (length (now hashes) ≡ hashBytes s * s .tau) ⌝ }
     ensures { λ _. ⌜ (UpTo s z iv (now (tree .entry)) j (now (lcs .entry)) (now (corrections .entry)) (now (v .entry)) (now (hashes .entry))
         → UpTo s z iv (now (tree .entry)) (j + 1) (now (lcs .exit)) (now (corrections .exit)) (now (v .exit)) (now (hashes .exit))) ⌝ }
 {
     let b = z.width;
+    let h = rules::hash_bytes(s);
     let next = j + 1;
     let lcs_from = vector::commitments_from(s, next);
     let lcs_to = vector::commitments_from(s, next + 1);
@@ -140,7 +144,7 @@ fn other_vector(
         &mut lcs[lcs_from..lcs_to],
         &mut corrections[b * j..b * j + b],
         &mut v[v_from..v_to],
-        &mut hashes[32 * next..32 * next + 32],
+        &mut hashes[h * next..h * next + h],
     );
 }
 
@@ -160,8 +164,8 @@ fn other_vectors(
     hashes: &mut [u8],
 )
     requires { ⌜ SboxTable (now t) ⌝ }
-    requires { ⌜ (shapeOk s ≡ true) × (last < s .tau) × (z .first + z .width ≤ 8192) × (now keys ≡ faest .h0 s iv (48 * s .tau)) × (length (now tree) ≡ treeBytes s) × (now u ≡ signerU s (z .width) (stretchByte faest s z iv (now tree))) ⌝ }
-    requires { ⌜ (length (now lcs) ≡ leafCommitmentsBytes s) × (length (now corrections) ≡ correctionsBytes s (z .width)) × (length (now v) ≡ matrixBytes s (z .width)) × (length (now hashes) ≡ 32 * s .tau) ⌝ }
+    requires { ⌜ (shapeOk s ≡ true) × (last < s .tau) × (z .first + z .width ≤ 8192) × (now keys ≡ faest .h0 s iv (leafCommitmentBytes s * s .tau)) × (length (now tree) ≡ treeBytes s) × (now u ≡ signerU s (z .width) (stretchByte faest s z iv (now tree))) ⌝ }
+    requires { ⌜ (length (now lcs) ≡ leafCommitmentsBytes s) × (length (now corrections) ≡ correctionsBytes s (z .width)) × (length (now v) ≡ matrixBytes s (z .width)) × (length (now hashes) ≡ hashBytes s * s .tau) ⌝ }
     ensures { λ _. ⌜ (UpTo s z iv (now (tree .entry)) 0 (now (lcs .entry)) (now (corrections .entry)) (now (v .entry)) (now (hashes .entry))
         → UpTo s z iv (now (tree .entry)) last (now (lcs .exit)) (now (corrections .exit)) (now (v .exit)) (now (hashes .exit))) ⌝ }
 {
@@ -185,8 +189,8 @@ pub fn write_vectors(
     hashes: &mut [u8],
 )
     requires { ⌜ SboxTable (now t) ⌝ }
-    requires { ⌜ (shapeOk s ≡ true) × (z .first + z .width ≤ 8192) × (now keys ≡ faest .h0 s iv (48 * s .tau)) × (length (now tree) ≡ treeBytes s) ⌝ }
-    requires { ⌜ (length (now lcs) ≡ leafCommitmentsBytes s) × (length (now u) ≡ z .width) × (length (now v) ≡ matrixBytes s (z .width)) × (length (now corrections) ≡ correctionsBytes s (z .width)) × (length (now hashes) ≡ 32 * s .tau) ⌝ }
+    requires { ⌜ (shapeOk s ≡ true) × (z .first + z .width ≤ 8192) × (now keys ≡ faest .h0 s iv (leafCommitmentBytes s * s .tau)) × (length (now tree) ≡ treeBytes s) ⌝ }
+    requires { ⌜ (length (now lcs) ≡ leafCommitmentsBytes s) × (length (now u) ≡ z .width) × (length (now v) ≡ matrixBytes s (z .width)) × (length (now corrections) ≡ correctionsBytes s (z .width)) × (length (now hashes) ≡ hashBytes s * s .tau) ⌝ }
     ensures { λ _. ⌜ now (lcs .exit) ≡ leafCommitments s (signerLeafCommitment faest s iv (now (tree .entry))) ⌝ }
     ensures { λ _. ⌜ now (u .exit) ≡ signerU s (z .width) (stretchByte faest s z iv (now (tree .entry))) ⌝ }
     ensures { λ _. ⌜ now (v .exit) ≡ matrixOf s (z .width) (signerColumn s (z .width) (stretchByte faest s z iv (now (tree .entry)))) ⌝ }

@@ -13,7 +13,7 @@ use mir.Syntax.{w64}
 use mir.Val.{Fits}
 use Rattle.spec.specs.declared.Shape.{Shape}
 use Rattle.spec.specs.Bytes.{part, concat, zeros}
-use Rattle.spec.specs.Shapes.{level, nodeBytes, leafCommitmentBytes, depthOf, entriesOf, firstBit, firstEntry, shapeOk, leafCommitmentsBytes, matrixBytes}
+use Rattle.spec.specs.Shapes.{leafCommitmentBytes, depthOf, entriesOf, firstBit, firstEntry, shapeOk, leafCommitmentsBytes, matrixBytes}
 use Rattle.laws.proofs.Lists.{length-part}
 use Rattle.laws.proofs.Putting.{put-next}
 use Rattle.laws.proofs.Strings.{getD-append-zeros}
@@ -67,17 +67,17 @@ module _ (at n d : ℕ) (e : at + n ≤ d) (h : d < 2 ^ 64) where
   pub end-fits : Fits w64 (at + n)
   end-fits = record { fits = omega arith }
 
--- ---- the parts of vector i: its leaf commitments from `48 * firstEntry s i` on, its columns from `b * firstBit s i` on
+-- ---- the parts of vector i: its leaf commitments from `leafCommitmentBytes s * firstEntry s i` on, its columns from `b * firstBit s i` on
 
 module _ (s : Shape) (i : ℕ) where
-  pub commitments-next : 48 * firstEntry s (i + 1) ≡ 48 * firstEntry s i + 48 * entriesOf s i
-  commitments-next = (let e = ap (firstEntry s) (add-one i) ∙ entry-next s i in omega arith)
+  pub commitments-next : leafCommitmentBytes s * firstEntry s (i + 1) ≡ leafCommitmentBytes s * firstEntry s i + leafCommitmentBytes s * entriesOf s i
+  commitments-next = ap (λ (n : ℕ). leafCommitmentBytes s * n) (ap (firstEntry s) (add-one i) ∙ entry-next s i) ∙ mul-add (leafCommitmentBytes s) (firstEntry s i) (entriesOf s i)
 
   pub columns-next : (b : ℕ) → b * firstBit s (i + 1) ≡ b * firstBit s i + b * depthOf s i
   columns-next b = ap (λ (n : ℕ). b * n) (ap (firstBit s) (add-one i) ∙ bit-next s i) ∙ mul-add b (firstBit s i) (depthOf s i)
 
   -- as a part is lent, from v to w
-  pub commitments-size : (v w : ℕ) → v ≡ 48 * firstEntry s i → w ≡ 48 * firstEntry s (i + 1) → w ≡ v + 48 * entriesOf s i
+  pub commitments-size : (v w : ℕ) → v ≡ leafCommitmentBytes s * firstEntry s i → w ≡ leafCommitmentBytes s * firstEntry s (i + 1) → w ≡ v + leafCommitmentBytes s * entriesOf s i
   commitments-size v w ev ew = (let n = commitments-next in omega arith)
 
   pub columns-size : (b v w : ℕ) → v ≡ b * firstBit s i → w ≡ b * firstBit s (i + 1) → w ≡ v + b * depthOf s i
@@ -85,20 +85,21 @@ module _ (s : Shape) (i : ℕ) where
 
 module _ (s : Shape) (ok : shapeOk s ≡ true) where
   -- those of all vectors; to the columns the last w are added
-  pub all-commitments : 48 * firstEntry s (s .tau) ≡ leafCommitmentsBytes s
-  unfolding level nodeBytes leafCommitmentBytes leafCommitmentsBytes
-  all-commitments = ap (λ (n : ℕ). 48 * n) (shape-laws s ok .entry-all)
+  pub all-commitments : leafCommitmentBytes s * firstEntry s (s .tau) ≡ leafCommitmentsBytes s
+  unfolding leafCommitmentsBytes
+  all-commitments = ap (λ (n : ℕ). leafCommitmentBytes s * n) (shape-laws s ok .entry-all)
 
   pub all-columns : (b : ℕ) → b * firstBit s (s .tau) + b * s .w ≡ matrixBytes s b
-  unfolding level matrixBytes
+  unfolding matrixBytes
   all-columns b = sym (mul-add b (firstBit s (s .tau)) (s .w)) ∙ ap (λ (n : ℕ). b * n) (bit-all s (shape-facts s ok))
 
   -- each ends within its buffer: w is where, d the buffer's length
-  pub commitments-end : (i w d : ℕ) → i < s .tau → w ≡ 48 * firstEntry s (i + 1) → d ≡ leafCommitmentsBytes s → w ≤ d
+  pub commitments-end : (i w d : ℕ) → i < s .tau → w ≡ leafCommitmentBytes s * firstEntry s (i + 1) → d ≡ leafCommitmentsBytes s → w ≤ d
   commitments-end i w d h ew ed =
       let a = segment-before (firstEntry s) (entriesOf s) (s .tau) i (λ n l. entry-next s n) h in
-      let b = all-commitments in
-      omega (arith, commitments-next s i)
+      let e = ap (firstEntry s) (add-one i) ∙ entry-next s i in
+      let m : leafCommitmentBytes s * firstEntry s (i + 1) ≤ leafCommitmentBytes s * firstEntry s (s .tau) = mul-le-mul (le-refl (leafCommitmentBytes s)) (omega arith) in
+      omega (arith, all-commitments)
 
   pub columns-end : (b i w d : ℕ) → i < s .tau → w ≡ b * firstBit s (i + 1) → d ≡ matrixBytes s b → w ≤ d
   columns-end b i w d h ew ed =

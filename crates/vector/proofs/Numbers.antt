@@ -14,7 +14,7 @@ use Rattle.spec.specs.Bytes.{tabulate, concat, xorBelow}
 use Rattle.spec.specs.Shapes.{depthOf, entriesOf, shapeOk}
 use Rattle.spec.specs.Rows.{uByte, columnByte}
 use Rattle.laws.proofs.Lists.{tabulate-same}
-use Rattle.laws.proofs.Concat.{concat-same}
+use Rattle.laws.proofs.Concat.{concat-same, mul-within, mul-limit}
 use Rattle.laws.proofs.Running.{marked, xor-permuted, marked-permuted}
 use Rattle.planning_laws.proofs.Depths.{depth-range}
 use Rattle.planning_laws.proofs.ShapeFacts.{shape-facts, depth-small, entries-small}
@@ -25,12 +25,11 @@ pub entry-in : (s : Shape) (i x mask : ℕ) → x < entriesOf s i → mask < ent
 unfolding entriesOf
 entry-in s i x mask h m = xor-lt (depthOf s i) x mask h m
 
-pub entry-end : (s : Shape) (i x mask : ℕ) → shapeOk s ≡ true → x < entriesOf s i → mask < entriesOf s i
-    → (48 * bitXor x mask + 48 ≤ 48 * entriesOf s i) × (48 * entriesOf s i ≤ 196608)
-entry-end s i x mask ok h m =
+pub entry-end : (s : Shape) (w i x mask : ℕ) → shapeOk s ≡ true → w ≤ 96 → x < entriesOf s i → mask < entriesOf s i
+    → (w * bitXor x mask + w ≤ w * entriesOf s i) × (w * entriesOf s i ≤ 393216)
+entry-end s w i x mask ok k h m =
     let e = entry-in s i x mask h m in
-    let few = entries-small s i (shape-facts s ok) in
-    (omega arith, omega arith)
+    (mul-within w (bitXor x mask) (entriesOf s i) e, mul-limit w (entriesOf s i) 96 4096 k (entries-small s i (shape-facts s ok)))
 
 -- a stretch of a row is no longer than a row
 pub width-small : (z : Stretch) → z .first + z .width ≤ 8192 → z .width ≤ 8192

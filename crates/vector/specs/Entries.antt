@@ -6,9 +6,9 @@ use lib.Bits.{bitXor}
 use lib.ListN.{length}
 use Rattle.spec.specs.Bytes.{part}
 
--- number x is that of entry x xor the mask. The entries of the numbers from `from` on and below n have their leaf commitments in their places, and those of the
+-- number x is that of entry x xor the mask, w the length of a leaf commitment. The entries of the numbers from `from` on and below n have their leaf commitments in their places, and those of the
 -- numbers below `from` have what they had
-pub record Written (own : ℕ → List ℕ) (mask from n : ℕ) (old new : List ℕ) : Type 0 where
+pub record Written (w : ℕ) (own : ℕ → List ℕ) (mask from n : ℕ) (old new : List ℕ) : Type 0 where
   pub size : length new ≡ length old
-  pub fresh : (x : ℕ) → from ≤ x → x < n → part new (48 * bitXor x mask) 48 ≡ own (bitXor x mask)
-  pub kept : (x : ℕ) → x < from → part new (48 * bitXor x mask) 48 ≡ part old (48 * bitXor x mask) 48
+  pub fresh : (x : ℕ) → from ≤ x → x < n → part new (w * bitXor x mask) w ≡ own (bitXor x mask)
+  pub kept : (x : ℕ) → x < from → part new (w * bitXor x mask) w ≡ part old (w * bitXor x mask) w

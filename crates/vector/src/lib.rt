@@ -6,13 +6,13 @@ ghost use mathlib.Core.Bool.{true};
 ghost use Prim.Native.Nat.{_+_, _-_, _*_, _≤_, _<_};
 ghost use lib.Bits.{bitXor};
 ghost use lib.ListN.{length};
-ghost use Rattle.spec.specs.Bytes.{number, tabulate, concat};
+ghost use Rattle.spec.specs.Bytes.{tabulate, concat};
 ghost use Rattle.spec.specs.Gf256.{SboxTable};
-ghost use Rattle.spec.specs.Shapes.{shapeOk, depthOf, entriesOf, firstBit, firstEntry, treeBytes};
+ghost use Rattle.spec.specs.Shapes.{nodeBytes, leafCommitmentBytes, shapeOk, depthOf, entriesOf, firstBit, firstEntry, treeBytes};
 ghost use Rattle.spec.specs.Primitives.{faest};
-ghost use Rattle.spec.specs.Leaves.{hashKey, leafKey, leafCommitment};
+ghost use Rattle.spec.specs.Leaves.{leafKey, leafCommitment};
 ghost use Rattle.spec.specs.Rows.{stretchByte, uByte, columnByte};
-ghost use Rattle.field.specs.Field.{p384, Multiples};
+ghost use Rattle.leaf.specs.HashKeys.{HashMultiples};
 ghost use Rattle.columns.specs.Columns.{Xored, Added, Running};
 ghost use Rattle.vector.specs.Entries.{Written};
 use spec::Shape;
@@ -21,9 +21,9 @@ use spec::Stretch;
 // Where the leaf commitments of vector i begin, and those before it end.
 pub fn commitments_from(s: Shape, i: usize) -> usize
     requires { ⌜ (shapeOk s ≡ true) × (i ≤ s .tau) ⌝ }
-    ensures { λ r. ⌜ r ≡ 48 * firstEntry s i ⌝ }
+    ensures { λ r. ⌜ r ≡ leafCommitmentBytes s * firstEntry s i ⌝ }
 {
-    48 * rules::first_entry(s, i)
+    rules::commitment_bytes(s) * rules::first_entry(s, i)
 }
 
 // The same of its columns.
@@ -32,6 +32,34 @@ pub fn columns_from(s: Shape, i: usize, b: usize) -> usize
     ensures { λ r. ⌜ r ≡ b * firstBit s i ⌝ }
 {
     b * rules::first_bit(s, i)
+}
+
+// Entry e of vector i, with room for its seed lent: writes its leaf commitment, and adds the stretch of its row to the sum.
+fn add_leaf(
+    t: &[u8; 256],
+    m: &[[u64; 6]; 16],
+    s: Shape,
+    i: usize,
+    e: usize,
+    z: Stretch,
+    iv: [u8; 16],
+    tree: &[u8],
+    seed: &mut [u8],
+    commitment: &mut [u8],
+    sum: &mut [u8],
+)
+    requires { ⌜ SboxTable (now t) ⌝ }
+    requires { ⌜ (shapeOk s ≡ true) × (i < s .tau) × (e < entriesOf s i) × (length (now tree) ≡ treeBytes s) ⌝ }
+    requires { ⌜ (length (now seed) ≡ nodeBytes s) × (length (now commitment) ≡ leafCommitmentBytes s) × (z .first + length (now sum) ≤ 8192) ⌝ }
+    requires { ⌜ HashMultiples s iv i (now m) ⌝ }
+    ensures { λ _. ⌜ now (commitment .exit) ≡ leafCommitment faest s iv i (leafKey s (now (tree .entry)) i e) ⌝ }
+    ensures { λ _. ⌜ Xored 0 (length (now (sum .entry))) (stretchByte faest s z iv (now (tree .entry)) i e) (now (sum .entry)) (now (sum .exit)) ⌝ }
+{
+    let n = rules::node_bytes(s);
+    let a = n * rules::leaf_of(s, i, e);
+    let tweak = leaf::leaf_tweak(i, rules::leaf_count(s));
+    leaf::commit_leaf(t, m, s, &tree[a..a + n], iv, tweak, seed, commitment);
+    rows::add_row(t, seed, iv, (i as u32) + 2147483648, z.first, sum);
 }
 
 // Entry e of vector i: writes its leaf commitment, and adds the stretch of its row to the sum.
@@ -49,23 +77,23 @@ fn add_entry(
 )
     requires { ⌜ SboxTable (now t) ⌝ }
     requires { ⌜ (shapeOk s ≡ true) × (i < s .tau) × (e < entriesOf s i) × (length (now tree) ≡ treeBytes s) ⌝ }
-    requires { ⌜ (length (now commitment) ≡ 48) × (z .first + length (now sum) ≤ 8192) ⌝ }
-    requires { ⌜ Multiples 384 p384 (number 8 (hashKey faest s iv i)) (now m) ⌝ }
+    requires { ⌜ (length (now commitment) ≡ leafCommitmentBytes s) × (z .first + length (now sum) ≤ 8192) ⌝ }
+    requires { ⌜ HashMultiples s iv i (now m) ⌝ }
     ensures { λ _. ⌜ now (commitment .exit) ≡ leafCommitment faest s iv i (leafKey s (now (tree .entry)) i e) ⌝ }
     ensures { λ _. ⌜ Xored 0 (length (now (sum .entry))) (stretchByte faest s z iv (now (tree .entry)) i e) (now (sum .entry)) (now (sum .exit)) ⌝ }
 {
-    let a = 16 * rules::leaf_of(s, i, e);
-    let tweak = leaf::leaf_tweak(i, rules::leaf_count(s));
-    let seed = leaf::commit_leaf(t, m, &tree[a..a + 16], iv, tweak, commitment);
-    rows::add_row(t, &seed, iv, (i as u32) + 2147483648, z.first, sum);
+    let n = rules::node_bytes(s);
+    let mut seed = [0u8; 32];
+    add_leaf(t, m, s, i, e, z, iv, tree, &mut seed[0..n], commitment, sum);
 }
 
 // The entries of vector i whose numbers are from `from` on and below `to`, in the order of their numbers: number x is that of entry x xor the mask. There are
-// h + 1 columns.
+// h + 1 columns; w is the length of a leaf commitment.
 fn add_run(
     t: &[u8; 256],
     m: &[[u64; 6]; 16],
     s: Shape,
+    w: usize,
     i: usize,
     from: usize,
     to: usize,
@@ -79,9 +107,9 @@ fn add_run(
 )
     requires { ⌜ SboxTable (now t) ⌝ }
     requires { ⌜ (shapeOk s ≡ true) × (i < s .tau) × (from ≤ to) × (to ≤ entriesOf s i) × (mask < entriesOf s i) × (z .first + z .width ≤ 8192) × (h ≤ 11) × (length (now tree) ≡ treeBytes s) ⌝ }
-    requires { ⌜ (length (now commitments) ≡ 48 * entriesOf s i) × Running (z .width) h from from (λ x. stretchByte faest s z iv (now tree) i (bitXor x mask)) (now cols) ⌝ }
-    requires { ⌜ Multiples 384 p384 (number 8 (hashKey faest s iv i)) (now m) ⌝ }
-    ensures { λ _. ⌜ Written (λ e. leafCommitment faest s iv i (leafKey s (now (tree .entry)) i e)) mask from to (now (commitments .entry)) (now (commitments .exit)) ⌝ }
+    requires { ⌜ (w ≡ leafCommitmentBytes s) × (length (now commitments) ≡ leafCommitmentBytes s * entriesOf s i) × Running (z .width) h from from (λ x. stretchByte faest s z iv (now tree) i (bitXor x mask)) (now cols) ⌝ }
+    requires { ⌜ HashMultiples s iv i (now m) ⌝ }
+    ensures { λ _. ⌜ Written (leafCommitmentBytes s) (λ e. leafCommitment faest s iv i (leafKey s (now (tree .entry)) i e)) mask from to (now (commitments .entry)) (now (commitments .exit)) ⌝ }
     ensures { λ _. ⌜ Running (z .width) h from to (λ x. stretchByte faest s z iv (now (tree .entry)) i (bitXor x mask)) (now (cols .exit)) ⌝ }
 {
     let b = z.width;
@@ -97,7 +125,7 @@ fn add_run(
             z,
             iv,
             tree,
-            &mut commitments[48 * e..48 * e + 48],
+            &mut commitments[w * e..w * e + w],
             &mut cols[last..last + b],
         );
         columns::add_last(cols, b, h, x ^ (x + 1));
@@ -122,13 +150,14 @@ pub fn add_entries(
 )
     requires { ⌜ SboxTable (now t) ⌝ }
     requires { ⌜ (shapeOk s ≡ true) × (i < s .tau) × (first ≤ 1) × (mask < entriesOf s i) × (z .first + z .width ≤ 8192) × (length (now tree) ≡ treeBytes s) ⌝ }
-    requires { ⌜ (length (now commitments) ≡ 48 * entriesOf s i) × (length (now total) ≡ z .width * (1 - first)) × (length (now cols) ≡ z .width * depthOf s i) ⌝ }
-    requires { ⌜ Multiples 384 p384 (number 8 (hashKey faest s iv i)) (now m) ⌝ }
-    ensures { λ _. ⌜ Written (λ e. leafCommitment faest s iv i (leafKey s (now (tree .entry)) i e)) mask first (entriesOf s i) (now (commitments .entry)) (now (commitments .exit)) ⌝ }
+    requires { ⌜ (length (now commitments) ≡ leafCommitmentBytes s * entriesOf s i) × (length (now total) ≡ z .width * (1 - first)) × (length (now cols) ≡ z .width * depthOf s i) ⌝ }
+    requires { ⌜ HashMultiples s iv i (now m) ⌝ }
+    ensures { λ _. ⌜ Written (leafCommitmentBytes s) (λ e. leafCommitment faest s iv i (leafKey s (now (tree .entry)) i e)) mask first (entriesOf s i) (now (commitments .entry)) (now (commitments .exit)) ⌝ }
     ensures { λ _. ⌜ Added (z .width) (1 - first) (λ j p. uByte s (stretchByte faest s z iv (now (tree .entry))) i p) (now (total .entry)) (now (total .exit)) ⌝ }
     ensures { λ _. ⌜ now (cols .exit) ≡ concat (depthOf s i) (λ j. tabulate (z .width) (columnByte s (stretchByte faest s z iv (now (tree .entry))) (λ e. bitXor e mask) i j)) ⌝ }
 {
     let b = z.width;
+    let w = rules::commitment_bytes(s);
     let h = rules::depth_of(s, i) - 1;
     let n = rules::entry_count(s, i);
     let half = n / 2;
@@ -138,6 +167,7 @@ pub fn add_entries(
         t,
         m,
         s,
+        w,
         i,
         first,
         half,
@@ -151,6 +181,21 @@ pub fn add_entries(
     );
     columns::add_bytes(total, b, 1 - first, 1, &cols[last..last + b]);
     buffers::clear_from(cols, last);
-    add_run(t, m, s, i, half, n, mask, z, h, iv, tree, commitments, cols);
+    add_run(
+        t,
+        m,
+        s,
+        w,
+        i,
+        half,
+        n,
+        mask,
+        z,
+        h,
+        iv,
+        tree,
+        commitments,
+        cols,
+    );
     columns::add_bytes(total, b, 1 - first, 1, &cols[last..last + b]);
 }

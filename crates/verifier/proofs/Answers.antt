@@ -11,7 +11,7 @@ use Rattle.spec.specs.declared.Shape.{Shape}
 use Rattle.spec.specs.declared.Stretch.{Stretch}
 use Rattle.spec.specs.declared.Answer.{Answer}
 use Rattle.spec.specs.Bytes.{allZero}
-use Rattle.spec.specs.Shapes.{resolved, level, nodeBytes, challengeBytes, hashBytes, leafCommitmentBytes, shapeOk, grindingOk, plannedCount, treeBytes, leafCommitmentsBytes, openingBytes, matrixBytes, correctionsBytes}
+use Rattle.spec.specs.Shapes.{resolved, nodeBytes, challengeBytes, hashBytes, ivBytes, leafCommitmentBytes, shapeOk, grindingOk, plannedCount, treeBytes, leafCommitmentsBytes, openingBytes, matrixBytes, correctionsBytes}
 use Rattle.spec.specs.Primitives.{faest}
 use Rattle.spec.specs.Verifier.{slotsOk}
 use Rattle.spec.specs.Calls.{fits, countWith, rowOk, stretchOk, nodesOk, Reconstructed, reconstructed, reconstructLengths, reconstructStretchNumber, ReconstructStretch}
@@ -19,11 +19,11 @@ use Rattle.spec.specs.Calls.{fits, countWith, rowOk, stretchOk, nodesOk, Recons
 -- the lengths that reconstruct compares
 abbrev pub Lengths : Shape → ℕ → List ℕ → List ℕ → List ℕ → List ℕ → Reconstructed → List (ℕ × ℕ)
 Lengths t b iv ch cs op x =
-    (length iv, 16)
-    ∷ (length ch, 16)
+    (length iv, ivBytes)
+    ∷ (length ch, challengeBytes t)
     ∷ (length cs, correctionsBytes t b)
     ∷ (length op, openingBytes t)
-    ∷ (length (x .commitment), 32)
+    ∷ (length (x .commitment), hashBytes t)
     ∷ (length (x .tree), treeBytes t)
     ∷ (length (x .leafCommitments), leafCommitmentsBytes t)
     ∷ (length (x .q), matrixBytes t b)
@@ -31,11 +31,11 @@ Lengths t b iv ch cs op x =
 
 -- the test of the unused slots
 abbrev pub Clear : Shape → ℕ → List ℕ → Bool
-Clear t m op = allZero (drop (48 * t .tau + 16 * m) op)
+Clear t m op = allZero (drop (leafCommitmentBytes t * t .tau + nodeBytes t * m) op)
 
 clear-slots : (t : Shape) (m : ℕ) (ch op : List ℕ) → m ≡ plannedCount t ch → Clear t m op ≡ slotsOk t ch op
-unfolding slotsOk level nodeBytes leafCommitmentBytes
-clear-slots t m ch op e = ap (λ (n : ℕ). allZero (drop (48 * t .tau + 16 * n) op)) e
+unfolding slotsOk
+clear-slots t m ch op e = ap (λ (n : ℕ). allZero (drop (leafCommitmentBytes t * t .tau + nodeBytes t * n) op)) e
 
 module _ (s t : Shape) (e : t ≡ resolved s) (n : ℕ) (z : Stretch) (iv ch cs op : List ℕ) (x : Reconstructed) (r : Answer) where
   abbrev Same : Type 0
@@ -58,23 +58,23 @@ module _ (s t : Shape) (e : t ≡ resolved s) (n : ℕ) (z : Stretch) (iv ch cs 
   reconstruct-8 a b st = refused 8 0 (rw (rw e at a, b, st) refl) refl refl
 
   pub reconstruct-3 : shapeOk t ≡ true → rowOk n ≡ true → stretchOk (n / 8) z ≡ true → fits (Lengths t (z .width) iv ch cs op x) ≡ false → (r .number ≡ 3) × (r .count ≡ 0) → Same
-  unfolding reconstructStretchNumber countWith level nodeBytes challengeBytes hashBytes
+  unfolding reconstructStretchNumber countWith
   reconstruct-3 a b st d = refused 3 0 (rw (rw e at a, b, st, rw e at d) refl) refl refl
 
   pub reconstruct-4 : shapeOk t ≡ true → rowOk n ≡ true → stretchOk (n / 8) z ≡ true → fits (Lengths t (z .width) iv ch cs op x) ≡ true → grindingOk t ch ≡ false → (r .number ≡ 4) × (r .count ≡ 0) → Same
-  unfolding reconstructStretchNumber countWith level nodeBytes challengeBytes hashBytes
+  unfolding reconstructStretchNumber countWith
   reconstruct-4 a b st d g = refused 4 0 (rw (rw e at a, b, st, rw e at d, rw e at g) refl) refl refl
 
   pub reconstruct-5 : (m : ℕ) → shapeOk t ≡ true → rowOk n ≡ true → stretchOk (n / 8) z ≡ true → fits (Lengths t (z .width) iv ch cs op x) ≡ true → grindingOk t ch ≡ true → m ≡ plannedCount t ch → t .t < m
       → (r .number ≡ 5) × (r .count ≡ m) → Same
-  unfolding reconstructStretchNumber countWith nodesOk level nodeBytes challengeBytes hashBytes
+  unfolding reconstructStretchNumber countWith nodesOk
   reconstruct-5 m a b st d g c h =
       let over : t .t < plannedCount t ch = rw c at h in
       refused 5 m (rw (rw e at a, b, st, rw e at d, rw e at g, rw e at (lt-leb (plannedCount t ch) (t .t) over)) refl) refl (sym (rw e at c))
 
   pub reconstruct-6 : (m : ℕ) → shapeOk t ≡ true → rowOk n ≡ true → stretchOk (n / 8) z ≡ true → fits (Lengths t (z .width) iv ch cs op x) ≡ true → grindingOk t ch ≡ true → m ≡ plannedCount t ch → m ≤ t .t
       → Clear t m op ≡ false → (r .number ≡ 6) × (r .count ≡ m) → Same
-  unfolding reconstructStretchNumber countWith nodesOk level nodeBytes challengeBytes hashBytes
+  unfolding reconstructStretchNumber countWith nodesOk
   reconstruct-6 m a b st d g c h k =
       let within : plannedCount t ch ≤ t .t = rw c at h in
       let slots : slotsOk t ch op ≡ false = sym (clear-slots t m ch op c) ∙ k in
@@ -82,7 +82,7 @@ module _ (s t : Shape) (e : t ≡ resolved s) (n : ℕ) (z : Stretch) (iv ch cs 
 
   pub reconstruct-0 : (m : ℕ) (y : Reconstructed) → shapeOk t ≡ true → rowOk n ≡ true → stretchOk (n / 8) z ≡ true → fits (Lengths t (z .width) iv ch cs op x) ≡ true → grindingOk t ch ≡ true → m ≡ plannedCount t ch → m ≤ t .t
       → Clear t m op ≡ true → y ≡ reconstructed faest t z iv ch cs op → (r .number ≡ 0) × (r .count ≡ m) → ReconstructStretch faest s n z iv ch cs op x y r
-  unfolding reconstructStretchNumber countWith nodesOk level nodeBytes challengeBytes hashBytes
+  unfolding reconstructStretchNumber countWith nodesOk
   reconstruct-0 m y a b st d g c h k w q =
       let within : plannedCount t ch ≤ t .t = rw c at h in
       let slots : slotsOk t ch op ≡ true = sym (clear-slots t m ch op c) ∙ k in

@@ -2,9 +2,10 @@
 ghost use mathlib.Core.Path.{_≡_};
 ghost use mathlib.Core.Bool.{true};
 ghost use mathlib.Core.List.{[], _∷_};
-ghost use Prim.Native.Nat.{_≤_};
-ghost use lib.ListN.{length};
-ghost use Rattle.spec.specs.Shapes.{shapeOk, plannedCount, treeBytes, leafCommitmentsBytes, openingBytes, matrixBytes, correctionsBytes};
+ghost use Prim.Native.Nat.{_+_, _*_, _≤_};
+ghost use lib.ListN.{length, drop};
+ghost use Rattle.spec.specs.Bytes.{allZero};
+ghost use Rattle.spec.specs.Shapes.{nodeBytes, challengeBytes, leafCommitmentBytes, hashBytes, ivBytes, shapeOk, plannedCount, treeBytes, leafCommitmentsBytes, openingBytes, matrixBytes, correctionsBytes};
 ghost use Rattle.spec.specs.Primitives.{faest};
 ghost use Rattle.spec.specs.Calls.{fits, Reconstruct, ReconstructStretch};
 use spec::Answer;
@@ -25,36 +26,44 @@ fn reconstruct_lengths(
     q: usize,
 ) -> bool
     requires { ⌜ (shapeOk s ≡ true) × (b ≤ 8192) ⌝ }
-    ensures { λ r. ⌜ r ≡ fits ((iv, 16) ∷ (challenge, 16) ∷ (corrections, correctionsBytes s b) ∷ (opening, openingBytes s) ∷ (commitment, 32) ∷ (tree, treeBytes s) ∷ (lcs, leafCommitmentsBytes s) ∷ (q, matrixBytes s b) ∷ []) ⌝ }
+    ensures { λ r. ⌜ r ≡ fits ((iv, ivBytes) ∷ (challenge, challengeBytes s) ∷ (corrections, correctionsBytes s b) ∷ (opening, openingBytes s) ∷ (commitment, hashBytes s) ∷ (tree, treeBytes s) ∷ (lcs, leafCommitmentsBytes s) ∷ (q, matrixBytes s b) ∷ []) ⌝ }
 {
-    let leaves = rules::leaf_count(s);
     rules::fit8(
         iv,
         16,
         challenge,
-        16,
+        rules::node_bytes(s),
         corrections,
-        b * (s.tau - 1),
+        lengths::corrections_bytes(s, b),
         opening,
-        48 * s.tau + 16 * s.t,
+        lengths::opening_bytes(s),
         commitment,
-        32,
+        rules::hash_bytes(s),
         tree,
-        16 * (2 * leaves - 1),
+        lengths::tree_bytes(s),
         lcs,
-        48 * leaves,
+        lengths::leaf_commitments_bytes(s),
         q,
-        b * 128,
+        lengths::matrix_bytes(s, b),
     )
 }
 
 // The count of revealed nodes.
 fn count_nodes(s: Shape, ch: &[u8]) -> usize
-    requires { ⌜ (shapeOk s ≡ true) × (length (now ch) ≡ 16) ⌝ }
+    requires { ⌜ (shapeOk s ≡ true) × (length (now ch) ≡ challengeBytes s) ⌝ }
     ensures { λ r. ⌜ r ≡ plannedCount s (now (ch .entry)) ⌝ }
 {
     let mut nodes = [0u32; 512];
     planning::revealed_nodes(s, ch, &mut nodes)
+}
+
+// Whether the slots of an opening behind the first n are zeros.
+fn slots_clear(s: Shape, n: usize, opening: &[u8]) -> bool
+    requires { ⌜ (shapeOk s ≡ true) × (n ≤ s .t) × (length (now opening) ≡ openingBytes s) ⌝ }
+    ensures { λ r. ⌜ r ≡ allZero (drop (leafCommitmentBytes s * s .tau + nodeBytes s * n) (now (opening .entry))) ⌝ }
+{
+    let first = rules::commitment_bytes(s) * s.tau;
+    buffers::is_clear_from(opening, first + rules::node_bytes(s) * n)
 }
 
 // RECONSTRUCT, of a stretch: the commitment, the tree with zeros for its covered nodes, the leaf commitments and the stretch of every column of Q, from an opening and
@@ -109,7 +118,7 @@ pub fn reconstruct_stretch(
     if s.t < n {
         return rules::answer(5, n);
     }
-    if !buffers::is_clear_from(opening, 48 * s.tau + 16 * n) {
+    if !slots_clear(s, n, opening) {
         return rules::answer(6, n);
     }
     reconstruction::write_reconstruction(

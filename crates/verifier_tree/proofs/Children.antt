@@ -11,6 +11,7 @@ use lib.Seq.{drop-at, drop-drop, length-take-le}
 use Rattle.spec.specs.declared.Shape.{Shape}
 use Rattle.spec.specs.Bytes.{part, zeros}
 use Rattle.spec.specs.Tree.{siblingToReveal, revealedFrom}
+use Rattle.spec.specs.Shapes.{level, nodeBytes}
 use Rattle.spec.specs.Primitives.{faest}
 use Rattle.spec.specs.Leaves.{children}
 use Rattle.laws.proofs.Conjunctions.{contrary}
@@ -46,6 +47,10 @@ put-two at w d y z h l =
     ap₂ (λ (a b : List ℕ). a ++ (z ++ b)) (put-take at w d y q (omega arith) l) rest
     ∙ append-assoc p y (z ++ drop (at + w + w) d)
     ∙ ap (λ (a : List ℕ). p ++ a) (sym (append-assoc y z (drop (at + w + w) d)))
+
+two-nodes : (s : Shape) → 2 * nodeBytes s ≡ 32
+unfolding level nodeBytes
+two-nodes s = refl
 
 -- ---- a child of a listed node
 
@@ -154,7 +159,7 @@ module _ (nodes slots : List ℕ) (n a : ℕ) (by : listed nodes a ≡ (listed n
           let p = length-node nodes slots n (readBefore nodes a) (2 * a + 1) (w .0) l in
           let q = length-node nodes slots n (readBefore nodes a) (2 * a + 2) (w .1) l in
           simp length-append (omega arith)
-      go false e = length-children s iv a x
+      go false e = length-children s iv a x ∙ two-nodes s
 
   -- both children written
   pub listed-children : (s : Shape) (iv x : List ℕ) (read left : ℕ) (d e f : List ℕ) → listed nodes a ≡ true → read ≡ readBefore nodes a → left ≡ readWith nodes (2 * a + 1) read

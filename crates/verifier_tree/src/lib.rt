@@ -8,7 +8,7 @@ ghost use Rattle.spec.specs.declared.Shape.{Shape};
 ghost use Rattle.spec.specs.Bytes.{part, zeros};
 ghost use Rattle.spec.specs.Gf256.{SboxTable};
 ghost use Rattle.spec.specs.Tree.{expandTree};
-ghost use Rattle.spec.specs.Shapes.{shapeOk, plannedCount, treeBytes, openingBytes};
+ghost use Rattle.spec.specs.Shapes.{challengeBytes, shapeOk, plannedCount, treeBytes, openingBytes};
 ghost use Rattle.spec.specs.Primitives.{faest};
 ghost use Rattle.spec.specs.Verifier.{reconstructedTree};
 ghost use Rattle.planning_laws.specs.Lists.{Descending};
@@ -82,11 +82,11 @@ fn write_children(
         × Before (now nodes) a p × (readBefore (now nodes) (a + 1) ≤ n) × (16 * n ≤ length (now slots))
         × (32 * a + 48 ≤ length (now tree)) × (length (now tree) < 2 ^ 32) ⌝ }
     ensures { λ r. ⌜ Before (now (nodes .entry)) (a + 1) r
-        × ((s : Shape) → now (tree .exit) ≡ take (32 * a + 16) (now (tree .entry)) ++ (childrenBy (now (nodes .entry)) (now (slots .entry)) n s iv a (part (now (tree .entry)) (16 * a) 16) ++ drop (32 * a + 48) (now (tree .entry)))) ⌝ }
+        × ((s : Shape) → shapeOk s ≡ true → now (tree .exit) ≡ take (32 * a + 16) (now (tree .entry)) ++ (childrenBy (now (nodes .entry)) (now (slots .entry)) n s iv a (part (now (tree .entry)) (16 * a) 16) ++ drop (32 * a + 48) (now (tree .entry)))) ⌝ }
 {
     let node = p.node;
     if !is_next(nodes, node, a) {
-        tree::expand_node(t, iv, a, tree);
+        tree::expand_node(t, 16, iv, a, tree);
         return p;
     }
     let left = write_child(nodes, 2 * a + 1, p, slots, n, tree);
@@ -111,7 +111,7 @@ fn write_tree(
     requires { ⌜ SboxTable (now t) ⌝ }
     requires { ⌜ (1 ≤ l) × Descending (now nodes) × (listed (now nodes) 0 ≡ true) × ByChildren (listed (now nodes)) (l - 1) × (n ≡ readBefore (now nodes) (l - 1))
         × (16 * n ≤ length (now slots)) × (length (now tree) + 16 ≡ 32 * l) × (length (now tree) < 2 ^ 32) ⌝ }
-    ensures { λ _. ⌜ ((s : Shape) → now (tree .exit) ≡ expandTree 16 (zeros 16) (childrenBy (now (nodes .entry)) (now (slots .entry)) n s iv) (l - 1)) ⌝ }
+    ensures { λ _. ⌜ ((s : Shape) → shapeOk s ≡ true → now (tree .exit) ≡ expandTree 16 (zeros 16) (childrenBy (now (nodes .entry)) (now (slots .entry)) n s iv) (l - 1)) ⌝ }
 {
     buffers::clear_from(&mut tree[0..16], 0);
     let m = nodes.len();
@@ -136,7 +136,7 @@ pub fn reconstruct_tree(
     tree: &mut [u8],
 )
     requires { ⌜ SboxTable (now t) ⌝ }
-    requires { ⌜ (shapeOk s ≡ true) × (length (now ch) ≡ 16) × (n ≡ plannedCount s (now ch)) × (n ≤ s .t) × (length (now opening) ≡ openingBytes s) × (length (now tree) ≡ treeBytes s) ⌝ }
+    requires { ⌜ (shapeOk s ≡ true) × (length (now ch) ≡ challengeBytes s) × (n ≡ plannedCount s (now ch)) × (n ≤ s .t) × (length (now opening) ≡ openingBytes s) × (length (now tree) ≡ treeBytes s) ⌝ }
     ensures { λ _. ⌜ now (tree .exit) ≡ reconstructedTree faest s iv (now (ch .entry)) (now (opening .entry)) ⌝ }
 {
     let mut nodes = [0u32; 576];

@@ -12,13 +12,14 @@ use lib.Seq.{drop-drop}
 use borrow.Author.Tests.{eq-eqb, ne-eqb}
 use Rattle.spec.specs.Bytes.{part, concat}
 use Rattle.laws.proofs.Xor.{xor-cancel-r}
-use Rattle.laws.proofs.Concat.{part-whole, even-part}
+use Rattle.laws.proofs.Concat.{part-whole, even-part, mul-within}
 use Rattle.laws.proofs.Putting.{behind, put, put-size, put-here}
 use Rattle.vector.specs.Entries.{Written}
 use Rattle.vector.proofs.Entries.{written-all}
 use Rattle.verifier_vector.specs.Vector.{given}
 
-module _ (hidden : List ℕ) (own : ℕ → List ℕ) (d : ℕ) where
+-- w is the length of a leaf commitment
+module _ (w : ℕ) (hidden : List ℕ) (own : ℕ → List ℕ) (d : ℕ) where
   pub at-hidden : given hidden own d d ≡ hidden
   at-hidden = ap (λ (t : Bool). cond t hidden (own d)) (eq-eqb d d refl)
 
@@ -29,41 +30,41 @@ module _ (hidden : List ℕ) (own : ℕ → List ℕ) (d : ℕ) where
       none : x ≡ 0 → ⊥
       none e = omega arith
 
-  pub all-given : (k : ℕ) (lcs old new : List ℕ) → d < 2 ^ k → length lcs ≡ 48 * 2 ^ k → length hidden ≡ 48
-      → old ≡ take (48 * d) lcs ++ (part hidden 0 48 ++ drop (48 * d + 48) lcs) → Written own d 1 (2 ^ k) old new → new ≡ concat (2 ^ k) (given hidden own d)
-  all-given k lcs old new m l s e w = written-all own d k 1 (given hidden own d) old new m (ap length copied ∙ put-size lcs hidden (48 * d) 48 room s ∙ l) elsewhere (λ x h. first x (omega arith)) w
+  pub all-given : (k : ℕ) (lcs old new : List ℕ) → d < 2 ^ k → length lcs ≡ w * 2 ^ k → length hidden ≡ w
+      → old ≡ take (w * d) lcs ++ (part hidden 0 w ++ drop (w * d + w) lcs) → Written w own d 1 (2 ^ k) old new → new ≡ concat (2 ^ k) (given hidden own d)
+  all-given k lcs old new m l s e g = written-all w own d k 1 (given hidden own d) old new m (ap length copied ∙ put-size lcs hidden (w * d) w room s ∙ l) elsewhere (λ x h. first x (omega arith)) g
     where
-      room : 48 * d + 48 ≤ length lcs
-      room = omega arith
+      room : w * d + w ≤ length lcs
+      room = (let h = mul-within w d (2 ^ k) m in omega arith)
 
-      copied : old ≡ put lcs (48 * d) 48 hidden
+      copied : old ≡ put lcs (w * d) w hidden
       copied =
-          e ∙ ap (λ (v : List ℕ). take (48 * d) lcs ++ (v ++ drop (48 * d + 48) lcs)) (part-whole hidden 48 s)
-          ∙ ap (λ (v : List ℕ). take (48 * d) lcs ++ (hidden ++ v)) (sym (behind (48 * d) 48 lcs))
+          e ∙ ap (λ (v : List ℕ). take (w * d) lcs ++ (v ++ drop (w * d + w) lcs)) (part-whole hidden w s)
+          ∙ ap (λ (v : List ℕ). take (w * d) lcs ++ (hidden ++ v)) (sym (behind (w * d) w lcs))
 
-      first : (x : ℕ) → x ≡ 0 → part old (48 * bitXor x d) 48 ≡ given hidden own d (bitXor x d)
+      first : (x : ℕ) → x ≡ 0 → part old (w * bitXor x d) w ≡ given hidden own d (bitXor x d)
       first x z =
-          ap (λ (y : ℕ). part old (48 * bitXor y d) 48) z
-          ∙ ap (λ (v : List ℕ). part v (48 * d) 48) copied
-          ∙ put-here lcs hidden (48 * d) 48 room s
+          ap (λ (y : ℕ). part old (w * bitXor y d) w) z
+          ∙ ap (λ (v : List ℕ). part v (w * d) w) copied
+          ∙ put-here lcs hidden (w * d) w room s
           ∙ sym (ap (λ (y : ℕ). given hidden own d (bitXor y d)) z ∙ at-hidden)
 
-  given-size : length hidden ≡ 48 → ((e : ℕ) → length (own e) ≡ 48) → (e : ℕ) → length (given hidden own d e) ≡ 48
+  given-size : length hidden ≡ w → ((e : ℕ) → length (own e) ≡ w) → (e : ℕ) → length (given hidden own d e) ≡ w
   given-size h o e = go (eqb e d)
     where
-      go : (t : Bool) → length (cond t hidden (own e)) ≡ 48
+      go : (t : Bool) → length (cond t hidden (own e)) ≡ w
       go true = h
       go false = o e
 
   -- what is hashed is the buffer itself
-  pub hashed-whole : (n : ℕ) (lcs : List ℕ) → d < n → length hidden ≡ 48 → ((e : ℕ) → length (own e) ≡ 48) → lcs ≡ concat n (given hidden own d)
-      → take (48 * d) lcs ++ (hidden ++ drop (48 * d + 48) lcs) ≡ lcs
+  pub hashed-whole : (n : ℕ) (lcs : List ℕ) → d < n → length hidden ≡ w → ((e : ℕ) → length (own e) ≡ w) → lcs ≡ concat n (given hidden own d)
+      → take (w * d) lcs ++ (hidden ++ drop (w * d + w) lcs) ≡ lcs
   hashed-whole n lcs l h o e =
-      let place : hidden ≡ part lcs (48 * d) 48 =
-      sym (ap (λ (v : List ℕ). part v (48 * d) 48) e ∙ even-part (given hidden own d) 48 n d (λ i k. given-size h o i) l ∙ at-hidden)
+      let place : hidden ≡ part lcs (w * d) w =
+      sym (ap (λ (v : List ℕ). part v (w * d) w) e ∙ even-part (given hidden own d) w n d (λ i k. given-size h o i) l ∙ at-hidden)
       in
-      ap (λ (v : List ℕ). take (48 * d) lcs ++ v)
-      (ap (λ (v : List ℕ). v ++ drop (48 * d + 48) lcs) place
-      ∙ ap (λ (v : List ℕ). part lcs (48 * d) 48 ++ v) (sym (drop-drop 48 (48 * d) lcs))
-      ∙ take-append-drop 48 (drop (48 * d) lcs))
-      ∙ take-append-drop (48 * d) lcs
+      ap (λ (v : List ℕ). take (w * d) lcs ++ v)
+      (ap (λ (v : List ℕ). v ++ drop (w * d + w) lcs) place
+      ∙ ap (λ (v : List ℕ). part lcs (w * d) w ++ v) (sym (drop-drop w (w * d) lcs))
+      ∙ take-append-drop w (drop (w * d) lcs))
+      ∙ take-append-drop (w * d) lcs

@@ -1,6 +1,6 @@
 -- The correction of a vector, its columns with the correction, and a vector put behind those before it. By the laws of columns and of strings laid one after
 -- another.
-use mathlib.Core.Path.{_≡_, refl, ap, ap₂, _∙_}
+use mathlib.Core.Path.{_≡_, refl, sym, ap, ap₂, _∙_}
 use mathlib.Core.List.{List, _++_}
 use Prim.Native.Nat.{ℕ, zero, suc, _+_, _-_, _*_, _≤_, _<_}
 use native.Mathlib.Nat.{mul-zero}
@@ -10,7 +10,7 @@ use lib.ListN.{length, getD, take}
 use Rattle.spec.specs.declared.Shape.{Shape}
 use Rattle.spec.specs.declared.Stretch.{Stretch}
 use Rattle.spec.specs.Bytes.{bit, part, tabulate, concat}
-use Rattle.spec.specs.Shapes.{depthOf, entriesOf, firstBit, firstEntry, hiddenIndex}
+use Rattle.spec.specs.Shapes.{leafCommitmentBytes, hashBytes, depthOf, entriesOf, firstBit, firstEntry, hiddenIndex}
 use Rattle.spec.specs.Primitives.{faest}
 use Rattle.spec.specs.Leaves.{vectorCommitments, vectorHash}
 use Rattle.spec.specs.Rows.{stretchByte, columnByte}
@@ -71,23 +71,25 @@ module _ (s : Shape) (z : Stretch) (iv ch corrections opening tree : List ℕ) w
   unfolding concat
   before-none lcs q hashes =
       record {
-        leaves = ap (λ (n : ℕ). take (48 * n) lcs) (entry-none s);
+        leaves = ap (λ (n : ℕ). take n lcs) (ap (λ (n : ℕ). leafCommitmentBytes s * n) (entry-none s) ∙ mul-zero (leafCommitmentBytes s));
         columns = ap (λ (n : ℕ). take n q) (ap (λ (n : ℕ). b * n) (bit-none s) ∙ mul-zero b);
-        digests = refl;
+        digests = ap (λ (n : ℕ). take n hashes) (mul-zero (hashBytes s));
       }
 
-  -- one vector more, in parts that come back from it; l and c are where they begin
-  pub before-more : (i l c : ℕ) (lcs q hashes x y h x′ y′ h′ : List ℕ) → l ≡ 48 * firstEntry s i → c ≡ b * firstBit s i
-      → 48 * firstEntry s (i + 1) ≤ length lcs → b * firstBit s (i + 1) ≤ length q → 32 * i + 32 ≤ length hashes
-      → length x ≡ 48 * entriesOf s i → length y ≡ b * depthOf s i → length h ≡ 32
+  -- one vector more, in parts that come back from it; l and c are where they begin, k is the length of a hash
+  pub before-more : (i l c k : ℕ) (lcs q hashes x y h x′ y′ h′ : List ℕ) → l ≡ leafCommitmentBytes s * firstEntry s i → c ≡ b * firstBit s i → k ≡ hashBytes s
+      → leafCommitmentBytes s * firstEntry s (i + 1) ≤ length lcs → b * firstBit s (i + 1) ≤ length q → k * i + k ≤ length hashes
+      → length x ≡ leafCommitmentBytes s * entriesOf s i → length y ≡ b * depthOf s i → length h ≡ k
       → Reconstructed s z iv ch corrections opening tree i x y h → Before s z iv ch corrections opening tree i lcs q hashes
-      → Before s z iv ch corrections opening tree (i + 1) (take l lcs ++ (x ++ x′)) (take c q ++ (y ++ y′)) (take (32 * i) hashes ++ (h ++ h′))
-  before-more i l c lcs q hashes x y h x′ y′ h′ el ec hl hq hh lx ly lz r f =
+      → Before s z iv ch corrections opening tree (i + 1) (take l lcs ++ (x ++ x′)) (take c q ++ (y ++ y′)) (take (k * i) hashes ++ (h ++ h′))
+  before-more i l c k lcs q hashes x y h x′ y′ h′ el ec ek hl hq hh lx ly lz r f =
       let lc : ℕ → ℕ → List ℕ = verifierLeafCommitment faest s iv ch opening tree in
       record {
-        leaves = put-behind (vectorCommitments s lc) l (48 * firstEntry s i) (48 * entriesOf s i) (48 * firstEntry s (i + 1)) i lcs x x′ el (commitments-next s i) hl lx (r .leaves) (f .leaves);
+        leaves = put-behind (vectorCommitments s lc) l (leafCommitmentBytes s * firstEntry s i) (leafCommitmentBytes s * entriesOf s i) (leafCommitmentBytes s * firstEntry s (i + 1)) i lcs x x′ el (commitments-next s i) hl lx (r .leaves) (f .leaves);
         columns =
             put-behind (λ i. concat (depthOf s i) (verifierColumn s b (stretchByte faest s z iv tree) ch corrections i)) c (b * firstBit s i) (b * depthOf s i) (b * firstBit s (i + 1)) i q y y′ ec (columns-next s i b) hq ly
             (r .columns) (f .columns);
-        digests = put-block (vectorHash faest s lc) 32 i hashes h h′ hh lz (r .digest) (f .digests);
+        digests =
+            ap (λ (n : ℕ). take (n * (i + 1)) (take (k * i) hashes ++ (h ++ h′))) (sym ek)
+            ∙ put-block (vectorHash faest s lc) k i hashes h h′ hh lz (r .digest) (ap (λ (n : ℕ). take (n * i) hashes) ek ∙ f .digests);
       }

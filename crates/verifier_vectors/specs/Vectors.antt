@@ -6,7 +6,7 @@ use lib.ListN.{take}
 use Rattle.spec.specs.declared.Shape.{Shape}
 use Rattle.spec.specs.declared.Stretch.{Stretch}
 use Rattle.spec.specs.Bytes.{concat}
-use Rattle.spec.specs.Shapes.{depthOf, firstBit, firstEntry}
+use Rattle.spec.specs.Shapes.{leafCommitmentBytes, hashBytes, depthOf, firstBit, firstEntry}
 use Rattle.spec.specs.Primitives.{faest}
 use Rattle.spec.specs.Leaves.{vectorCommitments, vectorHash}
 use Rattle.spec.specs.Rows.{stretchByte}
@@ -20,6 +20,6 @@ pub record Reconstructed (s : Shape) (z : Stretch) (iv ch corrections opening tr
 
 -- the first n vectors stand at the front of the buffers
 pub record Before (s : Shape) (z : Stretch) (iv ch corrections opening tree : List ℕ) (n : ℕ) (lcs q hashes : List ℕ) : Type 0 where
-  pub leaves : take (48 * firstEntry s n) lcs ≡ concat n (vectorCommitments s (verifierLeafCommitment faest s iv ch opening tree))
+  pub leaves : take (leafCommitmentBytes s * firstEntry s n) lcs ≡ concat n (vectorCommitments s (verifierLeafCommitment faest s iv ch opening tree))
   pub columns : take (z .width * firstBit s n) q ≡ concat n (λ i. concat (depthOf s i) (verifierColumn s (z .width) (stretchByte faest s z iv tree) ch corrections i))
-  pub digests : take (32 * n) hashes ≡ concat n (vectorHash faest s (verifierLeafCommitment faest s iv ch opening tree))
+  pub digests : take (hashBytes s * n) hashes ≡ concat n (vectorHash faest s (verifierLeafCommitment faest s iv ch opening tree))

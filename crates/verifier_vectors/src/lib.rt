@@ -7,7 +7,7 @@ ghost use Prim.Native.Nat.{ℕ, _+_, _*_, _≤_, _<_};
 ghost use lib.ListN.{length};
 ghost use Rattle.spec.specs.Bytes.{concat};
 ghost use Rattle.spec.specs.Gf256.{SboxTable};
-ghost use Rattle.spec.specs.Shapes.{shapeOk, depthOf, entriesOf, hiddenIndex, treeBytes, leafCommitmentsBytes, openingBytes, matrixBytes, correctionsBytes};
+ghost use Rattle.spec.specs.Shapes.{challengeBytes, leafCommitmentBytes, hashBytes, shapeOk, depthOf, entriesOf, hiddenIndex, treeBytes, leafCommitmentsBytes, openingBytes, matrixBytes, correctionsBytes};
 ghost use Rattle.spec.specs.Primitives.{faest};
 ghost use Rattle.spec.specs.Leaves.{leafCommitments, vectorHash};
 ghost use Rattle.spec.specs.Rows.{stretchByte, matrixOf};
@@ -45,8 +45,8 @@ fn corrected_vector(
     hash: &mut [u8],
 )
     requires { ⌜ SboxTable (now t) ⌝ }
-    requires { ⌜ (shapeOk s ≡ true) × (i < s .tau) × (z .first + z .width ≤ 8192) × (now keys ≡ faest .h0 s iv (48 * s .tau)) × (length (now ch) ≡ 16) × (length (now tree) ≡ treeBytes s) × (length (now corrections) ≡ correctionsBytes s (z .width)) ⌝ }
-    requires { ⌜ (length (now hidden) ≡ 48) × (length (now lcs) ≡ 48 * entriesOf s i) × (length (now cols) ≡ z .width * depthOf s i) × (length (now hash) ≡ 32) ⌝ }
+    requires { ⌜ (shapeOk s ≡ true) × (i < s .tau) × (z .first + z .width ≤ 8192) × (now keys ≡ faest .h0 s iv (leafCommitmentBytes s * s .tau)) × (length (now ch) ≡ challengeBytes s) × (length (now tree) ≡ treeBytes s) × (length (now corrections) ≡ correctionsBytes s (z .width)) ⌝ }
+    requires { ⌜ (length (now hidden) ≡ leafCommitmentBytes s) × (length (now lcs) ≡ leafCommitmentBytes s * entriesOf s i) × (length (now cols) ≡ z .width * depthOf s i) × (length (now hash) ≡ hashBytes s) ⌝ }
     ensures { λ _. ⌜ ((opening : List ℕ) → now (hidden .entry) ≡ hiddenLeafCommitment s opening i
         → Reconstructed s z iv (now (ch .entry)) (now (corrections .entry)) opening (now (tree .entry)) i (now (lcs .exit)) (now (cols .exit)) (now (hash .exit))) ⌝ }
 {
@@ -73,12 +73,14 @@ fn next_vector(
     hashes: &mut [u8],
 )
     requires { ⌜ SboxTable (now t) ⌝ }
-    requires { ⌜ (shapeOk s ≡ true) × (i < s .tau) × (z .first + z .width ≤ 8192) × (now keys ≡ faest .h0 s iv (48 * s .tau)) × (length (now ch) ≡ 16) × (length (now tree) ≡ treeBytes s) × (length (now corrections) ≡ correctionsBytes s (z .width)) × (length (now opening) ≡ openingBytes s) ⌝ }
-    requires { ⌜ (length (now lcs) ≡ leafCommitmentsBytes s) × (length (now q) ≡ matrixBytes s (z .width)) × (length (now hashes) ≡ 32 * s .tau) ⌝ }
+    requires { ⌜ (shapeOk s ≡ true) × (i < s .tau) × (z .first + z .width ≤ 8192) × (now keys ≡ faest .h0 s iv (leafCommitmentBytes s * s .tau)) × (length (now ch) ≡ challengeBytes s) × (length (now tree) ≡ treeBytes s) × (length (now corrections) ≡ correctionsBytes s (z .width)) × (length (now opening) ≡ openingBytes s) ⌝ }
+    requires { ⌜ (length (now lcs) ≡ leafCommitmentsBytes s) × (length (now q) ≡ matrixBytes s (z .width)) × (length (now hashes) ≡ hashBytes s * s .tau) ⌝ }
     ensures { λ _. ⌜ (Before s z iv (now (ch .entry)) (now (corrections .entry)) (now (opening .entry)) (now (tree .entry)) i (now (lcs .entry)) (now (q .entry)) (now (hashes .entry))
         → Before s z iv (now (ch .entry)) (now (corrections .entry)) (now (opening .entry)) (now (tree .entry)) (i + 1) (now (lcs .exit)) (now (q .exit)) (now (hashes .exit))) ⌝ }
 {
     let b = z.width;
+    let w = rules::commitment_bytes(s);
+    let h = rules::hash_bytes(s);
     let lcs_from = vector::commitments_from(s, i);
     let lcs_to = vector::commitments_from(s, i + 1);
     let q_from = vector::columns_from(s, i, b);
@@ -93,10 +95,10 @@ fn next_vector(
         ch,
         tree,
         corrections,
-        &opening[48 * i..48 * i + 48],
+        &opening[w * i..w * i + w],
         &mut lcs[lcs_from..lcs_to],
         &mut q[q_from..q_to],
-        &mut hashes[32 * i..32 * i + 32],
+        &mut hashes[h * i..h * i + h],
     );
 }
 
@@ -116,8 +118,8 @@ fn each_vector(
     hashes: &mut [u8],
 )
     requires { ⌜ SboxTable (now t) ⌝ }
-    requires { ⌜ (shapeOk s ≡ true) × (z .first + z .width ≤ 8192) × (now keys ≡ faest .h0 s iv (48 * s .tau)) × (length (now ch) ≡ 16) × (length (now tree) ≡ treeBytes s) × (length (now corrections) ≡ correctionsBytes s (z .width)) × (length (now opening) ≡ openingBytes s) ⌝ }
-    requires { ⌜ (length (now lcs) ≡ leafCommitmentsBytes s) × (length (now q) ≡ matrixBytes s (z .width)) × (length (now hashes) ≡ 32 * s .tau) ⌝ }
+    requires { ⌜ (shapeOk s ≡ true) × (z .first + z .width ≤ 8192) × (now keys ≡ faest .h0 s iv (leafCommitmentBytes s * s .tau)) × (length (now ch) ≡ challengeBytes s) × (length (now tree) ≡ treeBytes s) × (length (now corrections) ≡ correctionsBytes s (z .width)) × (length (now opening) ≡ openingBytes s) ⌝ }
+    requires { ⌜ (length (now lcs) ≡ leafCommitmentsBytes s) × (length (now q) ≡ matrixBytes s (z .width)) × (length (now hashes) ≡ hashBytes s * s .tau) ⌝ }
     ensures { λ _. ⌜ Before s z iv (now (ch .entry)) (now (corrections .entry)) (now (opening .entry)) (now (tree .entry)) (s .tau) (now (lcs .exit)) (now (q .exit)) (now (hashes .exit)) ⌝ }
 {
     let n = s.tau;
@@ -156,8 +158,8 @@ pub fn write_vectors(
     hashes: &mut [u8],
 )
     requires { ⌜ SboxTable (now t) ⌝ }
-    requires { ⌜ (shapeOk s ≡ true) × (z .first + z .width ≤ 8192) × (now keys ≡ faest .h0 s iv (48 * s .tau)) × (length (now ch) ≡ 16) × (length (now tree) ≡ treeBytes s) × (length (now corrections) ≡ correctionsBytes s (z .width)) × (length (now opening) ≡ openingBytes s) ⌝ }
-    requires { ⌜ (length (now lcs) ≡ leafCommitmentsBytes s) × (length (now q) ≡ matrixBytes s (z .width)) × (length (now hashes) ≡ 32 * s .tau) ⌝ }
+    requires { ⌜ (shapeOk s ≡ true) × (z .first + z .width ≤ 8192) × (now keys ≡ faest .h0 s iv (leafCommitmentBytes s * s .tau)) × (length (now ch) ≡ challengeBytes s) × (length (now tree) ≡ treeBytes s) × (length (now corrections) ≡ correctionsBytes s (z .width)) × (length (now opening) ≡ openingBytes s) ⌝ }
+    requires { ⌜ (length (now lcs) ≡ leafCommitmentsBytes s) × (length (now q) ≡ matrixBytes s (z .width)) × (length (now hashes) ≡ hashBytes s * s .tau) ⌝ }
     ensures { λ _. ⌜ now (lcs .exit) ≡ leafCommitments s (verifierLeafCommitment faest s iv (now (ch .entry)) (now (opening .entry)) (now (tree .entry))) ⌝ }
     ensures { λ _. ⌜ now (q .exit) ≡ matrixOf s (z .width) (verifierColumn s (z .width) (stretchByte faest s z iv (now (tree .entry))) (now (ch .entry)) (now (corrections .entry))) ⌝ }
     ensures { λ _. ⌜ now (hashes .exit) ≡ concat (s .tau) (vectorHash faest s (verifierLeafCommitment faest s iv (now (ch .entry)) (now (opening .entry)) (now (tree .entry)))) ⌝ }

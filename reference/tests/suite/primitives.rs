@@ -1,8 +1,8 @@
-//! AES, SHAKE128, the field, the generator and the hashes.
+//! AES, SHAKE128, SHAKE256, the fields, the generator and the hashes.
 
 use reference::bavc::leaf_hash;
 use reference::prg::{h0, h1, prg};
-use reference::shake::shake128;
+use reference::shake::{shake128, shake256};
 use reference::{aes, field, Block};
 
 use crate::support::hex;
@@ -28,13 +28,43 @@ fn aes_of_fips_197_appendix_c_1() {
 }
 
 #[test]
+fn aes_of_fips_197_appendix_a() {
+    // A.2 and A.3: the last round keys.
+    let keys = aes::key_expansion(&hex("8e73b0f7da0e6452c810f32b809079e562f8ead2522c6b7b"));
+    assert_eq!(keys[12], block("e98ba06f448c773c8ecc720401002202"));
+    let key = "603deb1015ca71be2b73aef0857d77811f352c073b6108d72d9810a30914dff4";
+    let keys = aes::key_expansion(&hex(key));
+    assert_eq!(keys[14], block("fe4890d1e6188d0b046df344706c631e"));
+}
+
+#[test]
+fn aes_of_fips_197_appendices_c_2_and_c_3() {
+    let key: Vec<u8> = (0..32).collect();
+    let text = block("00112233445566778899aabbccddeeff");
+    let output = aes::encrypt(&aes::key_expansion(&key[..24]), &text);
+    assert_eq!(output, block("dda97ca4864cdfe06eaf70a0ec0d7191"));
+    let output = aes::encrypt(&aes::key_expansion(&key), &text);
+    assert_eq!(output, block("8ea2b7ca516745bfeafc49904b496089"));
+}
+
+#[test]
 fn aes_chained_a_thousand_times() {
-    // The same loop with AES-128 of the Python package cryptography.
-    let (mut key, mut text) = ([0; 16], [0; 16]);
-    for _ in 0..1000 {
-        (key, text) = (text, aes::encrypt(&aes::key_expansion(&key), &text));
+    // The same loop with AES of the Python package cryptography: the text is
+    // encrypted, and goes in front of the key, which keeps its length.
+    let expected = [
+        (16, "fdf42d6fc7a3aaee56d44e2053f50dbc"),
+        (24, "08e4e3538ab7978804658a4d21fa6073"),
+        (32, "ad75750abeb8fe691467f92e1debc82f"),
+    ];
+    for (length, last) in expected {
+        let (mut key, mut text) = (vec![0; length], [0; 16]);
+        for _ in 0..1000 {
+            let next = aes::encrypt(&aes::key_expansion(&key), &text);
+            key = [&text[..], &key[..length - 16]].concat();
+            text = next;
+        }
+        assert_eq!(text, block(last), "keys of {length} bytes");
     }
-    assert_eq!(text, block("fdf42d6fc7a3aaee56d44e2053f50dbc"));
 }
 
 #[test]
@@ -84,6 +114,43 @@ fn shake128_of_every_length_up_to_400() {
     assert_eq!(shake128(&all, 32), hex(expected));
 }
 
+#[test]
+fn shake256_of_nothing() {
+    // FIPS 202 example values, message of 0 bits.
+    let expected = "46b9dd2b0ba88d13233b3feb743eeb243fcd52ea62b81b82b50c27646ed5762f";
+    assert_eq!(shake256(b"", 32), hex(expected));
+}
+
+#[test]
+fn shake256_of_1600_bits() {
+    // FIPS 202 example values, message of 1600 bits (200 bytes a3), output of
+    // 512 bytes: three blocks and a part. hashlib.shake_256 gives the same.
+    let output = shake256(&[0xa3; 200], 512);
+    assert_eq!(output.len(), 512);
+    assert_eq!(
+        output[..32],
+        hex("cd8a920ed141aa0407a22d59288652e9d9f1a7ee0c1e7c1ca699424da84a904d")
+    );
+    // Bytes 120 to 151, over the end of the first block of 136.
+    assert_eq!(
+        output[120..152],
+        hex("bd6484582a384317d7f47d750b8f5499512bb85a226c4243556e696f6bd072c5")
+    );
+    assert_eq!(
+        output[480..],
+        hex("6a1a9d7846436e4dca5728b6f760eef0ca92bf0be5615e96959d767197a0beeb")
+    );
+}
+
+#[test]
+fn shake256_of_every_length_up_to_400() {
+    // hashlib.shake_256, as above.
+    let pattern: Vec<u8> = (0..400).map(|n| (n % 251) as u8).collect();
+    let all: Vec<u8> = (0..=400).flat_map(|n| shake256(&pattern[..n], n)).collect();
+    let expected = "e9c3750307c2fb43e51042923e8edab6ef56af8bc97f5001f6924ac8ed1c67ac";
+    assert_eq!(shake256(&all, 32), hex(expected));
+}
+
 /// Two elements and their product, from Python integers: carryless product,
 /// then division by α^384 + α^12 + α^3 + α^2 + 1.
 const A: &str = "ea8b8bba98aaeb8c2b3ee2888dea5c9c49fcf6af905d0865\
@@ -93,36 +160,69 @@ const B: &str = "a681d3238bdb921adebd7234c533f71fcbe9ec9aa01554c9\
 const A_TIMES_B: &str = "a1623657d053b56ea004f04e3c754af85848df02826d28f4\
                          0c00ce4640396e728992f777402b2cd094e2da53fb5b3058";
 
+/// The same with longer elements: A and B, each with a half or all of the other
+/// behind it, modulo α^576 + α^13 + α^4 + α^3 + 1 and α^768 + α^19 + α^17 + α^4 + 1.
+const A_TIMES_B_576: &str = "ac54657fb6604b375a01298258f7cd3c50917cbb2e56add1\
+                             e1770969ab4beec181785322920712c359a77ddac941f811\
+                             c0564bb43a400668ced5cae350fd7beb179dd5bbbbe87fa0";
+const A_TIMES_B_768: &str = "c15ce6d25c3ada3129a3963a04b81440f47751e4ee99f6ea\
+                             7fb4db25d98dbe6c0bebd3fdf4d7ad5a543f701242232bdf\
+                             f9daf2b28449d3a0896a825ef55c0a15523ebe9bd2895210\
+                             67213fbc94ec899f4ee350523bed04551964c95395aeabd8";
+
+fn check_product<const N: usize>(a: &str, b: &str, expected: &str) {
+    let (a, b): (field::Element<N>, _) = (field::to_field(&hex(a)), field::to_field(&hex(b)));
+    assert_eq!(field::to_bits(&field::product(&a, &b)), hex(expected));
+    assert_eq!(field::to_bits(&field::product(&b, &a)), hex(expected));
+}
+
 #[test]
 fn field_product() {
-    let (a, b) = (field::to_field(&hex(A)), field::to_field(&hex(B)));
-    let expected: [u8; 48] = hex(A_TIMES_B).try_into().unwrap();
-    assert_eq!(field::to_bits(&field::product(&a, &b)), expected);
-    assert_eq!(field::to_bits(&field::product(&b, &a)), expected);
+    check_product::<6>(A, B, A_TIMES_B);
+    check_product::<9>(
+        &[A, &B[..48]].concat(),
+        &[B, &A[48..]].concat(),
+        A_TIMES_B_576,
+    );
+    check_product::<12>(&[A, B].concat(), &[B, A].concat(), A_TIMES_B_768);
+}
+
+/// α^(64 N - 1) times α, which has these bits.
+fn check_reduction<const N: usize>(bits: &[usize]) {
+    let mut top = [0; N];
+    top[N - 1] = 1 << 63;
+    let mut expected = [0; N];
+    for bit in bits {
+        expected[0] |= 1 << bit;
+    }
+    let alpha = field::to_field(&[2]);
+    assert_eq!(field::product(&top, &alpha), expected);
+    assert_eq!(field::product(&alpha, &top), expected);
 }
 
 #[test]
 fn field_reduction_by_hand() {
-    // α^383 times α is α^12 + α^3 + α^2 + 1: bits 0, 2, 3 of byte 0, bit 4 of
-    // byte 1.
-    let mut top = [0; 48];
-    top[47] = 0x80;
-    let product = field::product(&field::to_field(&top), &field::to_field(&[2]));
-    let mut expected = [0; 48];
-    (expected[0], expected[1]) = (0b1101, 0b1_0000);
-    assert_eq!(field::to_bits(&product), expected);
+    check_reduction::<6>(&[0, 2, 3, 12]);
+    check_reduction::<9>(&[0, 3, 4, 13]);
+    check_reduction::<12>(&[0, 4, 17, 19]);
+}
+
+/// Squaring as often as the element has bits is the identity modulo an
+/// irreducible polynomial of that degree, and for this element no fewer are.
+fn check_order<const N: usize>() {
+    let a: field::Element<N> = field::to_field(&hex(A));
+    let mut power = a;
+    for n in 1..=64 * N {
+        power = field::product(&power, &power);
+        assert_eq!(power == a, n == 64 * N, "after {n} squarings");
+    }
 }
 
 #[test]
-fn field_has_order_2_to_the_384() {
-    // Squaring 384 times is the identity modulo an irreducible polynomial of
-    // that degree, and for this element no fewer squarings are.
-    let a = field::to_field(&hex(A));
-    let mut power = a;
-    for n in 1..=384 {
-        power = field::product(&power, &power);
-        assert_eq!(power == a, n == 384, "after {n} squarings");
-    }
+fn fields_have_orders_2_to_their_widths() {
+    check_order::<6>();
+    check_order::<9>();
+    check_order::<12>();
 }
 
 #[test]

@@ -1,9 +1,9 @@
 //! The examples of the primitives and of a challenge's indices that are proved of
-//! the definitions, in `crates/standards/proofs` and `crates/spec/proofs`: the same
-//! inputs, derived here.
+//! the definitions, in the proofs of the crates `standards`, `standards_levels`, `spec`,
+//! `field_576` and `field_768`: the same inputs, derived here.
 
-use reference::shake::shake128;
-use reference::{bavc, prg, shape};
+use reference::shake::{shake128, shake256};
+use reference::{aes, bavc, field, prg, shape};
 
 /// The numbers of a list as a file of `crates` writes it, `1 ∷ 2 ∷ []`, after `mark`.
 fn numbers(file: &str, mark: &str) -> Vec<usize> {
@@ -38,6 +38,22 @@ fn generator_blocks_5_and_511() {
 }
 
 #[test]
+fn aes_of_24_and_32_byte_keys() {
+    let listed = |mark: &str| bytes("standards_levels/proofs/Aes.antt", mark);
+    let text = array(listed("\nplaintext ="));
+    let encrypted = |key: &[u8]| aes::encrypt(&aes::key_expansion(key), &text);
+    let (key24, key32) = (listed("\nkey24 ="), listed("\nkey32 ="));
+    assert_eq!(
+        encrypted(&key24)[..],
+        listed("encrypt 6 key24 plaintext\n    ≡ ")
+    );
+    assert_eq!(
+        encrypted(&key32)[..],
+        listed("encrypt 8 key32 plaintext\n    ≡ ")
+    );
+}
+
+#[test]
 fn shake128_of_the_empty_message() {
     assert_eq!(shake128(&[], 32), proved("shake 168 [] 32\n    ≡ "));
 }
@@ -58,6 +74,17 @@ fn shake128_around_the_ends_of_blocks() {
 }
 
 #[test]
+fn shake256_of_the_empty_message_and_of_300_bytes() {
+    let listed = |mark: &str| bytes("standards_levels/proofs/Shake256.antt", mark);
+    assert_eq!(shake256(&[], 32), listed("shake 136 [] 32\n    ≡ "));
+    let message: Vec<u8> = (0..=255).cycle().take(300).collect();
+    let output = shake256(&message, 144);
+    assert_eq!(output[..32], listed("shake 136 (counting 300) 32\n    ≡ "));
+    let mark = "part (shake 136 (counting 300) 144) 128 16\n    ≡ ";
+    assert_eq!(output[128..], listed(mark));
+}
+
+#[test]
 fn hashes_of_the_iv() {
     let iv: [u8; 16] = array(proved("\niv ="));
     assert_eq!(
@@ -75,6 +102,18 @@ fn leaf_hash() {
         &proved("\nx₁ ="),
     );
     assert_eq!(hashed[..], proved("u x₀ x₁\n    ≡ number 8\n    "));
+}
+
+fn check_wide_leaf_hash<const N: usize>() {
+    let listed = |mark: &str| bytes(&format!("field_{}/proofs/KnownAnswers.antt", 64 * N), mark);
+    let hashed = field::leaf_hash::<N>(&listed("\nu ="), &listed("\nx₀ ="), &listed("\nx₁ ="));
+    assert_eq!(hashed, listed("u x₀ x₁\n    ≡ number 8\n    "));
+}
+
+#[test]
+fn leaf_hashes_of_576_and_768_bits() {
+    check_wide_leaf_hash::<9>();
+    check_wide_leaf_hash::<12>();
 }
 
 #[test]

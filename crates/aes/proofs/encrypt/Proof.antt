@@ -2,46 +2,43 @@
 -- number of rounds left.
 use mathlib.Core.Path.{_≡_}
 use mathlib.Core.List.{List}
-use Prim.Native.Nat.{ℕ, _≤_, _-_}
+use Prim.Native.Nat.{ℕ, _+_, _≤_, _-_}
 use native.Mathlib.Omega.{arith}
 use borrow.Author.Needs.{needs}
-use Rattle.spec.specs.Aes.{rounds, cipher, keyExpansion}
-use Rattle.aes.specs.RoundKeys.{roundKeys}
-use Rattle.aes.proofs.Rounds.{round-key-at, rounds-more}
+use Rattle.aes.specs.Rounded.{Rounded}
+use Rattle.aes.proofs.Rounds.{steps-round, rounded-none, rounded-more, rounded-cipher}
 use Rattle.aes.proofs.encrypt.Statement.{statement}
 use Rattle.aes.proofs.encrypt.Tie as tie
 
 abbrev Inv-loop : tie.InvT-loop
-Inv-loop t keys x₀ i₀ x i = (1 ≤ i) × (i ≤ 10) × ((key : List ℕ) → keys ≡ roundKeys 4 key → x ≡ rounds (keyExpansion 4 key) x₀ (i - 1))
+Inv-loop t keys n x₀ i₀ x i = (2 ≤ i) × (i ≤ n) × ((nk : ℕ) (a : List (List ℕ)) → n ≡ nk + 6 → Rounded nk keys a x₀ 1 → Rounded nk keys a x (i - 1))
 
 abbrev μ-loop : tie.MeasureT-loop
-μ-loop t keys x₀ i₀ x i = 10 - i
+μ-loop t keys n x₀ i₀ x i = n - i
 
 loop-holds : tie.Need-loop-holds Inv-loop μ-loop
-unfolding rounds
-loop-holds c = search needs
+loop-holds c = (search needs, search needs, λ nk a e r. r)
 
 loop-again : tie.Need-loop-again Inv-loop μ-loop
 loop-again c =
-    let keys = c .before .before .before .before .before .before .args .keys .now in
-    let l = c .before .before .before .loop in (
+    let keys = c .before .before .before .before .before .before .before .before .before .before .before .args .keys .now in
+    let l = c .before .before .before .before .before .before .loop in
+    let one = steps-round _ _ _ _ _ _ (c .before .before .before .before .sub-bytes .ensures) (c .before .before .before .shift-rows .ensures) (c .before .before .mix-columns .ensures) (c .add-round-key2 .ensures) in (
       search needs,
       search needs,
-      (λ key e. rounds-more _ _ _ _ _ (l .i) (omega arith) (l .inv .2 key e) (round-key-at 4 key keys (l .i) e (omega arith)) (c .round .ensures)),
+      λ nk a e r. rounded-more nk keys _ _ _ (l .i) (omega arith) (omega arith) one (l .inv .2 nk a e r),
     )
 
 returns : tie.Need-returns Inv-loop μ-loop
-unfolding cipher
-returns c =
-    λ key e.
-    let keys = c .before .before .before .before .before .before .args .keys .now in
+returns c = λ nk key e keyed.
+    let g = c .before .before .before .before .before .before .before .before .args in
     let l = c .before .before .before .loop in
-    let n : l .i - 1 ≡ 9 = omega arith in
-    cc (l .inv .2 key e, round-key-at 4 key keys 0 e (omega arith), round-key-at 4 key keys 10 e (omega arith))
+    let i : l .i - 1 ≡ g .n - 1 = omega arith in
+    let one = rounded-more nk (g .keys .now) _ _ _ 1 (omega arith) (omega arith) (c .before .before .before .before .round .ensures) (rounded-none nk _ _) in
+    rounded-cipher nk (g .keys .now) _ _ _ _ (g .n) e (c .before .before .before .before .before .before .add-round-key .ensures) (rw i at (l .inv .2 nk _ e one)) (c .last-round .ensures) key keyed
 
 pub encrypt-spec : {M : Type 1} → statement M
 encrypt-spec =
     tie.close
     (tie.spec
-    Inv-loop μ-loop (λ c. search needs) (λ c κs. search needs) loop-holds (λ c. search needs) (λ c. search needs) (λ c κs. search needs)
-    (λ c. search needs) (λ c. search needs) loop-again (λ c. search needs) (λ c κs. search needs) returns)
+    Inv-loop μ-loop (λ c. search needs) (λ c κs. search needs) (λ c. search needs) (λ c κs. search needs) loop-holds (λ c κs. search needs) (λ c κs. search needs) (λ c κs. search needs) (λ c. search needs) (λ c. search needs) (λ c κs. search needs) (λ c. search needs) (λ c. search needs) loop-again (λ c. search needs) (λ c. search needs) (λ c κs. search needs) returns)

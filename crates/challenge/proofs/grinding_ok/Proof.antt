@@ -4,7 +4,7 @@ use Prim.Native.Nat.{ℕ}
 use native.Mathlib.Omega.{arith}
 use Rattle.spec.specs.Challenge.{clearAt}
 use Rattle.spec.specs.Shapes.{grindingOk}
-use Rattle.planning_laws.proofs.ShapeFacts.{shape-facts, bit-all}
+use Rattle.planning_laws.proofs.ShapeFacts.{shape-facts, widths, bit-all}
 use Rattle.challenge.proofs.grinding_ok.Statement.{statement}
 use Rattle.challenge.proofs.grinding_ok.Tie as tie
 
@@ -15,7 +15,9 @@ clear-requires : tie.Need-clear-requires
 clear-requires c κs =
     let s = c .before .before .args .s in
     let p = c .before .before .pre in
-    let b = bit-all s (shape-facts s (p .0)) in
+    let f = shape-facts s (p .0) in
+    let w = widths s f in
+    let b = bit-all s f in
     let e = c .first-bit .ensures .0 in
     (omega (arith, p .1), omega (arith, p .1))
 

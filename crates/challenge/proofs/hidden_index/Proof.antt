@@ -6,7 +6,7 @@ use native.Mathlib.Nat.{lt-of-lt-of-le}
 use borrow.Author.Needs.{needs}
 use Rattle.spec.specs.Challenge.{indexAt}
 use Rattle.spec.specs.Shapes.{entriesOf, hiddenIndex}
-use Rattle.planning_laws.proofs.ShapeFacts.{shape-facts, vector-bits, entries-small}
+use Rattle.planning_laws.proofs.ShapeFacts.{shape-facts, widths, vector-bits, entries-small}
 use Rattle.challenge.proofs.hidden_index.Statement.{statement}
 use Rattle.challenge.proofs.hidden_index.Tie as tie
 
@@ -14,7 +14,9 @@ index-requires : tie.Need-index-requires
 index-requires c κs =
     let a = c .before .before .before .args in
     let p = c .before .before .before .pre in
-    let v = vector-bits (a .s) (a .i) (shape-facts (a .s) (p .0)) (p .2) in
+    let f = shape-facts (a .s) (p .0) in
+    let w = widths (a .s) f in
+    let v = vector-bits (a .s) (a .i) f (p .2) in
     let e = c .before .first-bit .ensures .0 in
     let d = c .depth-of .ensures in
     (omega (arith, p .1), omega (arith, p .1), d .1)

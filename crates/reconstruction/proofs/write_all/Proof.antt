@@ -3,8 +3,9 @@ use borrow.Author.Needs.{needs}
 use Prim.Native.Nat.{ℕ}
 use mathlib.Core.Path.{sym, ap, ap₂, _∙_}
 use mathlib.Core.List.{List}
+use lib.ListN.{length}
 use Rattle.spec.specs.Hashes.{hash0, hash1}
-use Rattle.spec.specs.Shapes.{level, nodeBytes, hashBytes, rate}
+use Rattle.spec.specs.Shapes.{rate}
 use Rattle.spec.specs.Primitives.{faest}
 use Rattle.spec.specs.Leaves.{commitmentOf}
 use Rattle.spec.specs.Calls.{reconstructed}
@@ -14,29 +15,35 @@ use Rattle.reconstruction.proofs.write_all.Tie as tie
 
 reconstruct-tree-requires : tie.Need-reconstruct-tree-requires
 reconstruct-tree-requires c κs =
-    let start = c .before .before .before .before .before .before .before .before .before .before .before .before .before .before .before .before .before .before in
+    let start = c .before .before .before .before .before .before .before .before .before .before .before .before .before .before .before .before .before .before .before in
     let p = start .pre .0 in
     let q = start .pre .1 .0 in
     (c .before .before .before .before .before .before .before .table .ensures, (p .0, q .1, p .2, p .3, q .3, start .pre .1 .1 .1))
 
 write-vectors-requires : tie.Need-write-vectors-requires
-unfolding rate faest
+unfolding faest
 write-vectors-requires c κs =
-    let start = c .before .before .before .before .before .before .before .before .before .before .before .before .before .before .before .before .before .before .before .before .before .before .before .before .before .before .before in
+    let start = c .before .before .before .before .before .before .before .before .before .before .before .before .before .before .before .before .before .before .before .before .before .before .before .before .before .before .before .before in
+    let g = start .args in
     let p = start .pre .0 in
     let q = start .pre .1 .0 in
     let o = start .pre .1 .1 in
-    let keys = c .before .before .before .before .before .before .before .before .before .before .before .before .before .h0 .ensures ∙ ap₂ (λ (m : List ℕ) (n : ℕ). hash0 168 m n) (sym (c .before .before .before .before .before .before .before .before .before .before .before .before .before .before .before .load-iv .ensures)) (p .4) in
+    let keys =
+    c .before .before .before .before .before .before .before .before .before .before .before .before .before .h0 .ensures ∙ ap (λ (r : ℕ). hash0 r (g .iv .now) (length (g .keys .now))) (c .before .before .before .before .before .before .before .before .before .before .before .before .before .before .before .before .before .rate-bytes .ensures .0)
+    ∙ ap₂ (λ (m : List ℕ) (n : ℕ). hash0 (rate (g .s)) m n) (sym (c .before .before .before .before .before .before .before .before .before .before .before .before .before .before .before .load-iv .ensures)) (p .4) in
     (c .before .before .before .before .before .before .before .before .before .before .before .before .before .before .before .before .table .ensures, ((p .0, p .1, keys, q .1, c .before .before .before .before .before .before .before .before .reconstruct-tree .kept .1 .1 .1 .1 .1 .1 .0 ∙ o .1, q .2, q .3), (o .2, o .3, p .5)))
 
 returns : tie.Need-returns
-unfolding level nodeBytes hashBytes rate faest commitmentOf
+unfolding faest commitmentOf
 returns c =
-    let start = c .before .before .before .before .before .before .before .before .before .before .before .before .before .before .before .before .before .before .before .before .before .before .before .before .before .before .before .before .before .before .before .before .before .before .before .before .before .before .before in
+    let start = c .before .before .before .before .before .before .before .before .before .before .before .before .before .before .before .before .before .before .before .before .before .before .before .before .before .before .before .before .before .before .before .before .before .before .before .before .before .before .before .before in
     let g = start .args in
     let x = c .before .before .before .before .before .before .before .before .before .before .before .before .before .before .before .before .before .before .before .before .before .before .before .before .before .before .before .load-iv in
     let made = c .before .before .before .before .before .before .before .before .before .before .before .write-vectors .ensures in
-    let hash = c .before .before .h1 .ensures ∙ ap₂ (λ (m : List ℕ) (n : ℕ). hash1 168 m n) (made .1 .1) (start .pre .1 .1 .0) in
+    let hashes = c .before .before .before .before .before .before .before .before .before .before .before .write-vectors .last .1 .1 .1 .1 .1 .1 .1 .1 .1 .1 .1 .0 in
+    let hash =
+    c .before .before .h1 .ensures ∙ ap (λ (r : ℕ). hash1 r hashes (length (g .commitment .now))) (c .before .before .before .before .before .before .before .before .before .before .before .before .before .before .before .before .before .before .before .before .before .before .before .before .before .before .before .before .before .rate-bytes .ensures .0)
+    ∙ ap₂ (λ (m : List ℕ) (n : ℕ). hash1 (rate (g .s)) m n) (made .1 .1) (start .pre .1 .1 .0) in
     reconstruct-writes (g .s) (g .z) (x .result) (g .ch .now) (g .corrections .now) (g .opening .now) _ _ _ _ (c .before .before .before .before .before .before .before .before .before .before .before .before .before .before .before .before .before .before .before .before .reconstruct-tree .ensures) hash (made .0) (made .1 .0)
     ∙ ap (λ (i : List ℕ). reconstructed faest (g .s) (g .z) i (g .ch .now) (g .corrections .now) (g .opening .now)) (x .ensures)
 
@@ -47,9 +54,10 @@ write-all-spec =
     (λ c κs. search needs)
     (λ c κs. search needs)
     (λ c κs. search needs)
+    (λ c κs. search needs)
     reconstruct-tree-requires
     write-vectors-requires
-    (λ c κs. search needs)
+    (λ c κs. (let r = c .before .before .before .before .before .before .before .before .before .before .before .before .before .before .before .before .before .before .before .before .before .before .before .before .before .before .rate-bytes .ensures in (r .2, r .1)))
     (λ c. search needs)
     (λ c. search needs)
     (λ c. search needs)

@@ -2,6 +2,7 @@
 use Prim.Native.Nat.{_+_, _-_, _*_, _≤_}
 use native.Mathlib.Omega.{arith}
 use native.Mathlib.Nat.{mul-le-mul}
+use Rattle.spec.specs.Shapes.{level}
 use Rattle.planning_laws.proofs.ShapeFacts.{deeper-is, shape-refused, shape-by-depth}
 use Rattle.rules.proofs.is_shape.Statement.{statement}
 use Rattle.rules.proofs.is_shape.Tie as tie
@@ -44,12 +45,15 @@ add-used c =
     omega arith
 
 returns-8 : tie.Need-returns-8
+unfolding level
 returns-8 c = shape-refused (c .before .before .before .before .before .before .before .before .before .before .before .before .before .before .before .before .before .args .s) (λ f. omega (arith, f .total))
 
 returns-9 : tie.Need-returns-9
+unfolding level
 returns-9 c = (let d = deeper-is (c .before .before .before .before .before .before .before .before .before .before .before .before .before .before .before .before .before .before .before .args .s) in shape-refused (c .before .before .before .before .before .before .before .before .before .before .before .before .before .before .before .before .before .before .before .args .s) (λ f. omega (arith, f .few)))
 
 returns-10 : tie.Need-returns-10
+unfolding level
 returns-10 c =
     let s = c .before .before .before .before .before .before .before .before .before .before .before .before .before .before .before .before .before .before .before .before .args .s in
     let d = deeper-is s in

@@ -1,6 +1,5 @@
 -- What `hash` ensures of the sponge that has absorbed the message.
 use mathlib.Core.List.{[]}
-use native.Mathlib.Omega.{arith}
 use borrow.Author.Needs.{needs}
 use denote.Ref.{now}
 use Rattle.spec.specs.Hashes.{hash0}
@@ -11,7 +10,7 @@ returns : tie.Need-returns
 unfolding hash0
 returns c =
     let start = c .before .before .before .before .before .before .before .before in
-    let none = c .before .before .before .before .before .new .ensures .0 168 (omega arith) in
+    let none = c .before .before .before .before .before .new .ensures .0 (start .args .rate) (start .pre .1) in
     c .before .before .hash .ensures (now (start .args .iv)) (c .before .before .before .before .absorb .ensures .holds [] none)
 
 pub h0-spec : {M : Type 1} → statement M

@@ -1,11 +1,11 @@
 -- Each buffer by what its callee ensures.
 use borrow.Author.Needs.{needs}
-use Prim.Native.Nat.{ℕ, _-_}
+use Prim.Native.Nat.{ℕ}
 use mathlib.Core.Path.{sym, ap, ap₂, _∙_}
 use mathlib.Core.List.{List}
-use native.Mathlib.Omega.{arith}
+use lib.ListN.{length}
 use Rattle.spec.specs.Hashes.{hash0, hash1}
-use Rattle.spec.specs.Shapes.{level, nodeBytes, hashBytes, rate, treeBytes}
+use Rattle.spec.specs.Shapes.{rate}
 use Rattle.spec.specs.Primitives.{faest}
 use Rattle.spec.specs.Leaves.{commitmentOf}
 use Rattle.spec.specs.Calls.{committed}
@@ -14,31 +14,32 @@ use Rattle.signer_commit.proofs.write_all.Statement.{statement}
 use Rattle.signer_commit.proofs.write_all.Tie as tie
 
 grow-requires : tie.Need-grow-requires
-unfolding level nodeBytes treeBytes
-grow-requires c κs =
-    let start = c .before .before .before .before .before .before .before .before .before .before .before .before .before .before .before .before .before .before .before in
-    let l = c .before .leaf-count .ensures in
-    (c .before .before .before .before .before .before .before .before .table .ensures, (start .pre .0 .2, l .1, omega arith, omega arith))
+grow-requires c κs = (let start = c .before .before .before .before .before .before .before .before .before .before .before .before .before .before .before .before .before .before .before in (c .before .before .before .before .before .before .before .table .ensures, (start .pre .0 .0, start .pre .0 .2, start .pre .1 .1)))
 
 write-vectors-requires : tie.Need-write-vectors-requires
-unfolding rate faest
+unfolding faest
 write-vectors-requires c κs =
     let start = c .before .before .before .before .before .before .before .before .before .before .before .before .before .before .before .before .before .before .before .before .before .before .before .before .before .before .before .before .before .before in
+    let g = start .args in
     let p = start .pre .0 in
     let q = start .pre .1 in
-    let keys = c .before .before .before .before .before .before .before .before .before .before .before .before .before .before .before .before .h0 .ensures ∙ ap₂ (λ (m : List ℕ) (n : ℕ). hash0 168 m n) (sym (c .before .before .before .before .before .before .before .before .before .before .before .before .before .before .before .before .before .before .load-iv .ensures)) (p .4) in
-    (c .before .before .before .before .before .before .before .before .before .before .before .before .before .before .before .before .before .before .before .table .ensures, ((p .0, p .1, keys, c .before .before .before .before .before .before .before .before .before .before .grow .kept .1 .1 .1 .1 .0 ∙ q .1), (q .2, q .3, q .4, q .5, p .5)))
+    let keys =
+    c .before .before .before .before .before .before .before .before .before .before .before .before .before .before .before .h0 .ensures ∙ ap (λ (r : ℕ). hash0 r (g .iv .now) (length (g .keys .now))) (c .before .before .before .before .before .before .before .before .before .before .before .before .before .before .before .before .before .before .before .rate-bytes .ensures .0)
+    ∙ ap₂ (λ (m : List ℕ) (n : ℕ). hash0 (rate (g .s)) m n) (sym (c .before .before .before .before .before .before .before .before .before .before .before .before .before .before .before .before .before .load-iv .ensures)) (p .4) in
+    (c .before .before .before .before .before .before .before .before .before .before .before .before .before .before .before .before .before .before .table .ensures, ((p .0, p .1, keys, c .before .before .before .before .before .before .before .before .before .before .grow .kept .1 .1 .1 .1 .0 ∙ q .1), (q .2, q .3, q .4, q .5, p .5)))
 
 returns : tie.Need-returns
-unfolding level nodeBytes hashBytes rate faest commitmentOf
+unfolding faest commitmentOf
 returns c =
     let start = c .before .before .before .before .before .before .before .before .before .before .before .before .before .before .before .before .before .before .before .before .before .before .before .before .before .before .before .before .before .before .before .before .before .before .before .before .before .before .before .before .before .before .before .before .before .before in
     let g = start .args in
-    let x = c .before .before .before .before .before .before .before .before .before .before .before .before .before .before .before .before .before .before .before .before .before .before .before .before .before .before .before .before .before .before .before .before .before .before .load-iv in
+    let x = c .before .before .before .before .before .before .before .before .before .before .before .before .before .before .before .before .before .before .before .before .before .before .before .before .before .before .before .before .before .before .before .before .before .load-iv in
     let made = c .before .before .before .before .before .before .before .before .before .before .before .before .before .before .before .write-vectors .ensures in
-    let tree = c .before .before .before .before .before .before .before .before .before .before .before .before .before .before .before .before .before .before .before .before .before .before .before .before .before .before .grow .ensures (g .s) (sym (c .before .before .before .before .before .before .before .before .before .before .before .before .before .before .before .before .before .before .before .before .before .before .before .before .before .before .before .before .leaf-count .ensures .0)) in
-    let hash = c .before .before .h1 .ensures ∙ ap₂ (λ (m : List ℕ) (n : ℕ). hash1 168 m n) (made .1 .1 .1 .1) (start .pre .1 .0) in
-    commit-writes (g .s) (g .z) (g .root .now) (x .result) _ _ _ _ _ _ tree hash (made .0) (made .1 .0) (made .1 .1 .0) (made .1 .1 .1 .0)
+    let hashes = c .before .before .before .before .before .before .before .before .before .before .before .before .before .before .before .write-vectors .last .1 .1 .1 .1 .1 .1 .1 .1 .1 .1 .0 in
+    let hash =
+    c .before .before .h1 .ensures ∙ ap (λ (r : ℕ). hash1 r hashes (length (g .commitment .now))) (c .before .before .before .before .before .before .before .before .before .before .before .before .before .before .before .before .before .before .before .before .before .before .before .before .before .before .before .before .before .before .before .before .before .before .before .rate-bytes .ensures .0)
+    ∙ ap₂ (λ (m : List ℕ) (n : ℕ). hash1 (rate (g .s)) m n) (made .1 .1 .1 .1) (start .pre .1 .0) in
+    commit-writes (g .s) (g .z) (g .root .now) (x .result) _ _ _ _ _ _ (c .before .before .before .before .before .before .before .before .before .before .before .before .before .before .before .before .before .before .before .before .before .before .before .before .before .before .grow .ensures) hash (made .0) (made .1 .0) (made .1 .1 .0) (made .1 .1 .1 .0)
     ∙ ap (committed faest (g .s) (g .z) (g .root .now)) (x .ensures)
 
 pub write-all-spec : {M : Type 1} → statement M
@@ -51,7 +52,7 @@ write-all-spec =
     (λ c κs. search needs)
     grow-requires
     write-vectors-requires
-    (λ c κs. search needs)
+    (λ c κs. (let r = c .before .before .before .before .before .before .before .before .before .before .before .before .before .before .before .before .before .before .before .before .before .before .before .before .before .before .before .before .before .before .before .before .rate-bytes .ensures in (r .2, r .1)))
     (λ c. search needs)
     (λ c. search needs)
     (λ c. search needs)

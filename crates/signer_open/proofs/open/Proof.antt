@@ -8,7 +8,7 @@ use lib.ListN.{length, take, replicate, length-replicate}
 use lib.Seq.{sets}
 use borrow.Author.Needs.{needs}
 use Rattle.spec.specs.declared.Shape.{Shape}
-use Rattle.spec.specs.Shapes.{level, nodeBytes, leafCommitmentBytes, shapeOk, planned, plannedCount, leafCommitmentsBytes, openingBytes}
+use Rattle.spec.specs.Shapes.{shapeOk, planned, plannedCount, openingBytes}
 use Rattle.laws.proofs.Tests.{failed, passed}
 use Rattle.planning_laws.proofs.ShapeFacts.{shape-facts}
 use Rattle.planning.proofs.Planned.{planned-front}
@@ -71,7 +71,7 @@ returns-4 c =
     (c .before .if4 .taken) (c .answer4 .ensures)
 
 write-hidden-requires : tie.Need-write-hidden-requires
-unfolding level nodeBytes leafCommitmentBytes leafCommitmentsBytes openingBytes
+unfolding openingBytes
 write-hidden-requires c κs =
     let gr = c .before .before .before .before .before .before .before in
     let ft = gr .before .before in

@@ -7,11 +7,12 @@ use native.Mathlib.Omega.{arith}
 use lib.ListN.{length, take}
 use lib.Seq.{take-all}
 use Rattle.spec.specs.Bytes.{concat, zeros}
-use Rattle.spec.specs.Shapes.{depthOf, firstBit, firstEntry, correctionsBytes}
+use Rattle.spec.specs.Shapes.{leafCommitmentBytes, hashBytes, depthOf, firstBit, firstEntry, correctionsBytes}
 use Rattle.spec.specs.Primitives.{faest}
 use Rattle.spec.specs.Leaves.{vectorCommitments, leafCommitments, vectorHash}
 use Rattle.spec.specs.Rows.{stretchByte, matrixOf}
 use Rattle.spec.specs.Signer.{signerLeafCommitment, signerColumn, corrections}
+use Rattle.laws.proofs.Concat.{mul-within}
 use Rattle.planning_laws.proofs.ShapeFacts.{shape-facts}
 use Rattle.vector.proofs.Buffers.{all-commitments, all-columns, commitments-next, columns-next, commitments-end, columns-end}
 use Rattle.vector.proofs.Numbers.{width-small}
@@ -34,6 +35,7 @@ vector-of-u-requires c κs =
     let k = columns-end s ok (g .z .width) 0 _ _ (f .tau-pos) refl (p .2) in
     let ln = commitments-next s 0 in
     let kn = columns-next s 0 (g .z .width) in
+    let hn = mul-within (hashBytes s) 0 (s .tau) (f .tau-pos) in
     (start .pre .0, ((ok, omega arith, start .pre .1 .0 .1, start .pre .1 .0 .2, start .pre .1 .0 .3), (omega arith, p .1, omega arith, omega arith)))
 
 other-vectors-requires : tie.Need-other-vectors-requires
@@ -80,7 +82,7 @@ returns c =
     let rest : length v - c .before .before .before .before .columns-from .result ≡ g .z .width * s .w = (let k = all-columns s ok (g .z .width) in omega arith) in
     let sums = other .kept .1 .1 .1 .1 .1 .1 .1 .1 .1 .0 ∙ p .3 in
     let lc = signerLeafCommitment faest s (g .iv) (g .tree .now) in (
-      whole (vectorCommitments s lc) (λ i. 48 * firstEntry s i) (s .tau) _ (f .tau-pos) (other .kept .1 .1 .1 .1 .1 .1 .1 .1 .0 ∙ first .kept .1 .1 .1 .1 .1 .1 .1 .0 ∙ p .0 ∙ sym (all-commitments s ok)) (up .leaves),
+      whole (vectorCommitments s lc) (λ i. leafCommitmentBytes s * firstEntry s i) (s .tau) _ (f .tau-pos) (other .kept .1 .1 .1 .1 .1 .1 .1 .1 .0 ∙ first .kept .1 .1 .1 .1 .1 .1 .1 .0 ∙ p .0 ∙ sym (all-commitments s ok)) (up .leaves),
       (
         u-of s (g .z) (g .iv) (g .tree .now) _ _ _ _ (first .ensures),
         (
@@ -88,7 +90,7 @@ returns c =
               ∙ ap₂ (λ (x : List ℕ) (n : ℕ). x ++ zeros n) (ap (λ (n : ℕ). take n v) used ∙ told columns (λ i. g .z .width * firstBit s i) (s .tau) v (f .tau-pos) (up .columns)) rest,
           (
             sym (take-all (g .z .width * (s .tau - 1)) _ (omega arith)) ∙ up .sums,
-            whole (vectorHash faest s lc) (λ i. 32 * i) (s .tau) _ (f .tau-pos) (other .kept .1 .1 .1 .1 .1 .1 .1 .1 .1 .1 .1 .0 ∙ first .kept .1 .1 .1 .1 .1 .1 .1 .1 .1 .1 .0 ∙ p .4) (up .digests),
+            whole (vectorHash faest s lc) (λ i. hashBytes s * i) (s .tau) _ (f .tau-pos) (other .kept .1 .1 .1 .1 .1 .1 .1 .1 .1 .1 .1 .0 ∙ first .kept .1 .1 .1 .1 .1 .1 .1 .1 .1 .1 .0 ∙ p .4) (up .digests),
           ),
         ),
       ),

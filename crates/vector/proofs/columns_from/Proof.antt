@@ -1,4 +1,4 @@
--- A row has at most 8,192 bytes, and there are 128 columns.
+-- A row has at most 8,192 bytes, and there are at most 256 columns.
 use Prim.Native.Nat.{ℕ, _*_, _≤_}
 use mathlib.Core.Path.{ap}
 use native.Mathlib.Nat.{mul-le-mul}
@@ -9,7 +9,7 @@ use Rattle.vector.proofs.columns_from.Tie as tie
 
 mul-result : tie.Need-mul-result
 mul-result c =
-    let m : c .before .args .b * c .first-bit .result ≤ 8192 * 128 = mul-le-mul (c .before .pre .2) (c .first-bit .ensures .1) in
+    let m : c .before .args .b * c .first-bit .result ≤ 8192 * 256 = mul-le-mul (c .before .pre .2) (c .first-bit .ensures .2) in
     omega arith
 
 returns : tie.Need-returns

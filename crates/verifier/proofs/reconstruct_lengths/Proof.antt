@@ -1,62 +1,34 @@
--- The products are small, since no tree has more than 40,960 leaves and no row more than 8,192 bytes.
+-- Each length is that of its name; a challenge has as many bytes as a node.
 use borrow.Author.Needs.{needs}
-use native.Mathlib.Nat.{mul-le-mul, le-refl}
-use native.Mathlib.Omega.{arith}
-use Prim.Native.Nat.{ℕ, _+_, _-_, _*_, _≤_}
-use mathlib.Core.Path.{ap, _∙_}
-use mathlib.Core.List.{[], _∷_}
-use Rattle.spec.specs.Shapes.{level, nodeBytes, leafCommitmentBytes, treeBytes, leafCommitmentsBytes, openingBytes, matrixBytes, correctionsBytes}
-use Rattle.spec.specs.Calls.{fits}
-use Rattle.planning_laws.proofs.ShapeFacts.{shape-facts}
+use mathlib.Core.Path.{sym, _∙_}
+use Rattle.planning_laws.proofs.ShapeFacts.{shape-facts, widths}
 use Rattle.verifier.proofs.reconstruct_lengths.Statement.{statement}
 use Rattle.verifier.proofs.reconstruct_lengths.Tie as tie
 
-less-one : tie.Need-sub-fit8
-less-one c = (let f = shape-facts (c .before .before .args .s) (c .before .before .pre .0) in omega arith)
-
-mul-corrections : tie.Need-mul-fit8
-mul-corrections c =
-    let start = c .before .before in
-    let f = shape-facts (start .args .s) (start .pre .0) in
-    let h : start .args .s .tau - 1 ≤ 32 = omega arith in
-    let m : start .args .b * (start .args .s .tau - 1) ≤ 8192 * 32 = mul-le-mul (start .pre .1) h in
-    omega arith
-
-mul-tau : tie.Need-mul-fit8-2
-mul-tau c = (let f = shape-facts (c .before .before .before .args .s) (c .before .before .before .pre .0) in omega arith)
-
-mul-slots : tie.Need-mul-fit8-3
-mul-slots c = (let f = shape-facts (c .before .before .before .before .args .s) (c .before .before .before .before .pre .0) in omega arith)
-
-sum : tie.Need-add-fit8
-sum c = (let f = shape-facts (c .before .before .before .before .args .s) (c .before .before .before .before .pre .0) in omega arith)
-
-mul-columns : tie.Need-mul-fit8-7
-mul-columns c = (let start = c .before .before .before .before in let m : start .args .b * 128 ≤ 8192 * 128 = mul-le-mul (start .pre .1) (le-refl 128) in omega arith)
-
 returns : tie.Need-returns
-unfolding level nodeBytes leafCommitmentBytes treeBytes leafCommitmentsBytes openingBytes matrixBytes correctionsBytes
 returns c =
-    let g = c .before .before .before .before .before .args in
-    let n = c .before .before .before .before .leaf-count .ensures .0 in
-    c .fit8 .ensures
-    ∙ ap
-    (λ (l : ℕ). fits ((g .iv, 16) ∷ (g .challenge, 16) ∷ (g .corrections, g .b * (g .s .tau - 1)) ∷ (g .opening, 48 * g .s .tau + 16 * g .s .t) ∷ (g .commitment, 32) ∷ (g .tree, 16 * (2 * l - 1)) ∷ (g .lcs, 48 * l) ∷ (g .q, g .b * 128) ∷ [])) n
+    let start = c .before .before .before .before .before .before .before .before in
+    let w = widths (start .args .s) (shape-facts (start .args .s) (start .pre .0)) in
+    rw (
+      c .before .before .before .before .before .before .before .node-bytes .ensures .0 ∙ sym (w .challenge-node),
+      c .before .before .before .before .before .before .corrections-bytes .ensures .0,
+      c .before .before .before .before .before .opening-bytes .ensures .0,
+      c .before .before .before .before .hash-bytes .ensures .0,
+      c .before .before .before .tree-bytes .ensures .0,
+      c .before .before .leaf-commitments-bytes .ensures .0,
+      c .before .matrix-bytes .ensures .0,
+    ) at (c .fit8 .ensures)
 
 pub reconstruct-lengths-spec : {M : Type 1} → statement M
 reconstruct-lengths-spec =
     tie.close
     (tie.spec
     (λ c κs. search needs)
-    less-one
-    mul-corrections
-    mul-tau
-    mul-slots
-    sum
-    (λ c. search needs)
-    (λ c. search needs)
-    (λ c. search needs)
-    (λ c. search needs)
-    mul-columns
+    (λ c κs. search needs)
+    (λ c κs. search needs)
+    (λ c κs. search needs)
+    (λ c κs. search needs)
+    (λ c κs. search needs)
+    (λ c κs. search needs)
     (λ c κs. search needs)
     returns)

@@ -1,10 +1,8 @@
 -- Each way out of the call is one law of `Answers`, by the tests that led there.
 use borrow.Author.Needs.{needs}
 use native.Mathlib.Omega.{arith}
-use Rattle.spec.specs.Shapes.{level, nodeBytes, leafCommitmentBytes, openingBytes}
 use Rattle.laws.proofs.Tests.{failed, passed}
 use Rattle.laws.proofs.Lengths.{fits-sized}
-use Rattle.planning_laws.proofs.ShapeFacts.{shape-facts}
 use Rattle.rules.proofs.RowLength.{stretch-max}
 use Rattle.verifier.proofs.Answers.{Lengths, reconstruct-1, reconstruct-2, reconstruct-8, reconstruct-3, reconstruct-4, reconstruct-5, reconstruct-6, reconstruct-0}
 use Rattle.verifier.proofs.reconstruct_stretch.Statement.{statement}
@@ -94,101 +92,63 @@ returns-6 c =
     let sh = ro .before .before in
     reconstruct-5 _ _ (sh .before .resolve .ensures) _ _ _ _ _ _ _ _ (cn .count-nodes .result) (passed (sh .is-shape .ensures) (ro .before .if1 .left)) (passed (ro .is-row-length .ensures) (st .before .if2 .left)) (passed (st .is-stretch .ensures) (ft .before .if3 .left)) (passed (ft .reconstruct-lengths .ensures) (gr .before .if4 .left)) (passed (gr .grinding-ok .ensures) (cn .before .if5 .left)) (cn .count-nodes .ensures) (c .before .if6 .taken) (c .answer6 .ensures)
 
-mul-tau : tie.Need-mul-is-clear-from
-mul-tau c =
-    let cn = c .before .before .before in
+slots-clear-requires : tie.Need-slots-clear-requires
+slots-clear-requires c κs =
+    let cn = c .before .before in
     let gr = cn .before .before in
     let ft = gr .before .before in
     let st = ft .before .before in
     let ro = st .before .before in
     let sh = ro .before .before in
-    let f = shape-facts (sh .before .resolve .result) (passed (sh .is-shape .ensures) (ro .before .if1 .left)) in
-    let within = c .before .if6 .left in
-    omega arith
-
-mul-slots : tie.Need-mul-is-clear-from-2
-mul-slots c =
-    let cn = c .before .before .before in
-    let gr = cn .before .before in
-    let ft = gr .before .before in
-    let st = ft .before .before in
-    let ro = st .before .before in
-    let sh = ro .before .before in
-    let f = shape-facts (sh .before .resolve .result) (passed (sh .is-shape .ensures) (ro .before .if1 .left)) in
-    let within = c .before .if6 .left in
-    omega arith
-
-sum : tie.Need-add-is-clear-from
-sum c =
-    let cn = c .before .before .before in
-    let gr = cn .before .before in
-    let ft = gr .before .before in
-    let st = ft .before .before in
-    let ro = st .before .before in
-    let sh = ro .before .before in
-    let f = shape-facts (sh .before .resolve .result) (passed (sh .is-shape .ensures) (ro .before .if1 .left)) in
-    let within = c .before .if6 .left in
-    omega arith
-
-is-clear-from-requires : tie.Need-is-clear-from-requires
-unfolding level nodeBytes leafCommitmentBytes openingBytes
-is-clear-from-requires c κs =
-    let cn = c .before .before .before in
-    let gr = cn .before .before in
-    let ft = gr .before .before in
-    let st = ft .before .before in
-    let ro = st .before .before in
-    let sh = ro .before .before in
-    let g = c .before .before .before .before .before .before .before .before .before .before .before .before .before .before .before .before .before .before .before .before .before .before .before .args in
+    let g = c .before .before .before .before .before .before .before .before .before .before .before .before .before .before .before .before .before .before .before .before .before .before .args in
     let q =
     fits-sized
     (Lengths (sh .before .resolve .result) _ (g .iv .now) (g .challenge .now) (g .corrections .now) (g .opening .now)
     (record { commitment = g .commitment .now; tree = g .tree .now; leafCommitments = g .leaf-commitments .now; q = g .q .now }))
     (passed (ft .reconstruct-lengths .ensures) (gr .before .if4 .left)) in
-    let long = q .1 .1 .1 .0 in
-    let within = c .before .if6 .left in
-    omega arith
+    let within = c .if6 .left in
+    (passed (sh .is-shape .ensures) (ro .before .if1 .left), omega arith, q .1 .1 .1 .0)
 
 returns-7 : tie.Need-returns-7
 returns-7 c =
-    let cn = c .before .before .before .before .before .before in
+    let cn = c .before .before .before .before .before in
     let gr = cn .before .before in
     let ft = gr .before .before in
     let st = ft .before .before in
     let ro = st .before .before in
     let sh = ro .before .before in
-    reconstruct-6 _ _ (sh .before .resolve .ensures) _ _ _ _ _ _ _ _ (cn .count-nodes .result) (passed (sh .is-shape .ensures) (ro .before .if1 .left)) (passed (ro .is-row-length .ensures) (st .before .if2 .left)) (passed (st .is-stretch .ensures) (ft .before .if3 .left)) (passed (ft .reconstruct-lengths .ensures) (gr .before .if4 .left)) (passed (gr .grinding-ok .ensures) (cn .before .if5 .left)) (cn .count-nodes .ensures) (let h = c .before .before .before .before .if6 .left in omega arith)
-    (failed (c .before .before .is-clear-from .ensures) (c .before .if7 .taken)) (c .answer7 .ensures)
+    reconstruct-6 _ _ (sh .before .resolve .ensures) _ _ _ _ _ _ _ _ (cn .count-nodes .result) (passed (sh .is-shape .ensures) (ro .before .if1 .left)) (passed (ro .is-row-length .ensures) (st .before .if2 .left)) (passed (st .is-stretch .ensures) (ft .before .if3 .left)) (passed (ft .reconstruct-lengths .ensures) (gr .before .if4 .left)) (passed (gr .grinding-ok .ensures) (cn .before .if5 .left)) (cn .count-nodes .ensures) (let h = c .before .before .before .if6 .left in omega arith)
+    (failed (c .before .before .slots-clear .ensures) (c .before .if7 .taken)) (c .answer7 .ensures)
 
 write-reconstruction-requires : tie.Need-write-reconstruction-requires
 write-reconstruction-requires c κs =
-    let cn = c .before .before .before .before .before .before .before .before .before in
+    let cn = c .before .before .before .before .before .before .before .before in
     let gr = cn .before .before in
     let ft = gr .before .before in
     let st = ft .before .before in
     let ro = st .before .before in
     let sh = ro .before .before in
-    let g = c .before .before .before .before .before .before .before .before .before .before .before .before .before .before .before .before .before .before .before .before .before .before .before .before .before .before .before .before .before .args in
+    let g = c .before .before .before .before .before .before .before .before .before .before .before .before .before .before .before .before .before .before .before .before .before .before .before .before .before .before .before .before .args in
     let q =
     fits-sized
     (Lengths (sh .before .resolve .result) _ (g .iv .now) (g .challenge .now) (g .corrections .now) (g .opening .now)
     (record { commitment = g .commitment .now; tree = g .tree .now; leafCommitments = g .leaf-commitments .now; q = g .q .now }))
     (passed (ft .reconstruct-lengths .ensures) (gr .before .if4 .left)) in
-    let within = c .before .before .before .before .before .before .before .if6 .left in (
+    let within = c .before .before .before .before .before .before .if6 .left in (
       ((passed (sh .is-shape .ensures) (ro .before .if1 .left)), stretch-max (g .row-bits) (g .stretch) (passed (ro .is-row-length .ensures) (st .before .if2 .left)) (passed (st .is-stretch .ensures) (ft .before .if3 .left)), cn .count-nodes .ensures, omega arith),
       ((q .0, q .1 .0, q .1 .1 .0, q .1 .1 .1 .0), (q .1 .1 .1 .1 .0, q .1 .1 .1 .1 .1 .0, q .1 .1 .1 .1 .1 .1 .0, q .1 .1 .1 .1 .1 .1 .1 .0)),
     )
 
 returns-8 : tie.Need-returns-8
 returns-8 c =
-    let cn = c .before .before .before .before .before .before .before .before .before .before .before .before .before .before .before .before .before .before .before in
+    let cn = c .before .before .before .before .before .before .before .before .before .before .before .before .before .before .before .before .before .before in
     let gr = cn .before .before in
     let ft = gr .before .before in
     let st = ft .before .before in
     let ro = st .before .before in
     let sh = ro .before .before in
-    reconstruct-0 _ _ (sh .before .resolve .ensures) _ _ _ _ _ _ _ _ (cn .count-nodes .result) _ (passed (sh .is-shape .ensures) (ro .before .if1 .left)) (passed (ro .is-row-length .ensures) (st .before .if2 .left)) (passed (st .is-stretch .ensures) (ft .before .if3 .left)) (passed (ft .reconstruct-lengths .ensures) (gr .before .if4 .left)) (passed (gr .grinding-ok .ensures) (cn .before .if5 .left)) (cn .count-nodes .ensures) (let h = c .before .before .before .before .before .before .before .before .before .before .before .before .before .before .before .before .before .if6 .left in omega arith)
-    (passed (c .before .before .before .before .before .before .before .before .before .before .before .before .before .before .before .is-clear-from .ensures) (c .before .before .before .before .before .before .before .before .before .before .before .before .before .before .if7 .left)) (c .before .before .before .before .before .before .before .before .before .write-reconstruction .ensures) (c .answer8 .ensures)
+    reconstruct-0 _ _ (sh .before .resolve .ensures) _ _ _ _ _ _ _ _ (cn .count-nodes .result) _ (passed (sh .is-shape .ensures) (ro .before .if1 .left)) (passed (ro .is-row-length .ensures) (st .before .if2 .left)) (passed (st .is-stretch .ensures) (ft .before .if3 .left)) (passed (ft .reconstruct-lengths .ensures) (gr .before .if4 .left)) (passed (gr .grinding-ok .ensures) (cn .before .if5 .left)) (cn .count-nodes .ensures) (let h = c .before .before .before .before .before .before .before .before .before .before .before .before .before .before .before .before .if6 .left in omega arith)
+    (passed (c .before .before .before .before .before .before .before .before .before .before .before .before .before .before .before .slots-clear .ensures) (c .before .before .before .before .before .before .before .before .before .before .before .before .before .before .if7 .left)) (c .before .before .before .before .before .before .before .before .before .write-reconstruction .ensures) (c .answer8 .ensures)
 
 pub reconstruct-stretch-spec : {M : Type 1} → statement M
 reconstruct-stretch-spec =
@@ -213,10 +173,7 @@ reconstruct-stretch-spec =
     count-nodes-requires
     (λ c κs. search needs)
     returns-6
-    mul-tau
-    mul-slots
-    sum
-    is-clear-from-requires
+    slots-clear-requires
     (λ c κs. search needs)
     returns-7
     write-reconstruction-requires

@@ -62,7 +62,7 @@ returns c =
     let n = c .before .before .before .before .before .before .before .before .leaf-count in
     front-tree (g .s) f (g .ch .now) (n .result) (g .n) (w .result) (w .last .1 .1 .0) (n .ensures .0) (p .1 .2) (p .1 .3) (w .ensures .0) (w .ensures .1)
     (g .opening .now) (g .iv)
-    (c .before .before .write-tree .last .1 .1 .1 .1 .1 .1 .0) (c .before .before .write-tree .ensures (g .s))
+    (c .before .before .write-tree .last .1 .1 .1 .1 .1 .1 .0) (c .before .before .write-tree .ensures (g .s) (p .1 .0))
 
 pub reconstruct-tree-spec : {M : Type 1} → statement M
 reconstruct-tree-spec =

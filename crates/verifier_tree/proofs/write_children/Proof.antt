@@ -1,17 +1,32 @@
 -- Node a is expanded, or its two children are written one after the other.
 use borrow.Author.Needs.{needs}
-use mathlib.Core.Path.{_≡_, ap, _∙_}
+use mathlib.Core.Path.{_≡_, refl, ap, ap₂, _∙_}
 use mathlib.Core.List.{List, _++_}
 use Prim.Native.Nat.{ℕ, _+_, _*_}
 use native.Mathlib.Omega.{arith}
 use lib.ListN.{take, drop}
+use Rattle.spec.specs.declared.Shape.{Shape}
 use Rattle.spec.specs.Bytes.{part}
+use Rattle.spec.specs.Shapes.{level, nodeBytes}
+use Rattle.spec.specs.Primitives.{faest}
+use Rattle.spec.specs.Leaves.{children}
 use Rattle.laws.proofs.Tests.{failed, passed}
 use Rattle.verifier_tree.specs.ByNodes.{atOrAfter, readWith}
 use Rattle.verifier_tree.proofs.Places.{node-passed, node-kept, children-kept}
 use Rattle.verifier_tree.proofs.Children.{other-reads, other-children, listed-reads, left-within, right-within, listed-children}
 use Rattle.verifier_tree.proofs.write_children.Statement.{statement}
 use Rattle.verifier_tree.proofs.write_children.Tie as tie
+
+-- where the children of node a begin and end
+first : (a : ℕ) → 16 * (2 * a + 1) ≡ 32 * a + 16
+first a = omega arith
+
+last : (a : ℕ) → 16 * (2 * a + 3) ≡ 32 * a + 48
+last a = omega arith
+
+at-128 : (s : Shape) → 16 ≡ nodeBytes s
+unfolding level nodeBytes
+at-128 s = refl
 
 returns : tie.Need-returns
 returns c =
@@ -25,7 +40,8 @@ returns c =
         p .2 .1 ∙ children-kept nodes (g .a) (p .0) (p .1) m,
         p .2 .2 ∙ other-reads nodes (g .slots .now) (g .n) (g .a) (p .1) (p .3) m,
       ),
-      λ s. c .before .before .expand-node .ensures s
+      λ s ok. c .before .before .expand-node .ensures s ok (at-128 s)
+          ∙ ap₂ (λ (m n : ℕ). take m d ++ (children faest s (g .iv) (g .a) (part d (16 * g .a) 16) ++ drop n d)) (first (g .a)) (last (g .a))
           ∙ ap (λ (y : List ℕ). take (32 * g .a + 16) d ++ (y ++ drop (32 * g .a + 48) d))
           (other-children nodes (g .slots .now) (g .n) (g .a) (p .1) (p .3) s (g .iv) (part d (16 * g .a) 16) m),
     )
@@ -73,7 +89,7 @@ returns-2 c =
             ∙ ap (readWith nodes (2 * g .a + 2)) (v .ensures .1 ∙ ap (readWith nodes (2 * g .a + 1)) (p .2 .2))
             ∙ listed-reads nodes (g .slots .now) (g .n) (g .a) (p .1) (p .3) m,
       ),
-      λ s.
+      λ s ok.
           listed-children nodes (g .slots .now) (g .n) (g .a) (p .1) (p .3) s (g .iv) (part (g .tree .now) (16 * g .a) 16) (g .p .read) (v .result .read) (g .tree .now)
           (v .last .1 .1 .1 .1 .1 .0) (w .last .1 .1 .1 .1 .1 .0) m (p .2 .2) (v .ensures .1) (p .4) (p .5) (v .ensures .2) (w .ensures .2),
     )

@@ -1,98 +1,137 @@
 -- The promises of its parts, with the hidden commitment of the opening in its place.
 use borrow.Author.Needs.{needs}
-use mathlib.Core.Path.{_≡_, ap, ap₂, _∙_, subst}
-use mathlib.Core.List.{List}
-use Prim.Native.Nat.{ℕ, _+_, _-_, _*_}
+use mathlib.Core.Path.{_≡_, refl, sym, ap, ap₂, _∙_}
+use mathlib.Core.List.{List, _++_}
+use Prim.Native.Nat.{ℕ, _+_, _*_}
+use native.Mathlib.Nat.{le-add-right}
 use native.Mathlib.Omega.{arith}
 use lib.Bits.{bitXor}
-use lib.ListN.{length}
+use lib.ListN.{length, take, drop}
 use Rattle.spec.specs.declared.Shape.{Shape}
-use Rattle.spec.specs.Bytes.{part, tabulate, concat, number}
+use Rattle.spec.specs.Bytes.{tabulate, concat}
 use Rattle.spec.specs.Hashes.{hash1}
-use Rattle.spec.specs.Shapes.{level, nodeBytes, leafCommitmentBytes, hashBytes, rate, depthOf, entriesOf}
+use Rattle.spec.specs.Shapes.{leafCommitmentBytes, rate, depthOf, entriesOf}
 use Rattle.spec.specs.Primitives.{faest}
-use Rattle.spec.specs.Leaves.{hashKey, leafKey, leafCommitment, vectorCommitments, vectorHash}
+use Rattle.spec.specs.Leaves.{leafKey, leafCommitment, vectorCommitments, vectorHash}
 use Rattle.spec.specs.Rows.{stretchByte, columnByte}
 use Rattle.spec.specs.Verifier.{verifierLeafCommitment}
 use Rattle.laws.proofs.Lists.{length-tabulate}
+use Rattle.laws.proofs.Concat.{mul-limit}
 use Rattle.planning_laws.proofs.ShapeFacts.{shape-facts}
-use Rattle.field.specs.Field.{p384, Multiples}
-use Rattle.vector.proofs.HashKeys.{h0-length}
+use Rattle.vector.proofs.HashKeys.{keys-length, key-of}
+use Rattle.vector.proofs.Buffers.{lent, block-end}
 use Rattle.verifier_vector.specs.Vector.{given}
 use Rattle.verifier_vector.proofs.Hidden.{hashed-whole}
 use Rattle.verifier_vector.proofs.convert.Statement.{statement}
 use Rattle.verifier_vector.proofs.convert.Tie as tie
 
-mul-multiples : tie.Need-mul-multiples
-mul-multiples c = (let f = shape-facts (c .before .before .before .before .before .before .args .s) (c .before .before .before .before .before .before .pre .1 .0 .0) in omega arith)
-
-mul-multiples-2 : tie.Need-mul-multiples-2
-mul-multiples-2 c = (let f = shape-facts (c .before .before .before .before .before .before .args .s) (c .before .before .before .before .before .before .pre .1 .0 .0) in omega arith)
-
-add-multiples : tie.Need-add-multiples
-add-multiples c = (let f = shape-facts (c .before .before .before .before .before .before .args .s) (c .before .before .before .before .before .before .pre .1 .0 .0) in omega arith)
-
-part-multiples-end : tie.Need-part-multiples-end
-part-multiples-end c =
-    let g = c .before .before .before .before .before .before .args in
-    let long : length (g .keys .now) ≡ 48 * g .s .tau = ap length (c .before .before .before .before .before .before .pre .1 .0 .4) ∙ h0-length (g .s) (g .iv) (48 * g .s .tau) in
+mul-key : tie.Need-mul-hash-multiples
+mul-key c =
+    let start = c .before .before .before .before .before .before .before .before in
+    let f = shape-facts (start .args .s) (start .pre .1 .0 .0) in
+    let w = c .before .commitment-bytes in
+    let m = mul-limit (w .result) (start .args .i) 96 32 (w .ensures .1) (omega arith) in
     omega arith
 
+mul-key-2 : tie.Need-mul-hash-multiples-2
+mul-key-2 c =
+    let start = c .before .before .before .before .before .before .before .before in
+    let f = shape-facts (start .args .s) (start .pre .1 .0 .0) in
+    let w = c .before .commitment-bytes in
+    let m = mul-limit (w .result) (start .args .i) 96 32 (w .ensures .1) (omega arith) in
+    omega arith
+
+add-key : tie.Need-add-hash-multiples
+add-key c =
+    let start = c .before .before .before .before .before .before .before .before in
+    let f = shape-facts (start .args .s) (start .pre .1 .0 .0) in
+    let w = c .before .commitment-bytes in
+    let m = mul-limit (w .result) (start .args .i) 96 32 (w .ensures .1) (omega arith) in
+    omega (arith, w .ensures .1)
+
+key-end : tie.Need-part-hash-multiples-end
+key-end c =
+    let start = c .before .before .before .before .before .before .before .before in
+    let w = c .before .commitment-bytes in
+    let l = keys-length (start .args .s) (start .args .iv) (start .args .keys .now) (start .pre .1 .0 .4) in
+    let all : w .result * start .args .s .tau ≡ leafCommitmentBytes (start .args .s) * start .args .s .tau = ap (λ (n : ℕ). n * start .args .s .tau) (w .ensures .0) in
+    block-end (w .result) (start .args .i) (start .args .s .tau) (length (start .args .keys .now)) (start .pre .1 .0 .1) (omega arith)
+
+hash-multiples-requires : tie.Need-hash-multiples-requires
+hash-multiples-requires c κs =
+    let start = c .before .before .before .before .before .before .before .before .before in
+    let w = c .before .before .commitment-bytes in
+    lent (w .result * start .args .i) _ (w .result) (start .args .keys .now) refl (key-end (c .before)) ∙ w .ensures .0
+
 add-visible-requires : tie.Need-add-visible-requires
-unfolding level nodeBytes leafCommitmentBytes hashKey
 add-visible-requires c κs =
-    let start = c .before .before .before .before .before .before .before .before .before .before .before in
+    let start = c .before .before .before .before .before .before .before .before .before .before .before .before .before in
     let g = start .args in
     let p = start .pre in
-    let at = 48 * g .i in
-    let one : at + 48 - at ≡ 48 = omega arith in
-    let key : part (g .keys .now) at (at + 48 - at) ≡ part (faest .h0 (g .s) (g .iv) (48 * g .s .tau)) at 48 = ap₂ (λ (x : List ℕ) (n : ℕ). part x at n) (p .1 .0 .4) one in
-    let made = c .before .before .before .multiples in (
+    let w = c .before .before .before .before .before .before .commitment-bytes in
+    let key = key-of (g .s) (g .iv) (g .keys .now) (p .1 .0 .4) (w .result) (g .i) (w .ensures .0) in (
       p .0,
       (
         (p .1 .0 .0, p .1 .0 .1, p .1 .0 .2, p .1 .0 .3, p .1 .0 .5),
-        ((p .1 .1 .0, p .1 .1 .1, p .1 .1 .2), subst (λ (x : List ℕ). Multiples 384 p384 (number 8 x) (made .result)) key (made .ensures)),
+        ((p .1 .1 .0, p .1 .1 .1, p .1 .1 .2), c .before .before .before .hash-multiples .ensures (g .iv) (g .i) key),
       ),
     )
 
--- a leaf commitment has 48 bytes
-own-size : (s : Shape) (iv tree : List ℕ) (i e : ℕ) → length (leafCommitment faest s iv i (leafKey s tree i e)) ≡ 48
-unfolding level nodeBytes leafCommitmentBytes leafCommitment
+hash-vector-requires : tie.Need-hash-vector-requires
+hash-vector-requires c κs =
+    let start = c .before .before .before .before .before .before .before .before .before .before .before .before .before .before .before .before .before .before .before .before in
+    let g = start .args in
+    let w = c .before .before .before .before .before .before .before .before .before .before .before .before .before .commitment-bytes in
+    let r = c .before .before .before .before .before .before .before .before .before .before .before .before .rate-bytes .ensures in
+    let n = entriesOf (g .s) (g .i) in
+    let long = c .before .before .before .before .before .before .add-visible .kept .1 .1 .1 .1 .1 .1 .1 .1 .1 .0 ∙ start .pre .1 .1 .1 in
+    let all : w .result * n ≡ leafCommitmentBytes (g .s) * n = ap (λ (m : ℕ). m * n) (w .ensures .0) in
+    (r .1, r .2, block-end (w .result) (g .d) n _ (start .pre .1 .0 .2) (omega arith))
+
+own-size : (s : Shape) (iv tree : List ℕ) (i e : ℕ) → length (leafCommitment faest s iv i (leafKey s tree i e)) ≡ leafCommitmentBytes s
+unfolding leafCommitment
 own-size s iv tree i e = rw length-tabulate
 
 returns : tie.Need-returns
-unfolding level nodeBytes hashBytes rate faest vectorCommitments vectorHash verifierLeafCommitment
+unfolding faest vectorCommitments vectorHash verifierLeafCommitment
 returns c ch opening hd hh =
-    let start = c .before .before .before .before .before .before .before .before .before .before .before .before .before .before .before .before .before .before .before .before .before in
+    let start = c .before .before .before .before .before .before .before .before .before .before .before .before .before .before .before .before .before .before .before .before .before .before .before in
     let g = start .args in
     let p = start .pre in
     let s = g .s in
     let x = g .tree .now in
     let n = entriesOf s (g .i) in
+    let w = c .before .before .before .before .before .before .before .before .before .before .before .before .before .before .before .before .commitment-bytes in
+    let rated = c .before .before .before .before .before .before .before .before .before .before .before .before .before .before .before .rate-bytes .ensures .0 in
     let made = c .before .before .before .before .before .before .before .before .before .add-visible in
     let lcs : List ℕ = made .last .1 .1 .1 .1 .1 .1 .1 .1 .1 .0 in
     let own : ℕ → List ℕ = λ e. leafCommitment faest s (g .iv) (g .i) (leafKey s x (g .i) e) in
     let leaves = made .ensures .0 ∙ ap₂ (λ (v : List ℕ) (m : ℕ). concat n (given v own m)) hh hd in
-    let message = hashed-whole (g .hidden .now) own (g .d) n lcs (p .1 .0 .2) (p .1 .1 .0) (own-size s (g .iv) x (g .i)) (made .ensures .0) in
+    let message = hashed-whole (w .result) (g .hidden .now) own (g .d) n lcs (p .1 .0 .2) (p .1 .1 .0 ∙ sym (w .ensures .0)) (λ e. own-size s (g .iv) x (g .i) e ∙ sym (w .ensures .0)) (made .ensures .0) in
     record {
       leaves = leaves;
       columns = made .ensures .1 ∙ ap (λ (m : ℕ). concat (depthOf s (g .i)) (λ j. tabulate (g .z .width) (columnByte s (stretchByte faest s (g .z) (g .iv) x) (λ e. bitXor e m) (g .i) j))) hd;
-      digest = c .before .before .hash-vector .ensures ∙ ap₂ (λ (v : List ℕ) (m : ℕ). hash1 168 v m) (message ∙ leaves) (p .1 .1 .3);
+      digest =
+          c .before .before .hash-vector .ensures
+          ∙ ap (λ (k : ℕ). hash1 k (take (w .result * g .d) lcs ++ (g .hidden .now ++ drop (w .result * g .d + w .result) lcs)) (length (g .hash .now))) rated
+          ∙ ap₂ (λ (v : List ℕ) (m : ℕ). hash1 (rate s) v m) (message ∙ leaves) (p .1 .1 .3);
     }
 
 pub convert-spec : {M : Type 1} → statement M
 convert-spec =
     tie.close
     (tie.spec
-    mul-multiples
-    mul-multiples-2
-    add-multiples
-    (λ c. search needs)
-    (λ c. search needs)
-    part-multiples-end
     (λ c κs. search needs)
+    (λ c κs. search needs)
+    mul-key
+    mul-key-2
+    add-key
+    (λ c. le-add-right _ _)
+    (λ c. le-add-right _ _)
+    key-end
+    hash-multiples-requires
     add-visible-requires
-    (λ c κs. search needs)
+    hash-vector-requires
     (λ c. search needs)
     (λ c. search needs)
     (λ c. search needs)

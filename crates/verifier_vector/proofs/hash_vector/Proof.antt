@@ -16,11 +16,11 @@ returns c =
     let g = c .before .before .before .before .before .before .before .before .before .before .before .before .before .args in
     let l = g .lcs .now in
     let hidden = g .hidden .now in
-    let at = 48 * g .d in
+    let at = g .w * g .d in
     let front : take (at - 0) l ≡ take at l = ap (λ (n : ℕ). take n l) (let z : at - 0 ≡ at = omega arith in z) in
-    let all = took-more (c .before .before .before .before .before .before .before .h1-absorb .ensures) (took-more (c .before .before .before .before .before .before .h1-absorb2 .ensures) (c .before .before .before .before .h1-absorb3 .ensures)) in
-    c .before .before .h1-finish .ensures _ (all .holds [] (c .before .before .before .before .before .before .before .before .before .h1-start .ensures))
-    ∙ ap₂ (λ (x y : List ℕ). hash1 168 (x ++ (hidden ++ y)) (length (g .hash .now))) front (to-the-end l (at + 48))
+    let all = took-more (c .before .before .before .before .before .before .before .absorb .ensures) (took-more (c .before .before .before .before .before .before .absorb2 .ensures) (c .before .before .before .before .absorb3 .ensures)) in
+    c .before .before .h1-finish .ensures _ (all .holds [] (c .before .before .before .before .before .before .before .before .before .new .ensures .0 (g .r) (omega arith)))
+    ∙ ap₂ (λ (x y : List ℕ). hash1 (g .r) (x ++ (hidden ++ y)) (length (g .hash .now))) front (to-the-end l (at + g .w))
 
 pub hash-vector-spec : {M : Type 1} → statement M
 hash-vector-spec =

@@ -7,7 +7,7 @@ use native.Mathlib.Nat.{le-refl}
 use native.Mathlib.Omega.{arith}
 use lib.ListN.{length, take}
 use Rattle.spec.specs.Bytes.{zeros}
-use Rattle.spec.specs.Shapes.{firstEntry}
+use Rattle.spec.specs.Shapes.{leafCommitmentBytes, hashBytes, firstEntry}
 use Rattle.spec.specs.Primitives.{faest}
 use Rattle.spec.specs.Leaves.{vectorCommitments, leafCommitments, vectorHash}
 use Rattle.spec.specs.Rows.{matrixOf}
@@ -43,10 +43,10 @@ returns c =
     let long = each .kept .1 .1 .1 .1 .1 .1 .1 .1 .1 .1 .0 ∙ p .1 in
     let rest : length q - c .before .before .before .before .columns-from .result ≡ g .z .width * s .w = (let k = all-columns s ok (g .z .width) in omega arith) in
     let lc : ℕ → ℕ → List ℕ = verifierLeafCommitment faest s (g .iv) (g .ch .now) (g .opening .now) (g .tree .now) in (
-      put-all (vectorCommitments s lc) (48 * firstEntry s (s .tau)) (s .tau) _ (each .kept .1 .1 .1 .1 .1 .1 .1 .1 .1 .0 ∙ p .0 ∙ sym (all-commitments s ok)) (made .leaves),
+      put-all (vectorCommitments s lc) (leafCommitmentBytes s * firstEntry s (s .tau)) (s .tau) _ (each .kept .1 .1 .1 .1 .1 .1 .1 .1 .1 .0 ∙ p .0 ∙ sym (all-commitments s ok)) (made .leaves),
       (
         c .before .before .clear-from .ensures ∙ ap₂ (λ (x : List ℕ) (n : ℕ). x ++ zeros n) (ap (λ (n : ℕ). take n q) used ∙ made .columns) rest,
-        put-all (vectorHash faest s lc) (32 * s .tau) (s .tau) _ (each .kept .1 .1 .1 .1 .1 .1 .1 .1 .1 .1 .1 .0 ∙ p .2) (made .digests),
+        put-all (vectorHash faest s lc) (hashBytes s * s .tau) (s .tau) _ (each .kept .1 .1 .1 .1 .1 .1 .1 .1 .1 .1 .1 .0 ∙ p .2) (made .digests),
       ),
     )
 

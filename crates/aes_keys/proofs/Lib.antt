@@ -1,0 +1,2 @@
+-- Laws of the key schedule as the code computes it.
+pub mod KeyExpansion

@@ -1,0 +1,2 @@
+-- Known answers of the field.
+pub mod KnownAnswers

@@ -1,0 +1,2 @@
+-- The definitions that the contracts of the fields cite at every width.
+pub mod Multiples

@@ -1,0 +1,3 @@
+-- The known answers.
+pub mod Aes
+pub mod Shake256
