@@ -1,4 +1,4 @@
-/* check_record: whether signing records bind. docs/TOOLS.md has its page. */
+/* check_record: whether signing records are accepted. docs/TOOLS.md has its page. */
 #include <rachnoel.h>
 
 #include <errno.h>

@@ -18,7 +18,7 @@ static const char help[] =
     "SET        128f, 128s, zeros (four zeros in the record, which stand for 128f), or TAU,K,W,T\n"
     "ROWBITS    the row length, 1680 where it is not given\n"
     "ROOT, IV   32 hexadecimal digits, byte 0 first; 00 01 .. 0f and 10 11 .. 1f where they are not given\n"
-    "CHALLENGE  likewise; where it is not given, the first of a fixed row of challenges that the set allows\n"
+    "CHALLENGE  likewise; where it is not given, the first of a fixed list of challenges that the set allows\n"
     "\n"
     "Exit status: 0 the record is written, 1 a call refused (its number is said), 2 wrong usage, or no output.\n";
 

@@ -48,7 +48,7 @@ enum {
     RACHNOEL_RECORD_MOST = 263778 /* no record has more bytes */
 };
 
-/* stack in bytes, for any call at any shape; the deepest that was measured, 9,368 of reconstruct_stretch, is at most seven eighths of it */
+/* stack in bytes, for any call at any shape; the deepest that was measured, 12,248 of reconstruct_stretch, is at most seven eighths of it */
 enum { RACHNOEL_STACK = 16 * 1024 };
 
 typedef struct rachnoel_lengths {

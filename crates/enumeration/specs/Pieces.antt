@@ -1,4 +1,4 @@
--- The output in pieces, since it has up to 2.5 million bytes: 1,024 lines in each, fewer where no more are left, and behind them the last line; or the refusal. Each piece is
+-- The output in pieces, since it has up to 2.4 million bytes: 1,024 lines in each, fewer where no more are left, and behind them the last line; or the refusal. Each piece is
 -- made of the reading of the input and of its number alone.
 use Prim.Native.Nat.{ℕ, _+_, _-_, _*_, _/_, _^_, _≤_, min}
 use mathlib.Core.Path.{_≡_}

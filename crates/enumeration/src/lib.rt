@@ -83,7 +83,7 @@ fn challenge_at(x: usize) -> [u8; 16]
     challenge
 }
 
-// The node count of a challenge. The nodes themselves find no room.
+// The node count of a challenge. The list has room for one node, and is not read.
 fn count_of(s: Shape, challenge: [u8; 16]) -> usize
     requires { ⌜ shapeOk s ≡ true ⌝ }
     ensures { λ r. ⌜ (r ≡ plannedCount s challenge) × (r < 40960) ⌝ }

@@ -21,7 +21,7 @@ pub record EachOnce (s : Shape) : Type 0 where
   pub found : (ch : List ℕ) → IsChallenge s ch → grindingOk s ch ≡ true → (x : ℕ) × (x < 2 ^ openBits s) × (challengeAt s x ≡ ch)
   pub once : (x y : ℕ) → x < 2 ^ openBits s → y < 2 ^ openBits s → challengeAt s x ≡ challengeAt s y → x ≡ y
 
--- the index of vector i is digit i of the line's number, where digit i counts the entries of vector i, and digit 0 is the lowest
+-- the index of vector i is digit i of the line's number, where digit i ranges over the entries of vector i, and digit 0 is the lowest
 abbrev pub MixedRadix : Shape → Type 0
 MixedRadix s = (x i : ℕ) → x < 2 ^ openBits s → hiddenIndex s (challengeAt s x) i ≡ x / 2 ^ firstBit s i % entriesOf s i
 

@@ -56,7 +56,7 @@ sameBytes [] (y ∷ ys) = false
 sameBytes (x ∷ xs) [] = false
 sameBytes (x ∷ xs) (y ∷ ys) = eqb x y && sameBytes xs ys
 
--- what is tested behind reading: the work buffers, by their lengths, then what reconstruct tests, then the comparison
+-- what is tested behind reading and before the comparison: the work buffers, by their lengths, then what reconstruct tests
 abbrev pub workTests : Contents → List (ℕ × ℕ) → List (Bool × ℕ)
 workTests c lengths =
     let s = resolved (c .shape) in
