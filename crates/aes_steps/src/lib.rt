@@ -1,4 +1,4 @@
-// The S-box, words and the state's steps of AES-128, FIPS 197, that take no key. A state is its four columns of four bytes, by value. The table of the S-box is
+// The S-box, words and the state's steps of AES, FIPS 197, that take no key. A state is its four columns of four bytes, by value. The table of the S-box is
 // made once, by `table`, and lent to every step, since each mention of a constant array builds it anew.
 ghost use mathlib.Core.Path.{_≡_};
 ghost use Prim.Native.Nat.{_<_};
