@@ -86,7 +86,7 @@ fn challenge_at(x: usize) -> [u8; 16]
 // The node count of a challenge. The list has room for one node, and is not read.
 fn count_of(s: Shape, challenge: [u8; 16]) -> usize
     requires { ⌜ shapeOk s ≡ true ⌝ }
-    ensures { λ r. ⌜ (r ≡ plannedCount s challenge) × (r < 40960) ⌝ }
+    ensures { λ r. ⌜ (r ≡ plannedCount s challenge) × (r < 86016) ⌝ }
 {
     let mut none = [0u32; 1];
     planning::revealed_nodes(s, &challenge, &mut none)

@@ -1,5 +1,5 @@
 -- What the listing prints of a plan: a refusal depends on the lent list only by its length, and of a plan that is let through at most 512 nodes are listed,
--- each below 81,920. By cases on the tests of plan, and by induction on the nodes that reveal.
+-- each below 172,032. By cases on the tests of plan, and by induction on the nodes that reveal.
 use Prim.Native.Nat.{ℕ, zero, suc, _+_, _*_, _≤_, _<_}
 use mathlib.Core.Path.{_≡_, refl, sym, ap, _∙_}
 use mathlib.Core.Bool.{Bool, true, false}
@@ -50,9 +50,9 @@ number-same s ch xs size = go (shapeOk s) refl
 
 -- ---- the nodes
 
-planned-lt : (s : Shape) (ch : List ℕ) → shapeOk s ≡ true → (m : ℕ) → getD (planned s ch) m 0 < 81920
+planned-lt : (s : Shape) (ch : List ℕ) → shapeOk s ≡ true → (m : ℕ) → getD (planned s ch) m 0 < 172032
 unfolding planned revealed
-planned-lt s ch e = revealed-below _ _ 81920 (omega (arith, leaves-max s (shape-facts s e)))
+planned-lt s ch e = revealed-below _ _ 172032 (omega (arith, leaves-max s (shape-facts s e)))
 
 -- ---- a plan of the shape s as given, lent the list xs, which is ys afterwards
 
@@ -61,7 +61,7 @@ pub record Listed (s : Shape) (ch ys : List ℕ) (r : Answer) : Type 0 where
   pub size : length (planned (resolved s) ch) ≡ r .count
   pub most : r .count ≤ 512
   pub front : (rest : List ℕ) → take (r .count) (ys ++ rest) ≡ planned (resolved s) ch
-  pub small : (m : ℕ) → getD (planned (resolved s) ch) m 0 < 81920
+  pub small : (m : ℕ) → getD (planned (resolved s) ch) m 0 < 172032
   pub text : nodesText (planned (resolved s) ch) (length (planned (resolved s) ch)) ≡ planText (resolved s) ch
 
 pub record Printed (s : Shape) (ch ys : List ℕ) (r : Answer) : Type 0 where

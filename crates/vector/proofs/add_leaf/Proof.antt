@@ -18,7 +18,7 @@ use Rattle.vector.proofs.add_leaf.Tie as tie
 mul-a : tie.Need-mul-a
 mul-a c =
     let n = c .before .node-bytes in
-    let m = mul-limit (n .result) (c .leaf-of .result) 32 81920 (n .ensures .2) (omega (arith, c .leaf-of .ensures .3)) in
+    let m = mul-limit (n .result) (c .leaf-of .result) 32 172032 (n .ensures .2) (omega (arith, c .leaf-of .ensures .3)) in
     omega arith
 
 leaf-tweak-requires : tie.Need-leaf-tweak-requires
@@ -31,7 +31,7 @@ add-leaf : tie.Need-add-commit-leaf
 add-leaf c =
     let n = c .before .before .before .node-bytes in
     let l = c .before .before .leaf-of in
-    let m = mul-limit (n .result) (l .result) 32 81920 (n .ensures .2) (omega (arith, l .ensures .3)) in
+    let m = mul-limit (n .result) (l .result) 32 172032 (n .ensures .2) (omega (arith, l .ensures .3)) in
     omega (arith, n .ensures .2)
 
 leaf-end : tie.Need-part-commit-leaf-end
