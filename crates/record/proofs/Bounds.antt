@@ -1,12 +1,12 @@
 -- The numbers that a head and its fields have room for. By the shape rules and the row rule.
-use Prim.Native.Nat.{ℕ, _-_, _*_, _/_, _%_, _≤_}
+use Prim.Native.Nat.{ℕ, _-_, _*_, _/_, _%_, _≤_, _<_}
 use mathlib.Core.Path.{_≡_, refl, ap}
 use mathlib.Core.Bool.{Bool, true, false, _&&_, cond}
 use mathlib.Core.List.{[], _∷_}
 use native.Mathlib.Omega.{arith}
 use native.Mathlib.Nat.{mul-le-mul}
 use lib.Dec.{eqb, leb}
-use borrow.Author.Tests.{eqb-true, leb-true}
+use borrow.Author.Tests.{eqb-true, leb-true, ne-eqb}
 use Rattle.spec.specs.declared.Shape.{Shape}
 use Rattle.spec.specs.Bytes.{allZero}
 use Rattle.spec.specs.Shapes.{faest128f, resolved, level, nodeBytes, leafCommitmentBytes, shapeOk, openingBytes, correctionsBytes}
@@ -24,6 +24,24 @@ head-small version = go (eqb version 1) (eqb version 2)
     go true b = omega arith
     go false true = omega arith
     go false false = omega arith
+
+-- a head has nine bytes at least, and in a version other than 1 the level behind them
+pub head-nine : (version : ℕ) → 0 < headBytes version → 9 ≤ headBytes version
+unfolding headBytes
+head-nine version = go (eqb version 1) (eqb version 2)
+  where
+    go : (a b : Bool) → 0 < cond a 9 (cond b 10 0) → 9 ≤ cond a 9 (cond b 10 0)
+    go true b h = omega arith
+    go false true h = omega arith
+    go false false h = omega arith
+
+pub head-level : (version : ℕ) → (version ≡ 1 → ⊥) → 0 < headBytes version → 10 ≤ headBytes version
+unfolding headBytes
+head-level version n = rw (ne-eqb version 1 n) (go (eqb version 2))
+  where
+    go : (b : Bool) → 0 < cond b 10 0 → 10 ≤ cond b 10 0
+    go true h = omega arith
+    go false h = omega arith
 
 -- the numbers of a shape as given, which is resolved to an allowed one
 pub record Small (s : Shape) : Type 0 where
