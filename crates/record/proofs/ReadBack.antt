@@ -84,6 +84,10 @@ version-known : (s : Shape) → ltb 0 (headBytes (versionFor s)) ≡ true
 unfolding versionFor headBytes
 version-known s = refl
 
+pub version-resolved : (s : Shape) → versionFor (resolved s) ≡ versionFor s
+unfolding versionFor
+version-resolved s = refl
+
 shape-back : (s : Shape) (n : ℕ) → s .t < 65536 → s .level ≡ 8 * (s .level / 8) → shapeIn (versionFor s) (headFor s n) ≡ s
 unfolding headFor versionFor shapeIn
 shape-back s n h e =
