@@ -2,15 +2,16 @@
 use borrow.Author.Needs.{needs}
 use mathlib.Core.Path.{_≡_, sym, ap, ap₂, _∙_}
 use mathlib.Core.List.{List, _++_, append-nil}
-use Prim.Native.Nat.{ℕ, _+_, _%_}
+use Prim.Native.Nat.{ℕ, _+_, _-_, _%_}
 use native.Mathlib.Nat.{zero-add}
 use native.Mathlib.Omega.{arith}
 use lib.ListN.{length, take, drop}
 use lib.Seq.{drop-length}
 use Rattle.laws.proofs.Lists.{tabulate-from-0}
 use Rattle.planning_laws.proofs.ShapeFacts.{shape-facts, widths}
+use Rattle.spec.specs.declared.Shape.{Shape}
 use Rattle.spec.specs.Bytes.{tabulate}
-use Rattle.spec.specs.Shapes.{nodeBytes, leafCommitmentBytes, keyWords, fieldWidth, fieldPolynomial}
+use Rattle.spec.specs.Shapes.{nodeBytes, leafCommitmentBytes, keyWords, fieldWidth, fieldPolynomial, leaves}
 use Rattle.spec.specs.Generator.{generatorByte}
 use Rattle.spec.specs.LeafHash.{leafHashByte}
 use Rattle.spec.specs.Primitives.{faest, prg}
@@ -19,9 +20,33 @@ use Rattle.leaf.specs.HashKeys.{HashMultiples}
 use Rattle.leaf.proofs.stretch_leaf.Statement.{statement}
 use Rattle.leaf.proofs.stretch_leaf.Tie as tie
 
--- a buffer that was written whole
-over : (n : ℕ) (d y : List ℕ) → length d ≡ n → y ++ drop (0 + n) d ≡ y
-over n d y h = ap (λ (m : ℕ). y ++ drop m d) (zero-add n ∙ sym h) ∙ ap (λ (l : List ℕ). y ++ l) (drop-length d) ∙ append-nil y
+-- what `fill` writes, with the tweak of the leaves of vector i
+filled : (s : Shape) (key iv : List ℕ) (i t m : ℕ) (x : List ℕ) → t ≡ i + leaves s - 1 → m ≡ nodeBytes s + leafCommitmentBytes s
+    → x ≡ tabulate m (λ p. generatorByte (keyWords s) key iv t (0 + p)) → x ≡ stretched faest s iv i key
+unfolding faest prg stretched
+filled s key iv i t m x et em e =
+    e
+    ∙ ap₂ (λ (m t : ℕ). tabulate m (λ p. generatorByte (keyWords s) key iv t (0 + p))) em et
+    ∙ tabulate-from-0 (nodeBytes s + leafCommitmentBytes s) (generatorByte (keyWords s) key iv (i + leaves s - 1))
+
+-- the seed's buffer, written whole
+seed : (s : Shape) (key iv : List ℕ) (i n : ℕ) (x d y : List ℕ) → x ≡ stretched faest s iv i key → n ≡ nodeBytes s → length d ≡ nodeBytes s → y ≡ take n x ++ drop (0 + n) d
+    → y ≡ leafSeed faest s iv i key
+unfolding leafSeed
+seed s key iv i n x d y ex en ed e =
+    e
+    ∙ ap (λ (m : ℕ). take n x ++ drop m d) (zero-add n ∙ en ∙ sym ed)
+    ∙ ap (λ (l : List ℕ). take n x ++ l) (drop-length d)
+    ∙ append-nil (take n x)
+    ∙ ap₂ take en ex
+
+commitment : (s : Shape) (key iv : List ℕ) (i : ℕ) (x y : List ℕ) → x ≡ stretched faest s iv i key
+    → y ≡ tabulate (leafCommitmentBytes s) (leafHashByte (fieldWidth s) (fieldPolynomial s) (hashKey faest s iv i) (take (nodeBytes s) x) (drop (nodeBytes s) x))
+    → y ≡ leafCommitment faest s iv i key
+unfolding faest leafSeed leafCommitment
+commitment s key iv i x y ex e =
+    e
+    ∙ ap (λ (l : List ℕ). tabulate (leafCommitmentBytes s) (leafHashByte (fieldWidth s) (fieldPolynomial s) (hashKey faest s iv i) (take (nodeBytes s) l) (drop (nodeBytes s) l))) ex
 
 fill-requires : tie.Need-fill-requires
 fill-requires c κs =
@@ -31,23 +56,18 @@ fill-requires c κs =
     (start .pre .0, (omega (arith, w .node-min), omega (arith, w .node-max), ap (λ (n : ℕ). n % 8) (p .1) ∙ w .node-eight, omega (arith, w .node-max, w .commitment-max)))
 
 returns : tie.Need-returns
-unfolding faest prg stretched leafSeed leafCommitment HashMultiples
+unfolding HashMultiples
 returns c = λ i tweak multiples.
     let start = c .before .before .before .before .before .before .before .before .before .before .before .before .before .before .before .before .before .before .before in
-    let args = start .args in
-    let s = args .s in
+    let g = start .args in
     let p = start .pre .1 in
-    let n = c .before .before .before .before .before .before .before .before .before .before .before .before .before .before .node-bytes .ensures .0 in
-    let nk = keyWords s in
-    let words = p .1 ∙ widths s (shape-facts s (p .0)) .node-words in
-    let filled =
-    c .before .before .before .before .before .before .before .before .before .before .before .before .fill .ensures nk words
-    ∙ ap₂ (λ (m t : ℕ). tabulate m (λ p. generatorByte nk (args .key .now) (args .iv) t (0 + p))) (p .2) tweak
-    ∙ tabulate-from-0 (nodeBytes s + leafCommitmentBytes s) (generatorByte nk (args .key .now) (args .iv) _) in
-    let u = hashKey faest s (args .iv) i in (
-      c .before .before .copy-part .ensures ∙ over _ (args .seed .now) _ (p .3 ∙ sym n) ∙ ap₂ take n filled,
-      c .before .before .before .before .before .before .before .leaf-hash .ensures u multiples
-      ∙ ap (λ (l : List ℕ). tabulate (leafCommitmentBytes s) (leafHashByte (fieldWidth s) (fieldPolynomial s) u (take (nodeBytes s) l) (drop (nodeBytes s) l))) filled,
+    let n = c .before .before .before .before .before .before .before .before .before .before .before .before .before .before .node-bytes in
+    let call = c .before .before .before .before .before .before .before .before .before .before .before .before .fill in
+    let words = p .1 ∙ widths (g .s) (shape-facts (g .s) (p .0)) .node-words in
+    let x = call .last .1 .1 .1 .1 .1 .0 in
+    let e = filled (g .s) (g .key .now) (g .iv) i (g .tweak) (length (g .stretched .now)) x tweak (p .2) (call .ensures (keyWords (g .s)) words) in (
+      seed (g .s) (g .key .now) (g .iv) i (n .result) x (g .seed .now) _ e (n .ensures .0) (p .3) (c .before .before .copy-part .ensures),
+      commitment (g .s) (g .key .now) (g .iv) i x _ e (c .before .before .before .before .before .before .before .leaf-hash .ensures (hashKey faest (g .s) (g .iv) i) multiples),
     )
 
 pub stretch-leaf-spec : {M : Type 1} → statement M
