@@ -123,11 +123,20 @@ versionFor s = 2
 unfoldable pub headFor : Shape → ℕ → List ℕ
 headFor s n = (s .tau ∷ s .k ∷ s .w ∷ bigEndianBytes 2 (s .t)) ++ (bigEndianBytes 4 n ++ ((s .level / 8) ∷ []))
 
+-- fields two to six
+abbrev pub restOf : Contents → List ℕ
+restOf c = fieldOf (c .iv) ++ (fieldOf (c .challenge) ++ (fieldOf (c .corrections) ++ (fieldOf (c .opening) ++ fieldOf (c .commitment))))
+
 unfoldable pub recordOf : Contents → List ℕ
-recordOf c =
-    versionFor (c .shape)
-    ∷ (fieldOf (headFor (c .shape) (c .row))
-    ++ (fieldOf (c .iv) ++ (fieldOf (c .challenge) ++ (fieldOf (c .corrections) ++ (fieldOf (c .opening) ++ fieldOf (c .commitment))))))
+recordOf c = versionFor (c .shape) ∷ (fieldOf (headFor (c .shape) (c .row)) ++ restOf c)
 
 unfoldable pub recordBytes : Shape → ℕ → ℕ
 recordBytes s b = recordEnd (headBytes (versionFor s)) s b
+
+-- ---- the record of version 1, which is read and not written: its head has no level
+
+unfoldable pub headOfVersion1 : Shape → ℕ → List ℕ
+headOfVersion1 s n = (s .tau ∷ s .k ∷ s .w ∷ bigEndianBytes 2 (s .t)) ++ bigEndianBytes 4 n
+
+unfoldable pub recordOfVersion1 : Contents → List ℕ
+recordOfVersion1 c = 1 ∷ (fieldOf (headOfVersion1 (c .shape) (c .row)) ++ restOf c)
