@@ -13,9 +13,9 @@ use lib.ListN.{length, length-append}
 use borrow.Author.Tests.{eq-eqb, ne-eqb}
 use Rattle.spec.specs.declared.Shape.{Shape}
 use Rattle.spec.specs.declared.Stretch.{Stretch}
-use Rattle.spec.specs.Bytes.{part, tabulate, zeros, indexOf}
+use Rattle.spec.specs.Bytes.{part, zeros, indexOf}
 use Rattle.spec.specs.Tree.{covered, nodeCount, expandTree}
-use Rattle.spec.specs.Shapes.{ordinary, nodeBytes, leafCommitmentBytes, entriesOf, leaves, leafOf, hiddenIndex, hiddenLeaves, planned, plannedCount, treeBytes, leafCommitmentsBytes}
+use Rattle.spec.specs.Shapes.{nodeBytes, leafCommitmentBytes, entriesOf, leaves, leafOf, hiddenIndex, hiddenLeaves, planned, plannedCount, treeBytes, leafCommitmentsBytes}
 use Rattle.spec.specs.Primitives.{Primitives, prg}
 use Rattle.spec.specs.Leaves.{nodeAt, leafKey, children, leafSeed, leafCommitment, vectorCommitments, leafCommitments, vectorHash, commitmentOf}
 use Rattle.spec.specs.Rows.{rowByte, stretchByte}
@@ -29,6 +29,7 @@ use Rattle.planning_laws.proofs.Covered.{covered-leaf, covered-inner, root-hidd
 use Rattle.planning_laws.proofs.Revealed.{left-revealed, right-revealed}
 use Rattle.planning_laws.proofs.HiddenLeaves.{hidden-count, hidden-leaves}
 use Rattle.planning_laws.proofs.ExpandTree.{expand-length, expand-front, expand-left, expand-right}
+use Rattle.planning_laws.proofs.LeafCommitments.{commitment-length}
 use Rattle.planning_laws.proofs.ShapeLaws.{ShapeLaws, hidden-at}
 use Rattle.theorems.proofs.Buffers.{commitments-length, commitments-at, opening-hidden, opening-slot}
 
@@ -46,11 +47,6 @@ leaf-uncovered s f ch i j h l d =
     let g : m < s .tau = (let z = hidden-count s ch in omega arith) in
     let q = f .leaf-one i j m (hiddenIndex s ch m) h l g (f .hidden-in ch m) (e ∙ hidden-at s ch m g) in
     d (q .1 ∙ ap (hiddenIndex s ch) (sym (q .0))))
-
--- of either kind of leaf commitment, n bytes
-by-kind : (o : Bool) (n : ℕ) (f g : ℕ → ℕ) → length (cond o (tabulate n f) (tabulate n g)) ≡ n
-by-kind true n f g = length-tabulate n f
-by-kind false n f g = length-tabulate n g
 
 module _ (P : Primitives) (s : Shape) (f : ShapeLaws s) (root iv : List ℕ) (root-long : length root ≡ nodeBytes s) where
   abbrev Tree : List ℕ
@@ -70,8 +66,7 @@ module _ (P : Primitives) (s : Shape) (f : ShapeLaws s) (root iv : List ℕ) (ro
       ∙ ap (λ (n : ℕ). nodeBytes s * n) (let p = f .leaves-pos in let z : 2 * (leaves s - 1) + 1 ≡ 2 * leaves s - 1 = omega arith in z)
 
   commitment-long : (i : ℕ) (key : List ℕ) → length (leafCommitment P s iv i key) ≡ leafCommitmentBytes s
-  unfolding leafCommitment prg
-  commitment-long i key = by-kind (ordinary s) (leafCommitmentBytes s) _ _
+  commitment-long = commitment-length P s iv
 
   signer-long : (i j : ℕ) → i < s .tau → j < entriesOf s i → length (signerLeafCommitment P s iv Tree i j) ≡ leafCommitmentBytes s
   unfolding signerLeafCommitment
