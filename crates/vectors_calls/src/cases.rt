@@ -31,7 +31,7 @@ fn commit_case(
     s: Shape,
     rows: Rows,
     l: Lengths,
-    root: &[u8],
+    root: &[u8; 32],
     iv: &[u8; 16],
     commitment: &mut [u8; 64],
     tree: &mut [u8; 1310704],
@@ -40,11 +40,12 @@ fn commit_case(
     v: &mut [u8; 1048576],
     corrections: &mut [u8; 253952],
 ) -> Answer {
+    let n = test_support::lengths::challenge(s);
     let r = call_commit(
         s,
         rows,
         l,
-        root,
+        front(root, n),
         iv,
         commitment,
         tree,
@@ -65,13 +66,14 @@ fn commit_case(
 fn open_case(
     s: Shape,
     l: Lengths,
-    challenge: &[u8],
+    challenge: &[u8; 32],
     tree: &[u8; 1310704],
     leaf_commitments: &[u8; 1966080],
     opening: &mut [u8; 19456],
     at: usize,
 ) -> Answer {
-    let r = call_open(s, l, challenge, tree, leaf_commitments, opening);
+    let n = test_support::lengths::challenge(s);
+    let r = call_open(s, l, front(challenge, n), tree, leaf_commitments, opening);
     print_answer(r);
     if r.number == 0 {
         print_buffer(b"opening ", opening, l.opening);
@@ -88,7 +90,7 @@ fn reconstruct_case(
     rows: Rows,
     l: Lengths,
     iv: &[u8; 16],
-    challenge: &[u8],
+    challenge: &[u8; 32],
     corrections: &[u8; 253952],
     opening: &[u8; 19456],
     commitment: &mut [u8; 64],
@@ -96,12 +98,13 @@ fn reconstruct_case(
     leaf_commitments: &mut [u8; 1966080],
     q: &mut [u8; 1048576],
 ) {
+    let n = test_support::lengths::challenge(s);
     let r = call_reconstruct(
         s,
         rows,
         l,
         iv,
-        challenge,
+        front(challenge, n),
         corrections,
         opening,
         commitment,
@@ -122,7 +125,6 @@ pub fn run_case(s: Shape, rows: Rows, known: usize, challenge: [u8; 32], at: usi
     let key = root(known / 10);
     let iv = numbered(known % 10);
     let l = test_support::lengths::of(s, rows);
-    let n = test_support::lengths::challenge(s);
     let mut commitment = [0xa5u8; 64];
     let mut tree = [0xa5u8; 1310704];
     let mut leaf_commitments = [0xa5u8; 1966080];
@@ -134,7 +136,7 @@ pub fn run_case(s: Shape, rows: Rows, known: usize, challenge: [u8; 32], at: usi
         s,
         rows,
         l,
-        front(&key, n),
+        &key,
         &iv,
         &mut commitment,
         &mut tree,
@@ -148,15 +150,7 @@ pub fn run_case(s: Shape, rows: Rows, known: usize, challenge: [u8; 32], at: usi
         print_answer(made);
         return;
     }
-    let opened = open_case(
-        s,
-        l,
-        front(&challenge, n),
-        &tree,
-        &leaf_commitments,
-        &mut opening,
-        at,
-    );
+    let opened = open_case(s, l, &challenge, &tree, &leaf_commitments, &mut opening, at);
     if opened.number != 0 {
         print_answer(opened);
         return;
@@ -166,7 +160,7 @@ pub fn run_case(s: Shape, rows: Rows, known: usize, challenge: [u8; 32], at: usi
         rows,
         l,
         &iv,
-        front(&challenge, n),
+        &challenge,
         &corrections,
         &opening,
         &mut commitment,

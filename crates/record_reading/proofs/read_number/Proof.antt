@@ -39,4 +39,16 @@ returns-4 c =
     (passed (re .rest-ok .ensures) (c .before .before .if2 .left)) (c .if3 .left ∙ c .before .record-end .ensures .0))
 
 pub read-number-spec : {M : Type 1} → statement M
-read-number-spec = tie.close (tie.spec (λ c κs. search needs) returns (λ c κs. search needs) (λ c κs. search needs) (λ c κs. search needs) (λ c κs. search needs) returns-2 (λ c κs. search needs) returns-3 returns-4)
+read-number-spec =
+    tie.close
+    (tie.spec
+    (λ c κs. search needs)
+    returns
+    (λ c κs. search needs)
+    (λ c κs. search needs)
+    (λ c κs. search needs)
+    (λ c κs. search needs)
+    returns-2
+    (λ c κs. search needs)
+    returns-3
+    returns-4)
