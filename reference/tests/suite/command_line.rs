@@ -360,7 +360,8 @@ fn levels() {
         }
     }
     for level in ["0", "127", "160", "384", "18446744073709551615"] {
-        for shape in ["2 2 124 4", "0 0 0 0"] {
+        // The third adds up to 160, the fourth to 384.
+        for shape in ["2 2 124 4", "0 0 0 0", "4 9 124 36", "32 12 0 512"] {
             let refused = (0, "number 1\ncount 0\n".into());
             let args = format!("{shape} {level} 0 8 {ROOT} {ROOT} {CHALLENGE_0C}");
             for command in ["open", "reconstruct", "roundtrip", "record", "pairs"] {
