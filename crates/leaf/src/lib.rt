@@ -27,7 +27,7 @@ pub fn hash_multiples(s: Shape, key: &[u8]) -> [[u64; 12]; 16]
     leaf_hash::multiples(s, key)
 }
 
-// The seed and the commitment of the leaf `key` of vector i, with room for the leaf stretched lent.
+// The seed and the commitment of the leaf `key` of vector i, with room for the stretched leaf lent; m has the multiples of the vector's hash key.
 fn stretch_leaf(
     t: &[u8; 256],
     m: &[[u64; 12]; 16],
@@ -50,7 +50,7 @@ fn stretch_leaf(
     buffers::copy_part(stretched, 0, n, seed, 0);
 }
 
-// The same; m has the multiples of the vector's hash key.
+// The same, with room of its own.
 pub fn commit_leaf(
     t: &[u8; 256],
     m: &[[u64; 12]; 16],
