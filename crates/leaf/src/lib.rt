@@ -40,7 +40,7 @@ pub fn hash_multiples(s: Shape, key: &[u8]) -> [[u64; 12]; 16]
     [[0u64; 12]; 16]
 }
 
-// The seed and the commitment of the ordinary leaf `key` of vector i, with room for the leaf stretched lent.
+// The seed and the commitment of the ordinary leaf `key` of vector i, with room for the stretched leaf lent; m has the multiples of the vector's hash key.
 fn stretch_leaf(
     t: &[u8; 256],
     m: &[[u64; 12]; 16],
