@@ -1,6 +1,6 @@
 -- The hash keys of all vectors: as H0 gives them, or none; their length, and the key of one vector. By the definitions.
 use Prim.Native.Nat.{ℕ, _+_, _-_, _*_}
-use mathlib.Core.Path.{_≡_, sym, ap, ap₂, _∙_}
+use mathlib.Core.Path.{_≡_, sym, ap, ap₂, subst, _∙_}
 use mathlib.Core.Bool.{true, false, true≢false}
 use mathlib.Core.List.{List}
 use native.Mathlib.Omega.{arith}
@@ -27,6 +27,10 @@ keys-made s iv keys r n er en e =
 
 pub keys-none : (s : Shape) (iv keys : List ℕ) → ordinary s ≡ false → length keys ≡ leafCommitmentBytes s * s .tau → HashKeys s iv keys
 keys-none s iv keys o l = record { size = l; made = λ p. absurd (true≢false (sym p ∙ o)) }
+
+-- of an IV that is another by name
+pub keys-same : (s : Shape) (iv iv′ keys : List ℕ) → iv ≡ iv′ → HashKeys s iv′ keys → HashKeys s iv keys
+keys-same s iv iv′ keys e h = subst (λ (x : List ℕ). HashKeys s x keys) (sym e) h
 
 -- the key of vector i; w is the length of a hash key
 pub key-of : (s : Shape) (iv keys : List ℕ) → HashKeys s iv keys → (w i : ℕ) → w ≡ leafCommitmentBytes s → ordinary s ≡ true

@@ -1,14 +1,14 @@
 -- Each buffer by what its callee ensures.
 use borrow.Author.Needs.{needs}
 use Prim.Native.Nat.{ℕ}
-use mathlib.Core.Path.{sym, ap, ap₂, subst, _∙_}
+use mathlib.Core.Path.{ap, ap₂, _∙_}
 use mathlib.Core.List.{List}
 use lib.ListN.{length}
 use Rattle.spec.specs.Hashes.{hash1}
 use Rattle.spec.specs.Shapes.{rate}
 use Rattle.spec.specs.Primitives.{faest}
 use Rattle.spec.specs.Leaves.{commitmentOf}
-use Rattle.leaf.specs.HashKeys.{HashKeys}
+use Rattle.leaf.proofs.Keys.{keys-same}
 use Rattle.spec.specs.Calls.{reconstructed}
 use Rattle.reconstruction.proofs.Written.{reconstruct-writes}
 use Rattle.reconstruction.proofs.write_all.Statement.{statement}
@@ -28,7 +28,7 @@ write-vectors-requires c κs =
     let p = start .pre .0 in
     let q = start .pre .1 .0 in
     let o = start .pre .1 .1 in
-    let keys = subst (λ (i : List ℕ). HashKeys (g .s) i _) (sym (c .before .before .before .before .before .before .before .before .before .before .before .before .before .before .before .load-iv .ensures)) (c .before .before .before .before .before .before .before .before .before .before .before .before .before .hash-keys .ensures) in
+    let keys = keys-same (g .s) _ _ _ (c .before .before .before .before .before .before .before .before .before .before .before .before .before .before .before .load-iv .ensures) (c .before .before .before .before .before .before .before .before .before .before .before .before .before .hash-keys .ensures) in
     (c .before .before .before .before .before .before .before .before .before .before .before .before .before .before .before .before .table .ensures, ((p .0, p .1, keys, q .1, c .before .before .before .before .before .before .before .before .reconstruct-tree .kept .1 .1 .1 .1 .1 .1 .0 ∙ o .1, q .2, q .3), (o .2, o .3, p .5)))
 
 returns : tie.Need-returns

@@ -1,14 +1,14 @@
 -- Each buffer by what its callee ensures.
 use borrow.Author.Needs.{needs}
 use Prim.Native.Nat.{ℕ}
-use mathlib.Core.Path.{sym, ap, ap₂, subst, _∙_}
+use mathlib.Core.Path.{ap, ap₂, _∙_}
 use mathlib.Core.List.{List}
 use lib.ListN.{length}
 use Rattle.spec.specs.Hashes.{hash1}
 use Rattle.spec.specs.Shapes.{rate}
 use Rattle.spec.specs.Primitives.{faest}
 use Rattle.spec.specs.Leaves.{commitmentOf}
-use Rattle.leaf.specs.HashKeys.{HashKeys}
+use Rattle.leaf.proofs.Keys.{keys-same}
 use Rattle.spec.specs.Calls.{committed}
 use Rattle.signer_commit.proofs.Answers.{commit-writes}
 use Rattle.signer_commit.proofs.write_all.Statement.{statement}
@@ -23,7 +23,7 @@ write-vectors-requires c κs =
     let g = start .args in
     let p = start .pre .0 in
     let q = start .pre .1 in
-    let keys = subst (λ (i : List ℕ). HashKeys (g .s) i _) (sym (c .before .before .before .before .before .before .before .before .before .before .before .before .before .before .before .before .before .load-iv .ensures)) (c .before .before .before .before .before .before .before .before .before .before .before .before .before .before .before .hash-keys .ensures) in
+    let keys = keys-same (g .s) _ _ _ (c .before .before .before .before .before .before .before .before .before .before .before .before .before .before .before .before .before .load-iv .ensures) (c .before .before .before .before .before .before .before .before .before .before .before .before .before .before .before .hash-keys .ensures) in
     (c .before .before .before .before .before .before .before .before .before .before .before .before .before .before .before .before .before .before .table .ensures, ((p .0, p .1, keys, c .before .before .before .before .before .before .before .before .before .before .grow .kept .1 .1 .1 .1 .0 ∙ q .1), (q .2, q .3, q .4, q .5, p .5)))
 
 returns : tie.Need-returns
