@@ -35,7 +35,6 @@ static void try(shape s)
     if (n.leaves == 0)
         return;
     shapes++;
-    challenge[n.node - 1] = 0;
     for (size_t more = 0; more < 2; more++) {
         number = rachnoel_decode(NUMBERS(s), challenge, n.node, list, n.indices + more, count, sizeof count);
         expect(number == (more ? RACHNOEL_BUFFER : 0), "the indices", s);
@@ -46,6 +45,7 @@ static void try(shape s)
     if (grinding_bits(s) > 0)
         for (int longer = 0; longer <= 7; longer++)
             expect(reconstruct(s, &n, longer) == (longer ? RACHNOEL_BUFFER : RACHNOEL_GRINDING), "the buffers of reconstruct", s);
+    challenge[n.node - 1] = 0;
 }
 
 int main(void)

@@ -1,4 +1,4 @@
--- The entries of the vectors are at most 40,960.
+-- The entries of the vectors are at most 86,016.
 use Prim.Native.Nat.{ℕ, _+_, _*_, _^_, _≤_, _<_, min}
 use mathlib.Core.Path.{_≡_, ap, _∙_}
 use native.Mathlib.Omega.{arith}
