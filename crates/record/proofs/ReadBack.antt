@@ -375,10 +375,19 @@ module _ (rec : List ℕ) (ok : readNumber rec ≡ 0) where
   pub read-shape : shapeOk (resolved (contentsOf rec .shape)) ≡ true
   read-shape = both-true _ (kindFits v (Said .shape .kind)) read-said .0
 
-  read-kind : v ≡ 3 → Said .shape .kind ≡ 1
-  read-kind e =
-      let fitting = both-true (shapeOk r) (kindFits v (Said .shape .kind)) read-said .1 in
-      eqb-true (Said .shape .kind) 1 (sym (ap (λ (a : Bool). cond a (eqb (Said .shape .kind) 1) true) (eq-eqb v 3 e)) ∙ fitting)
+  kind-0 : eqb v 3 ≡ false → Said .shape .kind ≡ 0
+  unfolding contentsOf shapeIn
+  kind-0 e = ap (λ (a : Bool). cond a (getD (headOf rec) 10 0) 0) e
+
+  -- the version says the kind
+  pub read-kind : contentsOf rec .shape .kind ≡ cond (eqb (versionOf rec) 3) 1 0
+  read-kind = go (eqb v 3) refl
+    where
+      go : (a : Bool) → eqb v 3 ≡ a → Said .shape .kind ≡ cond a 1 0
+      go true e =
+          let fitting = both-true (shapeOk r) (kindFits v (Said .shape .kind)) read-said .1 in
+          eqb-true (Said .shape .kind) 1 (sym (ap (λ (a : Bool). cond a (eqb (Said .shape .kind) 1) true) e) ∙ fitting)
+      go false e = kind-0 e
 
   pub read-row : rowOk (contentsOf rec .row) ≡ true
   read-row = tests .1 .1 .1 .0
@@ -451,6 +460,6 @@ module _ (rec : List ℕ) (ok : readNumber rec ≡ 0) where
       go false false true e f g =
           let three = eqb-true v 3 g in
           let eleven : m ≡ 11 = rw three refl in
-          let one = read-kind three in
+          let one = read-kind ∙ ap (λ (a : Bool). cond a 1 0) g in
           by-version 3 three (rw (ap (λ (k : ℕ). eqb k 0) one) refl) (third-only v (headOf rec) three one (long ∙ eleven) digits)
       go false false false e f g = absurd (true≢false (sym read-version ∙ rw (e, f, g) refl))

@@ -65,7 +65,7 @@ pub fn field_at(bytes: &[u8], at: usize, n: usize) -> &[u8]
 // ---- versions
 
 // The bytes of the head of a version, 0 where the version is not known.
-fn head_length(version: u8) -> usize
+pub fn head_length(version: u8) -> usize
     ensures { λ r. ⌜ (r ≡ headBytes version) × (r ≤ 11) ⌝ }
 {
     if version == 1 {
