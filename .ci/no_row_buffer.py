@@ -54,7 +54,7 @@ BESIDE_ROWS = {'[u8; 256]', '[[[u8; 4]; 4]; 15]', '[[[u8; 4]; 4]; 8]', '[[[u8; 4
 # who calls what makes blocks
 CALLERS = {
     'rows::add_row': {'vector::add_leaf'},
-    'generator::fill': {'leaf::stretch_leaf'},
+    'generator::fill': {'leaf::stretch_leaf', 'leaf::em_leaf'},
     'generator::fill_keyed': {'tree::expand_node', 'generator::fill'},
     'generator::block': {'rows::add_row'},
     'generator::block_pair': {'rows::add_row', 'generator::fill_keyed'},
