@@ -111,6 +111,16 @@ restTests rec =
 unfoldable pub headNumber : List ℕ → ℕ
 headNumber rec = firstRefusal (headTests rec)
 
+-- reading without the end: the fields are there, and bytes may stand behind the sixth, which ends at `endOf`
+abbrev pub fieldsTests : List ℕ → List (Bool × ℕ)
+fieldsTests rec = headTests rec ++ ((restOk (headBytes (versionOf rec)) (resolved (contentsOf rec .shape)) (contentsOf rec .row / 8) rec, 10) ∷ [])
+
+unfoldable pub fieldsNumber : List ℕ → ℕ
+fieldsNumber rec = firstRefusal (fieldsTests rec)
+
+abbrev pub endOf : List ℕ → ℕ
+endOf rec = recordEnd (headBytes (versionOf rec)) (resolved (contentsOf rec .shape)) (contentsOf rec .row / 8)
+
 unfoldable pub readNumber : List ℕ → ℕ
 readNumber rec = firstRefusal (headTests rec ++ restTests rec)
 
