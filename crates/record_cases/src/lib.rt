@@ -74,7 +74,13 @@ pub fn record(
     c1: u64,
 ) {
     run_case(
-        Shape { tau, k, w, t },
+        Shape {
+            tau,
+            k,
+            w,
+            t,
+            level: 128,
+        },
         row_bits,
         known,
         words(c0, c1),
@@ -94,7 +100,13 @@ pub fn prefixes(
     c1: u64,
 ) {
     run_case(
-        Shape { tau, k, w, t },
+        Shape {
+            tau,
+            k,
+            w,
+            t,
+            level: 128,
+        },
         row_bits,
         known,
         words(c0, c1),
@@ -114,7 +126,13 @@ pub fn flips(
     c1: u64,
 ) {
     run_case(
-        Shape { tau, k, w, t },
+        Shape {
+            tau,
+            k,
+            w,
+            t,
+            level: 128,
+        },
         row_bits,
         known,
         words(c0, c1),
@@ -134,7 +152,13 @@ pub fn pairs(
     c1: u64,
 ) {
     run_case(
-        Shape { tau, k, w, t },
+        Shape {
+            tau,
+            k,
+            w,
+            t,
+            level: 128,
+        },
         row_bits,
         known,
         words(c0, c1),

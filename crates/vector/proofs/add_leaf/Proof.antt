@@ -51,7 +51,7 @@ commit-leaf-requires c κs =
     let n = c .before .before .before .before .before .before .node-bytes in
     let a = n .result * c .before .before .before .before .before .leaf-of .result in
     let p = start .pre .1 .1 .0 in
-    (start .pre .0, (lent a (a + n .result) (n .result) (start .args .tree .now) refl (leaf-end (c .before .before .before)) ∙ n .ensures .0, p .0, p .1))
+    (start .pre .0, (start .pre .1 .0 .0, lent a (a + n .result) (n .result) (start .args .tree .now) refl (leaf-end (c .before .before .before)) ∙ n .ensures .0, p .0, p .1))
 
 add-add-row : tie.Need-add-add-row
 add-add-row c =

@@ -1,4 +1,4 @@
--- No leaf commitment has more than 96 bytes, and no tree more than 40,960 leaves.
+-- No leaf commitment has more than 96 bytes, and no tree more than 86,016 leaves.
 use Prim.Native.Nat.{_*_}
 use mathlib.Core.Path.{ap₂}
 use native.Mathlib.Omega.{arith}
