@@ -11,7 +11,7 @@ use Rattle.spec.specs.Shapes.{resolved, shapeOk}
 use Rattle.spec.specs.Calls.{firstRefusal}
 use Rattle.rules.proofs.RowLength.{row-max}
 use Rattle.record.specs.Fields.{fieldOk}
-use Rattle.record.specs.Record.{versionOf, headBytes, versionOk, headOf, restOk, contentsOf, headTests, fieldsTests, headNumber, fieldsNumber, endOf, readNumber}
+use Rattle.record.specs.Record.{versionOf, headBytes, versionOk, headOf, restOk, contentsOf, headTests, fieldsTest, fieldsTests, headNumber, fieldsNumber, endOf, readNumber}
 use Rattle.laws.proofs.Refusals.{Numbered, Passed, none-failed, all-passed, then}
 use Rattle.record.proofs.Bounds.{head-nine}
 use Rattle.record.proofs.Fields.{field-length}
@@ -29,10 +29,6 @@ module _ (rec : List ℕ) (known : versionOk rec ≡ true) (there : fieldOk rec 
 
   pub head-numbers : 9 ≤ length (headOf rec)
   head-numbers = rw head-long (head-nine (versionOf rec) head-bytes)
-
--- the test of the fields behind the head
-abbrev rest : List ℕ → List (Bool × ℕ)
-rest rec = (restOk (headBytes (versionOf rec)) (resolved (contentsOf rec .shape)) (contentsOf rec .row / 8) rec, 10) ∷ []
 
 module _ (rec : List ℕ) where
   numbered : Numbered (headTests rec)
@@ -56,16 +52,16 @@ module _ (rec : List ℕ) where
     pub front-row : contentsOf rec .row / 8 ≤ 8192
     front-row = row-max (contentsOf rec .row) (tests .1 .1 .1 .0)
 
-    rest-decides : fieldsNumber rec ≡ firstRefusal (rest rec)
+    rest-decides : fieldsNumber rec ≡ firstRefusal (fieldsTest rec ∷ [])
     unfolding headNumber fieldsNumber
-    rest-decides = then (headTests rec) (rest rec) numbered ∙ ap (λ (k : ℕ). cond (eqb k 0) (firstRefusal (rest rec)) k) ok
+    rest-decides = then (headTests rec) (fieldsTest rec ∷ []) numbered ∙ ap (λ (k : ℕ). cond (eqb k 0) (firstRefusal (fieldsTest rec ∷ [])) k) ok
 
   -- the front is refused
   pub front-decides : (headNumber rec ≡ 0 → ⊥) → fieldsNumber rec ≡ headNumber rec
   unfolding headNumber fieldsNumber
   front-decides bad =
-      then (headTests rec) (rest rec) numbered
-      ∙ ap (λ (a : Bool). cond a (firstRefusal (rest rec)) (headNumber rec)) (ne-eqb (headNumber rec) 0 bad)
+      then (headTests rec) (fieldsTest rec ∷ []) numbered
+      ∙ ap (λ (a : Bool). cond a (firstRefusal (fieldsTest rec ∷ [])) (headNumber rec)) (ne-eqb (headNumber rec) 0 bad)
 
   -- the fields are there, so the front is read
   pub fields-front : fieldsNumber rec ≡ 0 → headNumber rec ≡ 0
