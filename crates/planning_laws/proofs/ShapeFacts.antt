@@ -2,7 +2,8 @@
 -- conjunction of the rules apart.
 use Prim.Native.Nat.{ℕ, zero, suc, _+_, _-_, _*_, _/_, _%_, _^_, _≤_, _<_}
 use mathlib.Core.Path.{_≡_, refl, sym, ap, ap₂, subst, _∙_}
-use mathlib.Core.Bool.{Bool, true, false, _&&_, _||_, true≢false}
+use mathlib.Core.Bool.{Bool, true, false, _&&_, _||_, cond, true≢false}
+use mathlib.Core.List.{[], _∷_}
 use native.Mathlib.Omega.{arith}
 use native.Mathlib.Nat.{mul-le-mul}
 use native.Mathlib.Decide.{decLt}
@@ -10,7 +11,8 @@ use lib.Dec.{eqb, leb, ltb}
 use lib.Pow.{pow-mono, pow-pos}
 use borrow.Author.Tests.{leb-true, ltb-true, eqb-true, le-leb, lt-ltb, le-ltb, eq-eqb, ne-eqb}
 use Rattle.spec.specs.declared.Shape.{Shape}
-use Rattle.spec.specs.Shapes.{level, nodeBytes, challengeBytes, leafCommitmentBytes, hashBytes, keyWords, deeper, depthOf, entriesOf, firstBit, leaves, levelOk, shapeOk}
+use Rattle.spec.specs.Bytes.{allZero}
+use Rattle.spec.specs.Shapes.{faest128f, resolved, level, nodeBytes, challengeBytes, leafCommitmentBytes, hashBytes, keyWords, deeper, depthOf, entriesOf, firstBit, leaves, levelOk, shapeOk}
 use Rattle.laws.proofs.Conjunctions.{refuted}
 use Rattle.laws.proofs.Segments.{segment-before}
 use Rattle.planning_laws.proofs.Depths.{depth-range, depth-deep, depth-flat, bit-next, leaves-split}
@@ -177,29 +179,44 @@ none-deeper r k h d = go (decLt 0 r)
     go (yes p) = absurd (let z = d p in omega arith)
     go (no p) = omega arith
 
--- the largest tree has 21 vectors of depth 12
-leaves-bound : (tau r k : ℕ) → tau ≤ 32 → k ≤ 12 → (0 < r → k < 12) → r < tau → tau * k + r ≤ 256 → (tau + r) * 2 ^ k ≤ 86016
-leaves-bound tau r zero a b d c e = omega arith
-leaves-bound tau r (suc zero) a b d c e = omega arith
-leaves-bound tau r (suc (suc zero)) a b d c e = omega arith
-leaves-bound tau r (suc (suc (suc zero))) a b d c e = omega arith
-leaves-bound tau r (suc (suc (suc (suc zero)))) a b d c e = omega arith
-leaves-bound tau r (suc (suc (suc (suc (suc zero))))) a b d c e = omega arith
-leaves-bound tau r (suc (suc (suc (suc (suc (suc zero)))))) a b d c e = omega arith
-leaves-bound tau r (suc (suc (suc (suc (suc (suc (suc zero))))))) a b d c e = omega arith
-leaves-bound tau r (suc (suc (suc (suc (suc (suc (suc (suc zero)))))))) a b d c e = omega arith
-leaves-bound tau r (suc (suc (suc (suc (suc (suc (suc (suc (suc zero))))))))) a b d c e = omega arith
-leaves-bound tau r (suc (suc (suc (suc (suc (suc (suc (suc (suc (suc zero)))))))))) a b d c e = omega arith
-leaves-bound tau r (suc (suc (suc (suc (suc (suc (suc (suc (suc (suc (suc zero))))))))))) a b d c e = omega arith
-leaves-bound tau r (suc (suc (suc (suc (suc (suc (suc (suc (suc (suc (suc (suc zero)))))))))))) a b d c e =
-    (let z = none-deeper r 12 (omega arith) d in omega arith)
-leaves-bound tau r (suc (suc (suc (suc (suc (suc (suc (suc (suc (suc (suc (suc (suc k))))))))))))) a b d c e = absurd (omega arith)
+-- a vector of depth 12 has most leaves for its bits; the largest tree has 21 of them
+leaves-bound : (tau r k : ℕ) → tau ≤ 32 → 1 ≤ k → k ≤ 12 → (0 < r → k < 12) → r < tau
+    → (3 * ((tau + r) * 2 ^ k) ≤ 1024 * (tau * k + r)) × (tau * k + r ≤ 256 → (tau + r) * 2 ^ k ≤ 86016)
+leaves-bound tau r zero a p b d e = absurd (omega arith)
+leaves-bound tau r (suc zero) a p b d e = (omega arith, λ c. omega arith)
+leaves-bound tau r (suc (suc zero)) a p b d e = (omega arith, λ c. omega arith)
+leaves-bound tau r (suc (suc (suc zero))) a p b d e = (omega arith, λ c. omega arith)
+leaves-bound tau r (suc (suc (suc (suc zero)))) a p b d e = (omega arith, λ c. omega arith)
+leaves-bound tau r (suc (suc (suc (suc (suc zero))))) a p b d e = (omega arith, λ c. omega arith)
+leaves-bound tau r (suc (suc (suc (suc (suc (suc zero)))))) a p b d e = (omega arith, λ c. omega arith)
+leaves-bound tau r (suc (suc (suc (suc (suc (suc (suc zero))))))) a p b d e = (omega arith, λ c. omega arith)
+leaves-bound tau r (suc (suc (suc (suc (suc (suc (suc (suc zero)))))))) a p b d e = (omega arith, λ c. omega arith)
+leaves-bound tau r (suc (suc (suc (suc (suc (suc (suc (suc (suc zero))))))))) a p b d e = (omega arith, λ c. omega arith)
+leaves-bound tau r (suc (suc (suc (suc (suc (suc (suc (suc (suc (suc zero)))))))))) a p b d e = (omega arith, λ c. omega arith)
+leaves-bound tau r (suc (suc (suc (suc (suc (suc (suc (suc (suc (suc (suc zero))))))))))) a p b d e = (omega arith, λ c. omega arith)
+leaves-bound tau r (suc (suc (suc (suc (suc (suc (suc (suc (suc (suc (suc (suc zero)))))))))))) a p b d e = (let z = none-deeper r 12 (omega arith) d in (omega arith, λ c. omega arith))
+leaves-bound tau r (suc (suc (suc (suc (suc (suc (suc (suc (suc (suc (suc (suc (suc k))))))))))))) a p b d e = absurd (omega arith)
+
+leaves-bounds : (s : Shape) → ShapeFacts s → (3 * leaves s ≤ 1024 * (s .tau * s .k + deeper s)) × (s .tau * s .k + deeper s ≤ 256 → leaves s ≤ 86016)
+unfolding leaves
+leaves-bounds s f =
+    leaves-bound (s .tau) (deeper s) (s .k) (f .tau-max) (f .k-pos) (f .k-max) (λ h. let d = depth-deep s 0 h in omega (arith, f .depth-max)) (f .few)
 
 pub leaves-max : (s : Shape) → ShapeFacts s → leaves s ≤ 86016
-unfolding leaves
-leaves-max s f =
-    leaves-bound (s .tau) (deeper s) (s .k) (f .tau-max) (f .k-max) (λ h. let d = depth-deep s 0 h in omega (arith, f .depth-max)) (f .few)
-    (let w = widths s f in omega (arith, f .total))
+leaves-max s f = (let w = widths s f in leaves-bounds s f .1 (omega (arith, f .total)))
+
+pub leaves-level : (s : Shape) → ShapeFacts s → 3 * leaves s ≤ 1024 * level s
+leaves-level s f = (let b = leaves-bounds s f .0 in omega (arith, f .total))
+
+-- the default has level 128, and is put for no other
+pub resolved-level : (s : Shape) → resolved s .level ≡ s .level
+unfolding resolved faest128f
+resolved-level s = go (allZero (s .tau ∷ s .k ∷ s .w ∷ s .t ∷ [])) (eqb (s .level) 128) refl
+  where
+    go : (a b : Bool) → eqb (s .level) 128 ≡ b → cond (a && b) faest128f s .level ≡ s .level
+    go false b e = refl
+    go true false e = refl
+    go true true e = sym (eqb-true (s .level) 128 e)
 
 pub leaves-pos : (s : Shape) → ShapeFacts s → 1 ≤ leaves s
 leaves-pos s f =

@@ -10,4 +10,11 @@ unfolding correctionsPlace
 returns c = (omega arith, omega arith)
 
 pub corrections-place-spec : {M : Type 1} → statement M
-corrections-place-spec = tie.close (tie.spec (λ c κs. search needs) (λ c. search needs) (λ c κs. search needs) (λ c. search needs) returns)
+corrections-place-spec =
+    tie.close
+    (tie.spec
+    (λ c κs. search needs)
+    (λ c. search needs)
+    (λ c κs. search needs)
+    (λ c. search needs)
+    returns)

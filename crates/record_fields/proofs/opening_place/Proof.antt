@@ -10,4 +10,11 @@ unfolding openingPlace
 returns c = (omega arith, omega arith)
 
 pub opening-place-spec : {M : Type 1} → statement M
-opening-place-spec = tie.close (tie.spec (λ c κs. search needs) (λ c. search needs) (λ c κs. search needs) (λ c. search needs) returns)
+opening-place-spec =
+    tie.close
+    (tie.spec
+    (λ c κs. search needs)
+    (λ c. search needs)
+    (λ c κs. search needs)
+    (λ c. search needs)
+    returns)

@@ -10,4 +10,11 @@ unfolding recordEnd
 returns c = (omega arith, omega arith)
 
 pub record-end-spec : {M : Type 1} → statement M
-record-end-spec = tie.close (tie.spec (λ c κs. search needs) (λ c. search needs) (λ c κs. search needs) (λ c. search needs) returns)
+record-end-spec =
+    tie.close
+    (tie.spec
+    (λ c κs. search needs)
+    (λ c. search needs)
+    (λ c κs. search needs)
+    (λ c. search needs)
+    returns)

@@ -20,4 +20,15 @@ unfolding shapeIn
 returns c = cc
 
 pub shape-in-spec : {M : Type 1} → statement M
-shape-in-spec = tie.close (tie.spec (λ c. search needs) (λ c κs. search needs) second (λ c κs. search needs) third (λ c κs. search needs) two (λ c κs. search needs) returns)
+shape-in-spec =
+    tie.close
+    (tie.spec
+    (λ c. search needs)
+    (λ c κs. search needs)
+    second
+    (λ c κs. search needs)
+    third
+    (λ c κs. search needs)
+    two
+    (λ c κs. search needs)
+    returns)

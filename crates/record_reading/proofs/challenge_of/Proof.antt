@@ -17,4 +17,12 @@ unfolding contentsOf
 returns c = cc
 
 pub challenge-of-spec : {M : Type 1} → statement M
-challenge-of-spec = tie.close (tie.spec (λ c κs. search needs) (λ c κs. read-front _ (c .before .before .pre)) (λ c κs. search needs) (λ c κs. search needs) field-of-requires returns)
+challenge-of-spec =
+    tie.close
+    (tie.spec
+    (λ c κs. search needs)
+    (λ c κs. read-front _ (c .before .before .pre))
+    (λ c κs. search needs)
+    (λ c κs. search needs)
+    field-of-requires
+    returns)

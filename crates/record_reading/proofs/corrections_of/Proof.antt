@@ -23,4 +23,13 @@ unfolding contentsOf
 returns c = cc
 
 pub corrections-of-spec : {M : Type 1} → statement M
-corrections-of-spec = tie.close (tie.spec (λ c κs. search needs) (λ c κs. read-front _ (c .before .before .pre)) (λ c κs. read-front _ (c .before .before .before .pre)) (λ c κs. search needs) (λ c κs. search needs) field-of-requires returns)
+corrections-of-spec =
+    tie.close
+    (tie.spec
+    (λ c κs. search needs)
+    (λ c κs. read-front _ (c .before .before .pre))
+    (λ c κs. read-front _ (c .before .before .before .pre))
+    (λ c κs. search needs)
+    (λ c κs. search needs)
+    field-of-requires
+    returns)

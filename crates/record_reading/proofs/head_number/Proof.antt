@@ -77,4 +77,19 @@ returns-5 c =
     refl
 
 pub head-number-spec : {M : Type 1} → statement M
-head-number-spec = tie.close (tie.spec (λ c κs. search needs) returns (λ c κs. search needs) (λ c κs. search needs) returns-2 shape-of-requires (λ c κs. search needs) (λ c κs. search needs) returns-3 row-of-requires (λ c κs. search needs) returns-4 returns-5)
+head-number-spec =
+    tie.close
+    (tie.spec
+    (λ c κs. search needs)
+    returns
+    (λ c κs. search needs)
+    (λ c κs. search needs)
+    returns-2
+    shape-of-requires
+    (λ c κs. search needs)
+    (λ c κs. search needs)
+    returns-3
+    row-of-requires
+    (λ c κs. search needs)
+    returns-4
+    returns-5)

@@ -23,4 +23,13 @@ unfolding contentsOf
 returns c = cc
 
 pub opening-of-spec : {M : Type 1} → statement M
-opening-of-spec = tie.close (tie.spec (λ c κs. search needs) (λ c κs. read-front _ (c .before .before .pre)) (λ c κs. read-front _ (c .before .before .before .pre)) (λ c κs. search needs) (λ c κs. search needs) field-of-requires returns)
+opening-of-spec =
+    tie.close
+    (tie.spec
+    (λ c κs. search needs)
+    (λ c κs. read-front _ (c .before .before .pre))
+    (λ c κs. read-front _ (c .before .before .before .pre))
+    (λ c κs. search needs)
+    (λ c κs. search needs)
+    field-of-requires
+    returns)

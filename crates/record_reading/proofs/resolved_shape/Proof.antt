@@ -12,4 +12,9 @@ returns c =
     (e, ap shapeOk e ∙ front-shape _ (c .before .before .before .pre))
 
 pub resolved-shape-spec : {M : Type 1} → statement M
-resolved-shape-spec = tie.close (tie.spec (λ c κs. (front-version _ (c .before .pre), front-head _ (c .before .pre))) (λ c κs. search needs) returns)
+resolved-shape-spec =
+    tie.close
+    (tie.spec
+    (λ c κs. (front-version _ (c .before .pre), front-head _ (c .before .pre)))
+    (λ c κs. search needs)
+    returns)

@@ -20,4 +20,13 @@ returns c =
     )
 
 pub put-front-spec : {M : Type 1} → statement M
-put-front-spec = tie.close (tie.spec (λ c κs. search needs) (λ c κs. search needs) (λ c κs. search needs) (λ c. search needs) put-field-requires (λ c. search needs) returns)
+put-front-spec =
+    tie.close
+    (tie.spec
+    (λ c κs. search needs)
+    (λ c κs. search needs)
+    (λ c κs. search needs)
+    (λ c. search needs)
+    put-field-requires
+    (λ c. search needs)
+    returns)

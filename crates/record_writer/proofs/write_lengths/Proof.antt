@@ -7,4 +7,12 @@ returns : tie.Need-returns
 returns c = cc
 
 pub write-lengths-spec : {M : Type 1} → statement M
-write-lengths-spec = tie.close (tie.spec (λ c κs. search needs) (λ c κs. search needs) (λ c κs. search needs) (λ c κs. search needs) (λ c κs. search needs) returns)
+write-lengths-spec =
+    tie.close
+    (tie.spec
+    (λ c κs. search needs)
+    (λ c κs. search needs)
+    (λ c κs. search needs)
+    (λ c κs. search needs)
+    (λ c κs. search needs)
+    returns)
