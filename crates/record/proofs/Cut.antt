@@ -21,6 +21,13 @@ pub end-least : (h : ℕ) (s : Shape) (b : ℕ) → 41 ≤ recordEnd h s b
 unfolding correctionsPlace openingPlace commitmentPlace recordEnd
 end-least h s b = omega arith
 
+-- a record that is read has its fields
+pub read-fields : (rec : List ℕ) → readNumber rec ≡ 0 → fieldsNumber rec ≡ 0
+unfolding readNumber fieldsNumber
+read-fields rec ok =
+    let q = none-failed (headTests rec ++ restTests rec) (refl, (refl, (refl, (refl, (refl, (refl, tt)))))) ok in
+    all-passed (fieldsTests rec) (q .0, (q .1 .0, (q .1 .1 .0, (q .1 .1 .1 .0, (q .1 .1 .1 .1 .0, tt)))))
+
 module _ (rec : List ℕ) (ok : fieldsNumber rec ≡ 0) where
   abbrev v : ℕ
   v = versionOf rec

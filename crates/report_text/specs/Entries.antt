@@ -7,20 +7,18 @@ use lib.ListN.{length, drop}
 use Rattle.spec.specs.Shapes.{resolved, grindingOk, plannedCount}
 use Rattle.spec.specs.Verifier.{slotsOk}
 use Rattle.spec.specs.Calls.{firstRefusal, nodesOk, written}
-use Rattle.record.specs.Record.{contentsOf, fieldsTests, endOf}
+use Rattle.record.specs.Record.{Contents, contentsOf, fieldsTests, endOf}
 use Rattle.report_text.specs.declared.Entry.{Entry}
+
+-- what an opening is tested for
+abbrev pub openingTests : Contents → List (Bool × ℕ)
+openingTests c =
+    let s = resolved (c .shape) in
+    (grindingOk s (c .challenge), 4) ∷ (nodesOk s (c .challenge), 5) ∷ (slotsOk s (c .challenge) (c .opening), 6) ∷ []
 
 -- E6's tests of the record that begins a string, without 3 and 11, and without the end: what stands behind the sixth field begins the next record
 unfoldable pub entryNumber : List ℕ → ℕ
-entryNumber xs =
-    let c = contentsOf xs in
-    let s = resolved (c .shape) in
-    firstRefusal
-    (fieldsTests xs
-    ++ ((grindingOk s (c .challenge), 4)
-    ∷ (nodesOk s (c .challenge), 5)
-    ∷ (slotsOk s (c .challenge) (c .opening), 6)
-    ∷ []))
+entryNumber xs = firstRefusal (fieldsTests xs ++ openingTests (contentsOf xs))
 
 -- 9, 10, 1 and 2 stop the reading: 1 and 2 come from field one alone
 abbrev pub stops : ℕ → Bool
