@@ -80,7 +80,7 @@ within (suc n) (x ∷ xs) h =
     let rest = drop (entryOf (x ∷ xs) .bytes) (x ∷ xs) in
     let b = bounds (x ∷ xs) .some (omega arith) in
     let d = length-drop (entryOf (x ∷ xs) .bytes) (x ∷ xs) in
-    subst (Consecutive (x ∷ xs)) (sym (entries-next x xs))
+    subst (Consecutive (x ∷ xs)) (sym (entries-next (x ∷ xs) (omega arith)))
     (consecutive (x ∷ xs) (entries rest) (omega arith) (within n rest (omega arith)) (λ z. ap entries (stopped (x ∷ xs) z)))
 
 pub claims : Claims

@@ -195,9 +195,10 @@ pub stopped : (xs : List ℕ) → stops (entryOf xs .number) ≡ true → drop (
 unfolding entryOf
 stopped xs h = rw h (drop-length xs)
 
-pub entries-next : (x : ℕ) (xs : List ℕ) → entries (x ∷ xs) ≡ entryOf (x ∷ xs) ∷ entries (drop (entryOf (x ∷ xs) .bytes) (x ∷ xs))
+pub entries-next : (xs : List ℕ) → 0 < length xs → entries xs ≡ entryOf xs ∷ entries (drop (entryOf xs .bytes) xs)
 unfolding entriesWithin
-entries-next x xs = go (stops (e .number)) refl
+entries-next [] h = absurd (omega arith)
+entries-next (x ∷ xs) h = go (stops (e .number)) refl
   where
     e : Entry
     e = entryOf (x ∷ xs)
