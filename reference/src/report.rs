@@ -18,7 +18,11 @@ fn cost(record: &Record) -> Result<(usize, usize), Refusal> {
     }
     let count = node_count(&shape, &decode_all_chall(&shape, record.challenge));
     let unused = shape.t.checked_sub(count).ok_or(Refusal::Nodes)?;
-    let mut left_over = record.opening.iter().rev().take(unused * shape.node_bytes());
+    let mut left_over = record
+        .opening
+        .iter()
+        .rev()
+        .take(unused * shape.node_bytes());
     if left_over.any(|byte| *byte != 0) {
         return Err(Refusal::Slots);
     }
