@@ -11,14 +11,15 @@ use lib.Seq.{drop-at, drop-drop, length-take-le}
 use Rattle.spec.specs.declared.Shape.{Shape}
 use Rattle.spec.specs.Bytes.{part, zeros}
 use Rattle.spec.specs.Tree.{siblingToReveal, revealedFrom}
-use Rattle.spec.specs.Shapes.{level, nodeBytes}
+use Rattle.spec.specs.Shapes.{nodeBytes}
 use Rattle.spec.specs.Primitives.{faest}
 use Rattle.spec.specs.Leaves.{children}
 use Rattle.laws.proofs.Conjunctions.{contrary}
 use Rattle.laws.proofs.Lists.{length-zeros, length-part}
 use Rattle.laws.proofs.Putting.{behind, put-take}
 use Rattle.planning_laws.proofs.Revealed.{revealed-longer}
-use Rattle.tree.proofs.Growing.{length-children}
+use Rattle.laws.proofs.Concat.{mul-within}
+use Rattle.tree.proofs.Growing.{node-place, length-children}
 use Rattle.verifier_tree.specs.ByNodes.{listed, readBefore, readWith, nodeBy, childrenBy}
 
 -- ---- parts of a buffer
@@ -30,6 +31,13 @@ put-zeros at w d y h e =
     let m : at + w - at ≡ w = omega arith in
     let l : length (part d at (at + w - at)) - 0 ≡ w = (let z = ap (λ (n : ℕ). length (part d at n)) m ∙ length-part d at w h in omega arith) in
     ap₂ (λ (x z : List ℕ). take at d ++ (x ++ z)) (e ∙ ap zeros l) (behind at w d)
+
+-- the same at the front
+pub put-zeros-front : (w : ℕ) (d y : List ℕ) → w ≤ length d → y ≡ zeros (length (part d 0 (w - 0)) - 0) → take 0 d ++ (y ++ drop (w - 0) (drop 0 d)) ≡ zeros w ++ drop w d
+put-zeros-front w d y h e =
+    let m : w - 0 ≡ w = omega arith in
+    let l : length (part d 0 (w - 0)) - 0 ≡ w = (let z = ap (λ (n : ℕ). length (part d 0 n)) m ∙ length-part d 0 w (omega arith) in omega arith) in
+    ap₂ (λ (x : List ℕ) (n : ℕ). x ++ drop n d) (e ∙ ap zeros l) m
 
 -- two strings of w bytes put one after the other
 put-two : (at w : ℕ) (d y z : List ℕ) → at + w ≤ length d → length y ≡ w
@@ -48,13 +56,9 @@ put-two at w d y z h l =
     ∙ append-assoc p y (z ++ drop (at + w + w) d)
     ∙ ap (λ (a : List ℕ). p ++ a) (sym (append-assoc y z (drop (at + w + w) d)))
 
-two-nodes : (s : Shape) → 2 * nodeBytes s ≡ 32
-unfolding level nodeBytes
-two-nodes s = refl
-
 -- ---- a child of a listed node
 
-module _ (nodes slots : List ℕ) (n read x : ℕ) where
+module _ (w : ℕ) (nodes slots : List ℕ) (n read x : ℕ) where
   pub listed-read : listed nodes x ≡ true → read ≡ readWith nodes x read
   unfolding readWith
   listed-read m = sym (ap (λ (b : Bool). cond b read (read + 1)) m)
@@ -63,21 +67,21 @@ module _ (nodes slots : List ℕ) (n read x : ℕ) where
   unfolding readWith
   other-read m = sym (ap (λ (b : Bool). cond b read (read + 1)) m)
 
-  pub listed-node : listed nodes x ≡ true → zeros 16 ≡ nodeBy nodes slots n read x
+  pub listed-node : listed nodes x ≡ true → zeros w ≡ nodeBy w nodes slots n read x
   unfolding nodeBy
-  listed-node m = sym (ap (λ (b : Bool). cond b (zeros 16) (part slots (16 * (n - (read + 1))) 16)) m)
+  listed-node m = sym (ap (λ (b : Bool). cond b (zeros w) (part slots (w * (n - (read + 1))) w)) m)
 
-  pub other-node : listed nodes x ≡ false → part slots (16 * (n - (read + 1))) 16 ≡ nodeBy nodes slots n read x
+  pub other-node : listed nodes x ≡ false → part slots (w * (n - (read + 1))) w ≡ nodeBy w nodes slots n read x
   unfolding nodeBy
-  other-node m = sym (ap (λ (b : Bool). cond b (zeros 16) (part slots (16 * (n - (read + 1))) 16)) m)
+  other-node m = sym (ap (λ (b : Bool). cond b (zeros w) (part slots (w * (n - (read + 1))) w)) m)
 
-  length-node : readWith nodes x read ≤ n → 16 * n ≤ length slots → length (nodeBy nodes slots n read x) ≡ 16
+  length-node : readWith nodes x read ≤ n → w * n ≤ length slots → length (nodeBy w nodes slots n read x) ≡ w
   unfolding nodeBy readWith
   length-node h l = go (listed nodes x) h
     where
-      go : (b : Bool) → cond b read (read + 1) ≤ n → length (cond b (zeros 16) (part slots (16 * (n - (read + 1))) 16)) ≡ 16
-      go true h = length-zeros 16
-      go false h = length-part slots (16 * (n - (read + 1))) 16 (omega arith)
+      go : (b : Bool) → cond b read (read + 1) ≤ n → length (cond b (zeros w) (part slots (w * (n - (read + 1))) w)) ≡ w
+      go true h = length-zeros w
+      go false h = length-part slots (w * (n - (read + 1))) w (let m = mul-within w (n - (read + 1)) n (omega arith) in omega arith)
 
 pub read-longer : (nodes : List ℕ) (a l : ℕ) → a ≤ l → readBefore nodes a ≤ readBefore nodes l
 unfolding readBefore
@@ -96,7 +100,7 @@ both-within nodes x y read n h = go (listed nodes x) (listed nodes y) h
 
 -- ---- node a
 
-module _ (nodes slots : List ℕ) (n a : ℕ) (by : listed nodes a ≡ (listed nodes (2 * a + 1) || listed nodes (2 * a + 2))) (within : readBefore nodes (a + 1) ≤ n) where
+module _ (w : ℕ) (nodes slots : List ℕ) (n a : ℕ) (by : listed nodes a ≡ (listed nodes (2 * a + 1) || listed nodes (2 * a + 2))) (within : readBefore nodes (a + 1) ≤ n) where
   -- any node but a listed one reveals nothing, and has the children that the generator gives
   pub other-reads : listed nodes a ≡ false → readBefore nodes a ≡ readBefore nodes (a + 1)
   unfolding readBefore siblingToReveal revealedFrom
@@ -109,12 +113,12 @@ module _ (nodes slots : List ℕ) (n a : ℕ) (by : listed nodes a ≡ (listed n
       count false true l h = contrary refl h
       count false false l h = refl
 
-  pub other-children : (s : Shape) (iv x : List ℕ) → listed nodes a ≡ false → children faest s iv a x ≡ childrenBy nodes slots n s iv a x
+  pub other-children : (s : Shape) (iv x : List ℕ) → listed nodes a ≡ false → children faest s iv a x ≡ childrenBy w nodes slots n s iv a x
   unfolding childrenBy
   other-children s iv x e =
       sym
       (ap
-      (λ (b : Bool). cond b (nodeBy nodes slots n (readBefore nodes a) (2 * a + 1) ++ nodeBy nodes slots n (readBefore nodes a) (2 * a + 2)) (children faest s iv a x)) e)
+      (λ (b : Bool). cond b (nodeBy w nodes slots n (readBefore nodes a) (2 * a + 1) ++ nodeBy w nodes slots n (readBefore nodes a) (2 * a + 2)) (children faest s iv a x)) e)
 
   -- a listed node reads as many slots as it reveals
   pub listed-reads : listed nodes a ≡ true → readWith nodes (2 * a + 2) (readWith nodes (2 * a + 1) (readBefore nodes a)) ≡ readBefore nodes (a + 1)
@@ -138,50 +142,51 @@ module _ (nodes slots : List ℕ) (n a : ℕ) (by : listed nodes a ≡ (listed n
   left-within read e r = both-within nodes (2 * a + 1) (2 * a + 2) read n (right-within read (readWith nodes (2 * a + 1) read) e r refl) .0
 
   -- where the right child takes a slot the left child took none
-  right-slot : (read : ℕ) → listed nodes a ≡ true → nodeBy nodes slots n (readWith nodes (2 * a + 1) read) (2 * a + 2) ≡ nodeBy nodes slots n read (2 * a + 2)
+  right-slot : (read : ℕ) → listed nodes a ≡ true → nodeBy w nodes slots n (readWith nodes (2 * a + 1) read) (2 * a + 2) ≡ nodeBy w nodes slots n read (2 * a + 2)
   unfolding nodeBy readWith
   right-slot read e = go (listed nodes (2 * a + 1)) (listed nodes (2 * a + 2)) (sym by ∙ e)
     where
       go : (p q : Bool) → (p || q) ≡ true
-          → cond q (zeros 16) (part slots (16 * (n - (cond p read (read + 1) + 1))) 16) ≡ cond q (zeros 16) (part slots (16 * (n - (read + 1))) 16)
+          → cond q (zeros w) (part slots (w * (n - (cond p read (read + 1) + 1))) w) ≡ cond q (zeros w) (part slots (w * (n - (read + 1))) w)
       go p true h = refl
       go true false h = refl
       go false false h = contrary h refl
 
-  pub length-by : (s : Shape) (iv x : List ℕ) → 16 * n ≤ length slots → length (childrenBy nodes slots n s iv a x) ≡ 32
+  pub length-by : (s : Shape) (iv x : List ℕ) → w ≡ nodeBytes s → w * n ≤ length slots → length (childrenBy w nodes slots n s iv a x) ≡ 2 * w
   unfolding childrenBy
-  length-by s iv x l = go (listed nodes a) refl
+  length-by s iv x k l = go (listed nodes a) refl
     where
       go : (b : Bool) → listed nodes a ≡ b
-          → length (cond b (nodeBy nodes slots n (readBefore nodes a) (2 * a + 1) ++ nodeBy nodes slots n (readBefore nodes a) (2 * a + 2)) (children faest s iv a x)) ≡ 32
+          → length (cond b (nodeBy w nodes slots n (readBefore nodes a) (2 * a + 1) ++ nodeBy w nodes slots n (readBefore nodes a) (2 * a + 2)) (children faest s iv a x)) ≡ 2 * w
       go true e =
-          let w = both-within nodes (2 * a + 1) (2 * a + 2) (readBefore nodes a) n (let z = listed-reads e in omega arith) in
-          let p = length-node nodes slots n (readBefore nodes a) (2 * a + 1) (w .0) l in
-          let q = length-node nodes slots n (readBefore nodes a) (2 * a + 2) (w .1) l in
+          let b = both-within nodes (2 * a + 1) (2 * a + 2) (readBefore nodes a) n (let z = listed-reads e in omega arith) in
+          let p = length-node w nodes slots n (readBefore nodes a) (2 * a + 1) (b .0) l in
+          let q = length-node w nodes slots n (readBefore nodes a) (2 * a + 2) (b .1) l in
           simp length-append (omega arith)
-      go false e = length-children s iv a x ∙ two-nodes s
+      go false e = length-children s iv a x ∙ ap (λ (m : ℕ). 2 * m) (sym k)
 
   -- both children written
   pub listed-children : (s : Shape) (iv x : List ℕ) (read left : ℕ) (d e f : List ℕ) → listed nodes a ≡ true → read ≡ readBefore nodes a → left ≡ readWith nodes (2 * a + 1) read
-      → 16 * n ≤ length slots → 32 * a + 48 ≤ length d
-      → e ≡ take (16 * (2 * a + 1)) d ++ (nodeBy nodes slots n read (2 * a + 1) ++ drop (16 * (2 * a + 1) + 16) d)
-      → f ≡ take (16 * (2 * a + 2)) e ++ (nodeBy nodes slots n left (2 * a + 2) ++ drop (16 * (2 * a + 2) + 16) e)
-      → f ≡ take (32 * a + 16) d ++ (childrenBy nodes slots n s iv a x ++ drop (32 * a + 48) d)
+      → w * n ≤ length slots → w * (2 * a + 3) ≤ length d
+      → e ≡ take (w * (2 * a + 1)) d ++ (nodeBy w nodes slots n read (2 * a + 1) ++ drop (w * (2 * a + 1) + w) d)
+      → f ≡ take (w * (2 * a + 2)) e ++ (nodeBy w nodes slots n left (2 * a + 2) ++ drop (w * (2 * a + 2) + w) e)
+      → f ≡ take (w * (2 * a + 1)) d ++ (childrenBy w nodes slots n s iv a x ++ drop (w * (2 * a + 3)) d)
   unfolding childrenBy
   listed-children s iv x read left d e f m r l room long p q =
-      let y = nodeBy nodes slots n read (2 * a + 1) in
-      let z = nodeBy nodes slots n read (2 * a + 2) in
-      let one : 16 * (2 * a + 1) ≡ 32 * a + 16 = omega arith in
-      let two : 16 * (2 * a + 2) ≡ 32 * a + 16 + 16 = omega arith in
-      let end : 32 * a + 16 + 16 + 16 ≡ 32 * a + 48 = omega arith in
-      let e′ : e ≡ take (32 * a + 16) d ++ (y ++ drop (32 * a + 16 + 16) d) = p ∙ ap (λ (k : ℕ). take k d ++ (y ++ drop (k + 16) d)) one in
-      let w : nodeBy nodes slots n left (2 * a + 2) ≡ z = ap (λ (k : ℕ). nodeBy nodes slots n k (2 * a + 2)) l ∙ right-slot read m in
+      let y = nodeBy w nodes slots n read (2 * a + 1) in
+      let z = nodeBy w nodes slots n read (2 * a + 2) in
+      let from = w * (2 * a + 1) in
+      let one = node-place w a 1 in
+      let three = node-place w a 3 in
+      let two : w * (2 * a + 2) ≡ from + w = (let k = node-place w a 2 in omega arith) in
+      let end : from + w + w ≡ w * (2 * a + 3) = omega arith in
+      let v : nodeBy w nodes slots n left (2 * a + 2) ≡ z = ap (λ (k : ℕ). nodeBy w nodes slots n k (2 * a + 2)) l ∙ right-slot read m in
       q
-      ∙ ap (λ (k : ℕ). take k e ++ (nodeBy nodes slots n left (2 * a + 2) ++ drop (k + 16) e)) two
-      ∙ ap₂ (λ (k v : List ℕ). take (32 * a + 16 + 16) k ++ (v ++ drop (32 * a + 16 + 16 + 16) k)) e′ w
-      ∙ put-two (32 * a + 16) 16 d y z (omega arith) (length-node nodes slots n read (2 * a + 1) (left-within read m r) room)
-      ∙ ap₂ (λ (k : ℕ) (u : List ℕ). take (32 * a + 16) d ++ (u ++ drop k d)) end
-      (ap (λ (k : ℕ). nodeBy nodes slots n k (2 * a + 1) ++ nodeBy nodes slots n k (2 * a + 2)) r
+      ∙ ap (λ (k : ℕ). take k e ++ (nodeBy w nodes slots n left (2 * a + 2) ++ drop (k + w) e)) two
+      ∙ ap₂ (λ (k u : List ℕ). take (from + w) k ++ (u ++ drop (from + w + w) k)) p v
+      ∙ put-two from w d y z (omega arith) (length-node w nodes slots n read (2 * a + 1) (left-within read m r) room)
+      ∙ ap₂ (λ (k : ℕ) (u : List ℕ). take from d ++ (u ++ drop k d)) end
+      (ap (λ (k : ℕ). nodeBy w nodes slots n k (2 * a + 1) ++ nodeBy w nodes slots n k (2 * a + 2)) r
       ∙ sym
       (ap
-      (λ (b : Bool). cond b (nodeBy nodes slots n (readBefore nodes a) (2 * a + 1) ++ nodeBy nodes slots n (readBefore nodes a) (2 * a + 2)) (children faest s iv a x)) m))
+      (λ (b : Bool). cond b (nodeBy w nodes slots n (readBefore nodes a) (2 * a + 1) ++ nodeBy w nodes slots n (readBefore nodes a) (2 * a + 2)) (children faest s iv a x)) m))

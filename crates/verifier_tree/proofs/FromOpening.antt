@@ -10,7 +10,7 @@ use lib.Seq.{sets, take-all, drop-drop}
 use Rattle.spec.specs.declared.Shape.{Shape}
 use Rattle.spec.specs.Bytes.{part, zeros, indexOf}
 use Rattle.spec.specs.Tree.{covered, siblingToReveal, revealedFrom, revealed, nodeCount, expandTree}
-use Rattle.spec.specs.Shapes.{level, nodeBytes, leafCommitmentBytes, leaves, hiddenLeaves, planned, plannedCount}
+use Rattle.spec.specs.Shapes.{nodeBytes, leafCommitmentBytes, leaves, hiddenLeaves, planned, plannedCount}
 use Rattle.spec.specs.Primitives.{faest}
 use Rattle.spec.specs.Leaves.{children}
 use Rattle.spec.specs.Verifier.{slot, givenNode, reconstructedChildren, reconstructedTree}
@@ -48,28 +48,29 @@ module _ (s : Shape) (pos : 1 ≤ leaves s) (ch nodes : List ℕ) (same : (x : �
 
   module _ (opening : List ℕ) where
     abbrev Slots : List ℕ
-    Slots = drop (48 * s .tau) opening
+    Slots = drop (leafCommitmentBytes s * s .tau) opening
 
     -- the slot read for a child that node a reveals
     slot-is : (a x : ℕ) → a < leaves s - 1 → siblingToReveal (Hides (2 * a + 1)) (Hides (2 * a + 2)) a ≡ x ∷ []
-        → part Slots (16 * (plannedCount s ch - (readBefore nodes a + 1))) 16 ≡ slot s opening (indexOf x (planned s ch))
-    unfolding level nodeBytes leafCommitmentBytes planned plannedCount nodeCount revealed revealedFrom slot
+        → part Slots (nodeBytes s * (plannedCount s ch - (readBefore nodes a + 1))) (nodeBytes s) ≡ slot s opening (indexOf x (planned s ch))
+    unfolding planned plannedCount nodeCount revealed revealedFrom slot
     slot-is a x h e =
         let place = revealed-place Hides (leaves s - 1) a x h e in
         let more : length (revealedFrom Hides (suc a)) ≡ suc (length (revealedFrom Hides a)) = ap (λ (l : List ℕ). length (l ++ revealedFrom Hides a)) e in
         let read = read-is a (omega arith) in
         let k : plannedCount s ch - (readBefore nodes a + 1) ≡ indexOf x (planned s ch) = omega arith in
-        ap (λ (m : ℕ). take 16 (drop (16 * m) Slots)) k ∙ ap (take 16) (drop-drop (16 * indexOf x (planned s ch)) (48 * s .tau) opening)
+        ap (λ (m : ℕ). take (nodeBytes s) (drop (nodeBytes s * m) Slots)) k
+        ∙ ap (take (nodeBytes s)) (drop-drop (nodeBytes s * indexOf x (planned s ch)) (leafCommitmentBytes s * s .tau) opening)
 
     node-is : (a x : ℕ) → a < leaves s - 1 → x < 2 * leaves s - 1 → (Hides x ≡ false → siblingToReveal (Hides (2 * a + 1)) (Hides (2 * a + 2)) a ≡ x ∷ [])
-        → nodeBy nodes Slots (plannedCount s ch) (readBefore nodes a) x ≡ givenNode s ch opening x
-    unfolding level nodeBytes nodeBy givenNode
-    node-is a x h l shown = ap (λ (b : Bool). cond b (zeros 16) Read) (same x l) ∙ go (Hides x) refl
+        → nodeBy (nodeBytes s) nodes Slots (plannedCount s ch) (readBefore nodes a) x ≡ givenNode s ch opening x
+    unfolding nodeBy givenNode
+    node-is a x h l shown = ap (λ (b : Bool). cond b (zeros (nodeBytes s)) Read) (same x l) ∙ go (Hides x) refl
       where
         Read : List ℕ
-        Read = part Slots (16 * (plannedCount s ch - (readBefore nodes a + 1))) 16
+        Read = part Slots (nodeBytes s * (plannedCount s ch - (readBefore nodes a + 1))) (nodeBytes s)
 
-        go : (b : Bool) → Hides x ≡ b → cond b (zeros 16) Read ≡ cond b (zeros 16) (slot s opening (indexOf x (planned s ch)))
+        go : (b : Bool) → Hides x ≡ b → cond b (zeros (nodeBytes s)) Read ≡ cond b (zeros (nodeBytes s)) (slot s opening (indexOf x (planned s ch)))
         go true e = refl
         go false e = slot-is a x h (shown e)
 
@@ -86,12 +87,12 @@ module _ (s : Shape) (pos : 1 ≤ leaves s) (ch nodes : List ℕ) (same : (x : �
     right-shown true false a h e = refl
 
     children-is : (iv : List ℕ) (a : ℕ) → a < leaves s - 1 → (x : List ℕ)
-        → childrenBy nodes Slots (plannedCount s ch) s iv a x ≡ reconstructedChildren faest s iv ch opening a x
+        → childrenBy (nodeBytes s) nodes Slots (plannedCount s ch) s iv a x ≡ reconstructedChildren faest s iv ch opening a x
     unfolding childrenBy reconstructedChildren
     children-is iv a h x = ap (λ (b : Bool). cond b Pair (children faest s iv a x)) (same a (omega arith)) ∙ go (Hides a) refl
       where
         Pair : List ℕ
-        Pair = nodeBy nodes Slots (plannedCount s ch) (readBefore nodes a) (2 * a + 1) ++ nodeBy nodes Slots (plannedCount s ch) (readBefore nodes a) (2 * a + 2)
+        Pair = nodeBy (nodeBytes s) nodes Slots (plannedCount s ch) (readBefore nodes a) (2 * a + 1) ++ nodeBy (nodeBytes s) nodes Slots (plannedCount s ch) (readBefore nodes a) (2 * a + 2)
 
         go : (b : Bool) → Hides a ≡ b → cond b Pair (children faest s iv a x) ≡ cond b (givenNode s ch opening (2 * a + 1) ++ givenNode s ch opening (2 * a + 2)) (children faest s iv a x)
         go true e =
@@ -99,9 +100,9 @@ module _ (s : Shape) (pos : 1 ≤ leaves s) (ch nodes : List ℕ) (same : (x : �
             (node-is a (2 * a + 2) h (omega arith) (right-shown (Hides (2 * a + 1)) (Hides (2 * a + 2)) a (sym (inner a h) ∙ e)))
         go false e = refl
 
-    pub tree-is : (iv : List ℕ) → expandTree 16 (zeros 16) (childrenBy nodes Slots (plannedCount s ch) s iv) (leaves s - 1) ≡ reconstructedTree faest s iv ch opening
-    unfolding level nodeBytes reconstructedTree
-    tree-is iv = expand-same 16 (zeros 16) (childrenBy nodes Slots (plannedCount s ch) s iv) (reconstructedChildren faest s iv ch opening) (leaves s - 1) (children-is iv)
+    pub tree-is : (iv : List ℕ) → expandTree (nodeBytes s) (zeros (nodeBytes s)) (childrenBy (nodeBytes s) nodes Slots (plannedCount s ch) s iv) (leaves s - 1) ≡ reconstructedTree faest s iv ch opening
+    unfolding reconstructedTree
+    tree-is iv = expand-same (nodeBytes s) (zeros (nodeBytes s)) (childrenBy (nodeBytes s) nodes Slots (plannedCount s ch) s iv) (reconstructedChildren faest s iv ch opening) (leaves s - 1) (children-is iv)
 
 -- ---- the list of the covered nodes
 
@@ -146,14 +147,16 @@ module _ (s : Shape) (f : ShapeFacts s) (ch : List ℕ) where
         rw (front-is, e)
         (nodes-descend, root-listed, by-children s (leaves-pos s f) ch Nodes listed-covered, c ∙ sym (all-read s (leaves-pos s f) ch Nodes listed-covered))
 
-    pub front-tree : (opening iv tree : List ℕ)
-        → tree ≡ expandTree 16 (zeros 16) (childrenBy Front (part opening (48 * s .tau) (length opening - 48 * s .tau)) n s iv) (l - 1)
+    -- w is a node's length, and the slots begin at byte `first`
+    pub front-tree : (w first : ℕ) (opening iv tree : List ℕ) → w ≡ nodeBytes s → first ≡ leafCommitmentBytes s * s .tau
+        → tree ≡ expandTree w (zeros w) (childrenBy w Front (part opening first (length opening - first)) n s iv) (l - 1)
         → tree ≡ reconstructedTree faest s iv ch opening
-    front-tree opening iv tree h =
-        let slots : part opening (48 * s .tau) (length opening - 48 * s .tau) ≡ drop (48 * s .tau) opening =
-        take-all (length opening - 48 * s .tau) (drop (48 * s .tau) opening) (simp length-drop (omega arith))
+    front-tree w first opening iv tree ew ef h =
+        let slots : part opening first (length opening - first) ≡ drop (leafCommitmentBytes s * s .tau) opening =
+        take-all (length opening - first) (drop first opening) (simp length-drop (omega arith)) ∙ ap (λ (k : ℕ). drop k opening) ef
         in
         h
-        ∙ ap₂ (λ (y q : List ℕ). expandTree 16 (zeros 16) (childrenBy y q n s iv) (l - 1)) front-is slots
-        ∙ ap₂ (λ (k i : ℕ). expandTree 16 (zeros 16) (childrenBy Nodes (drop (48 * s .tau) opening) k s iv) (i - 1)) c e
+        ∙ ap (λ (v : ℕ). expandTree v (zeros v) (childrenBy v Front (part opening first (length opening - first)) n s iv) (l - 1)) ew
+        ∙ ap₂ (λ (y q : List ℕ). expandTree (nodeBytes s) (zeros (nodeBytes s)) (childrenBy (nodeBytes s) y q n s iv) (l - 1)) front-is slots
+        ∙ ap₂ (λ (k i : ℕ). expandTree (nodeBytes s) (zeros (nodeBytes s)) (childrenBy (nodeBytes s) Nodes (drop (leafCommitmentBytes s * s .tau) opening) k s iv) (i - 1)) c e
         ∙ tree-is s (leaves-pos s f) ch Nodes listed-covered opening iv

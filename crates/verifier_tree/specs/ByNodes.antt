@@ -38,13 +38,13 @@ Before nodes a p = (p .node ≡ atOrAfter nodes a) × (p .child ≡ atOrAfter no
 unfoldable pub readWith : List ℕ → ℕ → ℕ → ℕ
 readWith nodes x read = cond (listed nodes x) read (read + 1)
 
--- node x, a child of a listed node: zeros if it is listed too, else the next slot
-unfoldable pub nodeBy : List ℕ → List ℕ → ℕ → ℕ → ℕ → List ℕ
-nodeBy nodes slots n read x = cond (listed nodes x) (zeros 16) (part slots (16 * (n - (read + 1))) 16)
+-- node x, of w bytes, a child of a listed node: zeros if it is listed too, else the next slot
+unfoldable pub nodeBy : ℕ → List ℕ → List ℕ → ℕ → ℕ → ℕ → List ℕ
+nodeBy w nodes slots n read x = cond (listed nodes x) (zeros w) (part slots (w * (n - (read + 1))) w)
 
 -- the two children of node a, whose bytes are x
-unfoldable pub childrenBy : List ℕ → List ℕ → ℕ → Shape → List ℕ → ℕ → List ℕ → List ℕ
-childrenBy nodes slots n s iv a x =
+unfoldable pub childrenBy : ℕ → List ℕ → List ℕ → ℕ → Shape → List ℕ → ℕ → List ℕ → List ℕ
+childrenBy w nodes slots n s iv a x =
     cond (listed nodes a)
-    (nodeBy nodes slots n (readBefore nodes a) (2 * a + 1) ++ nodeBy nodes slots n (readBefore nodes a) (2 * a + 2))
+    (nodeBy w nodes slots n (readBefore nodes a) (2 * a + 1) ++ nodeBy w nodes slots n (readBefore nodes a) (2 * a + 2))
     (children faest s iv a x)

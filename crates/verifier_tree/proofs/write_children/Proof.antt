@@ -1,32 +1,34 @@
 -- Node a is expanded, or its two children are written one after the other.
 use borrow.Author.Needs.{needs}
-use mathlib.Core.Path.{_≡_, refl, ap, ap₂, _∙_}
+use mathlib.Core.Path.{_≡_, ap, _∙_}
 use mathlib.Core.List.{List, _++_}
-use Prim.Native.Nat.{ℕ, _+_, _*_}
+use Prim.Native.Nat.{ℕ, _+_, _*_, _≤_}
+use native.Mathlib.Nat.{le-refl}
 use native.Mathlib.Omega.{arith}
 use lib.ListN.{take, drop}
-use Rattle.spec.specs.declared.Shape.{Shape}
 use Rattle.spec.specs.Bytes.{part}
-use Rattle.spec.specs.Shapes.{level, nodeBytes}
-use Rattle.spec.specs.Primitives.{faest}
-use Rattle.spec.specs.Leaves.{children}
 use Rattle.laws.proofs.Tests.{failed, passed}
 use Rattle.verifier_tree.specs.ByNodes.{atOrAfter, readWith}
+use Rattle.laws.proofs.Concat.{mul-limit}
+use Rattle.tree.proofs.Growing.{node-place}
 use Rattle.verifier_tree.proofs.Places.{node-passed, node-kept, children-kept}
 use Rattle.verifier_tree.proofs.Children.{other-reads, other-children, listed-reads, left-within, right-within, listed-children}
 use Rattle.verifier_tree.proofs.write_children.Statement.{statement}
 use Rattle.verifier_tree.proofs.write_children.Tie as tie
 
--- where the children of node a begin and end
-first : (a : ℕ) → 16 * (2 * a + 1) ≡ 32 * a + 16
-first a = omega arith
+expand-node-requires : tie.Need-expand-node-requires
+expand-node-requires c κs = (let start = c .before .before .before .before .before .before in let p = start .pre .1 in (start .pre .0, (p .7, p .8, p .9, p .5, p .6)))
 
-last : (a : ℕ) → 16 * (2 * a + 3) ≡ 32 * a + 48
-last a = omega arith
+-- node a is small, since its children are in the tree
+small : (w a d : ℕ) → 16 ≤ w → w * (2 * a + 3) ≤ d → 16 * (2 * a + 3) ≤ d
+small w a d h l = (let m = mul-limit 16 (2 * a + 3) w (2 * a + 3) h (le-refl (2 * a + 3)) in omega arith)
 
-at-128 : (s : Shape) → 16 ≡ nodeBytes s
-unfolding level nodeBytes
-at-128 s = refl
+-- where the children of node a stand in the tree
+left-room : (w a d : ℕ) → w * (2 * a + 3) ≤ d → w * (2 * a + 1) + w ≤ d
+left-room w a d h = (let x = node-place w a 1 in let y = node-place w a 3 in omega arith)
+
+right-room : (w a d : ℕ) → w * (2 * a + 3) ≤ d → w * (2 * a + 2) + w ≤ d
+right-room w a d h = (let x = node-place w a 2 in let y = node-place w a 3 in omega arith)
 
 returns : tie.Need-returns
 returns c =
@@ -38,20 +40,31 @@ returns c =
       (
         p .2 .0 ∙ node-kept nodes (g .a) (p .0) m,
         p .2 .1 ∙ children-kept nodes (g .a) (p .0) (p .1) m,
-        p .2 .2 ∙ other-reads nodes (g .slots .now) (g .n) (g .a) (p .1) (p .3) m,
+        p .2 .2 ∙ other-reads (g .w) nodes (g .slots .now) (g .n) (g .a) (p .1) (p .3) m,
       ),
-      λ s ok. c .before .before .expand-node .ensures s ok (at-128 s)
-          ∙ ap₂ (λ (m n : ℕ). take m d ++ (children faest s (g .iv) (g .a) (part d (16 * g .a) 16) ++ drop n d)) (first (g .a)) (last (g .a))
-          ∙ ap (λ (y : List ℕ). take (32 * g .a + 16) d ++ (y ++ drop (32 * g .a + 48) d))
-          (other-children nodes (g .slots .now) (g .n) (g .a) (p .1) (p .3) s (g .iv) (part d (16 * g .a) 16) m),
+      λ s ok e. c .before .before .expand-node .ensures s ok e
+          ∙ ap (λ (y : List ℕ). take (g .w * (2 * g .a + 1)) d ++ (y ++ drop (g .w * (2 * g .a + 3)) d))
+          (other-children (g .w) nodes (g .slots .now) (g .n) (g .a) (p .1) (p .3) s (g .iv) (part d (g .w * g .a) (g .w)) m),
     )
+
+mul-left : tie.Need-mul-write-child
+mul-left c = (let st = c .before .before .before .before .before in let m = small (st .args .w) (st .args .a) _ (st .pre .1 .7) (st .pre .1 .5) in omega (arith, st .pre .1 .6))
+
+add-left : tie.Need-add-write-child
+add-left c = (let st = c .before .before .before .before .before in let m = small (st .args .w) (st .args .a) _ (st .pre .1 .7) (st .pre .1 .5) in omega (arith, st .pre .1 .6))
 
 write-child-requires : tie.Need-write-child-requires
 write-child-requires c κs =
     let g = c .before .before .before .before .before .before .args in
     let p = c .before .before .before .before .before .before .pre .1 in
     let m = passed (c .before .before .is-next .ensures) (c .before .if1 .left) in
-    (p .0, p .2 .1, left-within (g .nodes .now) (g .slots .now) (g .n) (g .a) (p .1) (p .3) (g .p .read) m (p .2 .2), p .4, omega arith)
+    (p .0, p .2 .1, left-within (g .w) (g .nodes .now) (g .slots .now) (g .n) (g .a) (p .1) (p .3) (g .p .read) m (p .2 .2), p .4, left-room (g .w) (g .a) _ (p .5))
+
+mul-right : tie.Need-mul-write-child-2
+mul-right c = (let st = c .before .before .before .before .before .before .before .before .before in let m = small (st .args .w) (st .args .a) _ (st .pre .1 .7) (st .pre .1 .5) in omega (arith, st .pre .1 .6))
+
+add-right : tie.Need-add-write-child-2
+add-right c = (let st = c .before .before .before .before .before .before .before .before .before in let m = small (st .args .w) (st .args .a) _ (st .pre .1 .7) (st .pre .1 .5) in omega (arith, st .pre .1 .6))
 
 write-child-requires-2 : tie.Need-write-child-requires-2
 write-child-requires-2 c κs =
@@ -61,12 +74,12 @@ write-child-requires-2 c κs =
     let w = c .before .before .before .write-child in (
       p .0,
       w .ensures .0 ∙ ap (atOrAfter (g .nodes .now)) (let z : 2 * g .a + 1 + 1 ≡ 2 * g .a + 2 = omega arith in z),
-      right-within (g .nodes .now) (g .slots .now) (g .n) (g .a) (p .1) (p .3) (g .p .read) (w .result .read) m (p .2 .2) (w .ensures .1),
+      right-within (g .w) (g .nodes .now) (g .slots .now) (g .n) (g .a) (p .1) (p .3) (g .p .read) (w .result .read) m (p .2 .2) (w .ensures .1),
       p .4,
-      search needs,
+      right-room (g .w) (g .a) _ (rw (w .kept .1 .1 .1 .1 .1 .1 .0) (p .5)),
     )
 
-sub-node : tie.Need-sub-t17
+sub-node : tie.Need-sub-t18
 sub-node c =
     let st = c .before .before .before .before .before .before .before .before .before .before .before .before .before in
     let z =
@@ -87,11 +100,11 @@ returns-2 c =
         w .ensures .0 ∙ ap (atOrAfter nodes) (let z : 2 * g .a + 2 + 1 ≡ 2 * (g .a + 1) + 1 = omega arith in z),
         w .ensures .1
             ∙ ap (readWith nodes (2 * g .a + 2)) (v .ensures .1 ∙ ap (readWith nodes (2 * g .a + 1)) (p .2 .2))
-            ∙ listed-reads nodes (g .slots .now) (g .n) (g .a) (p .1) (p .3) m,
+            ∙ listed-reads (g .w) nodes (g .slots .now) (g .n) (g .a) (p .1) (p .3) m,
       ),
-      λ s ok.
-          listed-children nodes (g .slots .now) (g .n) (g .a) (p .1) (p .3) s (g .iv) (part (g .tree .now) (16 * g .a) 16) (g .p .read) (v .result .read) (g .tree .now)
-          (v .last .1 .1 .1 .1 .1 .0) (w .last .1 .1 .1 .1 .1 .0) m (p .2 .2) (v .ensures .1) (p .4) (p .5) (v .ensures .2) (w .ensures .2),
+      λ s ok e.
+          listed-children (g .w) nodes (g .slots .now) (g .n) (g .a) (p .1) (p .3) s (g .iv) (part (g .tree .now) (g .w * g .a) (g .w)) (g .p .read) (v .result .read) (g .tree .now)
+          (v .last .1 .1 .1 .1 .1 .1 .0) (w .last .1 .1 .1 .1 .1 .1 .0) m (p .2 .2) (v .ensures .1) (p .4) (p .5) (v .ensures .2) (w .ensures .2),
     )
 
 pub write-children-spec : {M : Type 1} → statement M
@@ -99,14 +112,14 @@ write-children-spec =
     tie.close
     (tie.spec
     (λ c κs. search needs)
-    (λ c κs. search needs)
+    expand-node-requires
     (λ c. search needs)
     returns
-    (λ c. search needs)
-    (λ c. search needs)
+    mul-left
+    add-left
     write-child-requires
-    (λ c. search needs)
-    (λ c. search needs)
+    mul-right
+    add-right
     write-child-requires-2
     sub-node
     (λ c. search needs)
