@@ -32,10 +32,13 @@ TABLE = {
     '[[[u8; 4]; 6]; 8]': ('the words of a key schedule, for a key of 6 words', {'aes_keys'}),
     '[[u8; 4]; 6]': ('six of them', {'aes_keys'}),
     '[[[u8; 4]; 4]; 3]': ('the round keys that twelve of them are', {'aes_keys'}),
-    '[u8; 64]': ('a leaf stretched: its seed, and what the leaf hash is xored to', {'leaf::commit_leaf'}),
+    '[u8; 128]': ('a leaf stretched: its seed, and what the leaf hash is xored to', {'leaf::commit_leaf'}),
     '[u8; 32]': ('a seed', {'vector::add_entry'}),
-    '[[u64; 6]; 16]': ('the multiples of a hash key', {'field_384::multiples', 'leaf::hash_multiples', 'signer_vectors::convert', 'verifier_vector::convert'}),
-    '[u64; 6]': ('an element of the field of the leaf hash', {'field_384'}),
+    '[[u64; 12]; 16]': ('the multiples of a hash key', {'field_384::multiples', 'field_576::multiples', 'field_768::multiples', 'leaf_hash::multiples', 'leaf::hash_multiples',
+                                                        'signer_vectors::convert', 'verifier_vector::convert'}),
+    '[u64; 6]': ('an element of the field of the leaf hash, of 384 bits', {'field_384'}),
+    '[u64; 9]': ('of 576 bits', {'field_576'}),
+    '[u64; 12]': ('of 768 bits, or one of the multiples', {'field_384', 'field_576', 'field_768'}),
     '[u64; 25]': ('the lanes of a sponge', {'keccak', 'shake', 'verifier_vector::hash_vector'}),
     '[u64; 24]': ('the round constants of Keccak', {'keccak'}),
     '[u64; 5]': ('the parities of Keccak\'s columns, or a plane of its state', {'keccak'}),
@@ -51,7 +54,7 @@ BESIDE_ROWS = {'[u8; 256]', '[[[u8; 4]; 4]; 15]', '[[[u8; 4]; 4]; 8]', '[[[u8; 4
 # who calls what makes blocks
 CALLERS = {
     'rows::add_row': {'vector::add_leaf'},
-    'generator::fill': {'leaf::commit_leaf'},
+    'generator::fill': {'leaf::stretch_leaf'},
     'generator::fill_keyed': {'tree::expand_node', 'generator::fill'},
     'generator::block': {'rows::add_row'},
     'generator::block_pair': {'rows::add_row', 'generator::fill_keyed'},
@@ -505,7 +508,7 @@ EDITS = [
     ('signer_tree', 'tree::expand_node(', 'let k = 2147483648;\n        tree::expand_node(', 'the tweak of rows stands in'),
     ('columns', 'pub fn add_bytes(', 'type Row = u8;\npub fn add_bytes(', 'an item of columns that cannot be read'),
     ('rows', '    let b = sum.len();', '    let b = sum.len();\n    let copy = sum.to_vec();', 'a method of rows::add_row'),
-    ('leaf', 'let mut stretched = [0u8; 64];', 'let mut stretched = [tweak_of(); 64];', 'leaf::commit_leaf'),
+    ('leaf', 'let mut stretched = [0u8; 128];', 'let mut stretched = [tweak_of(); 128];', 'leaf::commit_leaf'),
 ]
 
 

@@ -34,8 +34,8 @@ void rattle_row(const uint8_t t[256], const uint8_t key[16], const uint8_t iv[16
 void rattle_keccak(uint64_t a[25]);
 void rattle_h0(const uint8_t *iv, size_t iv_length, uint8_t *out, size_t out_length);
 void rattle_h1(const uint8_t *message, size_t message_length, uint8_t *out, size_t out_length);
-void rattle_multiples(const uint8_t key[48], uint64_t m[16][6]);
-void rattle_leaf_hash(const uint64_t m[16][6], const uint8_t stretched[64], uint8_t out[48]);
+void rattle_multiples(const uint8_t key[48], uint64_t m[16][12]);
+void rattle_leaf_hash(const uint64_t m[16][12], const uint8_t stretched[64], uint8_t out[48]);
 size_t rattle_plan(size_t tau, size_t k, size_t w, size_t t, const uint8_t *challenge, size_t challenge_length, uint32_t *nodes, size_t nodes_length);
 void rattle_grow(const uint8_t t[256], const uint8_t *root, size_t root_length, const uint8_t iv[16], size_t tau, size_t k, size_t w, size_t allowed, uint8_t *tree, size_t tree_length);
 void rattle_add_row(const uint8_t t[256], const uint8_t *seed, size_t seed_length, const uint8_t iv[16], uint32_t tweak, uint8_t *sum, size_t sum_length);

@@ -10,7 +10,7 @@ enum { TAU = 11, DEPTH = 11, ALLOWED = 102, LEAVES = TAU << DEPTH, BITS = 1680, 
 static const size_t shape[4] = {SHAPE};
 
 static uint8_t table[256], key[16], iv[16], message[98304], challenge[16], clear[16];
-static uint64_t multiples[16][6];
+static uint64_t multiples[16][6], padded[16][12]; /* of the C and of the Rattle */
 /* what each side worked on last: index 0 the C, index 1 the Rattle */
 static uint8_t block[2][16], node[2][32], row[2][224], hash[2][32], keys[2][528], only_tree[2][32 * LEAVES - 16];
 static uint64_t state[2][25];
@@ -47,7 +47,7 @@ static void next_leaf(int side)
     leaf[side].stretched[17] ^= leaf[side].commitment[5];
 }
 static void leaf_c(void) { c_leaf_hash(multiples, leaf[0].stretched, leaf[0].commitment); next_leaf(0); }
-static void leaf_rattle(void) { rattle_leaf_hash(multiples, leaf[1].stretched, leaf[1].commitment); next_leaf(1); }
+static void leaf_rattle(void) { rattle_leaf_hash(padded, leaf[1].stretched, leaf[1].commitment); next_leaf(1); }
 
 /* each row has its own seed and number */
 static const uint8_t *next_seed(int side)
@@ -146,7 +146,8 @@ int main(void)
     for (int i = 0; i < 64; i++)
         leaf[0].stretched[i] = leaf[1].stretched[i] = (uint8_t)(37 * i + 1);
     rattle_table(table);
-    rattle_multiples(message + 100, multiples);
+    c_multiples(message + 100, multiples);
+    rattle_multiples(message + 100, padded);
     wrong = measure(CLOCK_MONOTONIC, parts, sizeof parts / sizeof parts[0], 3000);
     wrong |= measure(CLOCK_PROCESS_CPUTIME_ID, large, sizeof large / sizeof large[0], 25);
     if (count[0] != count[1] || few_count[0] != few_count[1])

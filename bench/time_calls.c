@@ -13,7 +13,7 @@ static const struct set {
     size_t shape[4];
 } sets[] = {{"FAEST-128s", {11, 11, 7, 102}}, {"FAEST-128f", {16, 7, 8, 110}}};
 
-static uint8_t root[16], iv[16], challenge[16];
+static uint8_t root[16], iv[16], challenge[16]; /* level 128 */
 /* what each side wrote last; room for the larger of the two sets */
 static struct {
     uint8_t commitment[32], tree[32 * LEAVES - 16], leaf_commitments[48 * LEAVES], u[ROW], v[128 * ROW], corrections[(VECTORS - 1) * ROW];
@@ -28,7 +28,7 @@ static uint8_t stretch_u[ROW / 10], stretch_v[128 * (ROW / 10)], stretch_correct
 static const size_t *shape;
 static rachnoel_lengths n;
 static uint8_t count[RACHNOEL_COUNT];
-#define SHAPE shape[0], shape[1], shape[2], shape[3]
+#define SHAPE shape[0], shape[1], shape[2], shape[3], 128
 
 static void (*const c_commits[])(const size_t *, size_t, const uint8_t *, const uint8_t *, uint8_t *, uint8_t *, uint8_t *, uint8_t *, uint8_t *, uint8_t *) = {c_commit, t_commit};
 static size_t (*const c_opens[])(const size_t *, const uint8_t *, const uint8_t *, const uint8_t *, uint8_t *) = {c_open, t_open};

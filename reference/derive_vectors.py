@@ -16,6 +16,16 @@ The cases are the calls of these forms in the src/main.rt of each, whose first l
     stretch(TAU, K, W, T, ROWBITS, FIRST, WIDTH, ROOTIV, CHALLENGE, CHALLENGE)  commit_stretch, open_stretch, reconstruct_stretch
     probe_commit_stretch(..), probe_reconstruct_stretch(..)    the command of this name
     record(TAU, K, W, T, ROWBITS, ROOTIV, CHALLENGE, CHALLENGE), prefixes(..), flips(..), pairs(..)  the command of this name
+    record_version_1(..), prefixes_version_1(..), flips_version_1(..), pairs_version_1(..)           the same, with a record of version 1
+    at_level(LEVEL, TAU, K, W, T, ROWBITS, ROOTIV, C0, C1, C2, C3)                          commit, open, reconstruct
+    stretch_at_level(LEVEL, TAU, K, W, T, ROWBITS, FIRST, WIDTH, ROOTIV, C0, C1, C2, C3)    commit_stretch, open_stretch, reconstruct_stretch
+    record_at_level(LEVEL, TAU, K, W, T, ROWBITS, ROOTIV, C0, C1, C2, C3)                   record; prefixes_at_level, flips_at_level, pairs_at_level likewise
+    decode_at_level(LEVEL, TAU, K, W, T, C0, C1, C2, C3), plan_at_level(..)                 the command of this name
+    probe_commit_at_level(LEVEL, TAU, K, W, T, ..), probe_open_at_level(..) ..              the probe of this name
+
+All but those at_level are at level 128. C0 to C3 are words of a challenge, the least byte first; it is the first level / 8 bytes of them. The root of a digit
+is the 16 bytes of that digit followed by the same bytes again, cut to level / 8 bytes; the IV is the 16 bytes. For a level that there is not, root and challenge have
+16 bytes.
 
 A number may be a constant of that file, `const NAME: usize = NUMBER`.
 The roots and IVs are the lines `DIGIT => words(WORD, WORD)` of crates/vectors_calls/src/inputs.rt.
@@ -34,6 +44,12 @@ LENGTHS = {'case': 7, 'uneven': 8, 'refused_shape': 5, 'flipped': 5, 'probe_comm
            'decode': 6, 'plan': 6, 'probe_decode': 7, 'probe_plan': 7,
            'stretch': 10, 'probe_commit_stretch': 9, 'probe_reconstruct_stretch': 11,
            'record': 8, 'prefixes': 8, 'flips': 8, 'pairs': 8}
+RECORDS = 'record', 'prefixes', 'flips', 'pairs'
+PROBES = [form for form in LENGTHS if form.startswith('probe')]
+LENGTHS.update({f'{form}_version_1': 8 for form in RECORDS})
+LENGTHS.update({f'{form}_at_level': 11 for form in RECORDS})
+LENGTHS.update({f'{form}_at_level': LENGTHS[form] + 1 for form in PROBES})
+LENGTHS.update({'at_level': 11, 'stretch_at_level': 13, 'decode_at_level': 9, 'plan_at_level': 9})
 
 
 def cases(name):
@@ -47,40 +63,51 @@ def cases(name):
         yield form, found
 
 
-def words(x, y):
-    return (x.to_bytes(8, 'little') + y.to_bytes(8, 'little')).hex()
+def words(*numbers):
+    return b''.join(number.to_bytes(8, 'little') for number in numbers).hex()
 
 
 NUMBERED = {int(digit): words(int(x, 0), int(y, 0)) for digit, x, y in re.findall(r'(\d) => words\((\w+), (\w+)\)', INPUTS)}
 NUMBERED[0] = words(0, 0)
 
 
+def node_digits(level):
+    """The hexadecimal digits of a root and of a challenge."""
+    return level // 4 if level in (128, 192, 256) else 32
+
+
+def root_iv(known, level):
+    return [(2 * NUMBERED[known // 10])[:node_digits(level)], NUMBERED[known % 10]]
+
+
+def three_calls(shape, rows, known, challenge, end='', flip=()):
+    """Commit, open, reconstruct, at the level at the end of the shape."""
+    signer = [*map(str, (*shape, *rows)), *root_iv(known, shape[-1])]
+    both = [*signer, words(*challenge)[:node_digits(shape[-1])]]
+    return [['commit' + end, *signer], ['open' + end, *both], ['reconstruct' + end, *both, *flip]]
+
+
 def commands(form, case):
-    if form.startswith('probe'):
-        return [[form, *map(str, case)]]
-    if form in ('decode', 'plan'):
-        return [[form, *map(str, case[:4]), words(*case[4:])]]
-    if form in ('record', 'prefixes', 'flips', 'pairs'):
-        return [[form, *map(str, case[:5]), NUMBERED[case[5] // 10], NUMBERED[case[5] % 10], words(*case[6:])]]
-    known, challenge, flip = 13, (0, 0), []
-    if form == 'stretch':
-        signer = [*map(str, case[:7]), NUMBERED[case[7] // 10], NUMBERED[case[7] % 10]]
-        both = [*signer, words(*case[8:])]
-        return [['commit_stretch', *signer], ['open_stretch', *both], ['reconstruct_stretch', *both]]
-    if form in ('refused_shape', 'uneven'):
-        tau, k, w, t, row_bits = case[:5]
-    else:
-        tau, k, t, row_bits = case[:4]
-        w = 128 - tau * k if tau else 0
-    if form == 'case':
-        known, challenge = case[4], case[5:]
-    if form == 'uneven':
-        known, challenge = case[5], case[6:]
-    if form == 'flipped':
-        flip = [str(case[4])]
-    signer = [*map(str, (tau, k, w, t, row_bits)), NUMBERED[known // 10], NUMBERED[known % 10]]
-    both = [*signer, words(*challenge)]
-    return [['commit', *signer], ['open', *both], ['reconstruct', *both, *flip]]
+    name, level = form, 128
+    if form.endswith('at_level'):
+        name, level, case = form.removesuffix('at_level').removesuffix('_'), case[0], case[1:]
+    if name.startswith('probe'):
+        return [[name, *map(str, (*case[:4], level, *case[4:]))]]
+    if name in ('decode', 'plan'):
+        return [[name, *map(str, (*case[:4], level)), words(*case[4:])[:node_digits(level)]]]
+    if name.removesuffix('_version_1') in RECORDS:
+        return [[name, *map(str, (*case[:4], level, case[4])), *root_iv(case[5], level), words(*case[6:])[:node_digits(level)]]]
+    if name == 'stretch':
+        return three_calls((*case[:4], level), case[4:7], case[7], case[8:], '_stretch')
+    if name in ('', 'uneven'):
+        return three_calls((*case[:4], level), case[4:5], case[5], case[6:])
+    if name == 'refused_shape':
+        return three_calls((*case[:4], level), case[4:5], 13, (0, 0))
+    tau, k, t, row_bits = case[:4]
+    shape = (tau, k, 128 - tau * k if tau else 0, t, level)
+    if name == 'flipped':
+        return three_calls(shape, (row_bits,), 13, (0, 0), flip=[str(case[4])])
+    return three_calls(shape, (row_bits,), case[4], case[5:])
 
 
 def printed(command):

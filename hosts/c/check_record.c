@@ -1,20 +1,21 @@
 /* check_record: whether signing records are accepted. docs/TOOLS.md has its page. */
 #include <rachnoel.h>
 
+#include "shape.h"
+
 #include <errno.h>
 #include <stdio.h>
 #include <stdlib.h>
 #include <string.h>
 
 enum { ACCEPTED, REFUSED, TROUBLE }; /* exit statuses; the worst of all files is the tool's */
-enum { VERSION = 1, HEAD = 9 };       /* the version, and the bytes of the first field */
 
 static const char usage[] =
     "usage: check_record [--explain] FILE...\n"
     "       check_record --help\n";
 
 static const char help[] =
-    "Checks signing records of FAEST version 2 at 128 bits. FILE of - is standard input.\n"
+    "Checks signing records of FAEST version 2. FILE of - is standard input.\n"
     "\n"
     "Prints a line for each file:\n"
     "    FILE: accepted, 101 of 102 nodes\n"
@@ -74,13 +75,33 @@ static int read_file(const char *name, size_t *length)
     return bad;
 }
 
+/* ---- the first field */
+
+/* its bytes by the version, 0 where that is unknown */
+static size_t head_bytes(size_t version)
+{
+    return version == 1 ? 9 : version == 2 ? 10 : 0;
+}
+
+/* the shape that it gives: version 1 has level 128 */
+static shape shape_of(size_t version, const uint8_t *head)
+{
+    const shape s = {head[0], head[1], head[2], big_endian(head + 3, 2), version == 1 ? 128 : 8 * (size_t)head[9]};
+    return s;
+}
+
+static int is_default(shape s)
+{
+    return s.tau == 0 && s.k == 0 && s.w == 0 && s.t == 0 && s.level == 128;
+}
+
 /* ---- --explain: what stands where. This reads the record by itself, beside the proved call. */
 
 static const char *const fields[] = {"shape and row length", "IV", "challenge", "corrections", "opening", "commitment"};
 
 static void explain(size_t length)
 {
-    size_t required[6] = {HEAD, RACHNOEL_BLOCK, RACHNOEL_BLOCK, 0, 0, RACHNOEL_COMMITMENT}; /* the first field decides the two that are 0 here */
+    size_t required[6] = {0, RACHNOEL_IV, 0, 0, 0, 0}; /* the version decides the first, and the first field all but the second */
     size_t at = 1;
     if (length > RACHNOEL_RECORD_MOST)
         printf("    more than %d bytes, which no record has\n", RACHNOEL_RECORD_MOST);
@@ -88,8 +109,9 @@ static void explain(size_t length)
         printf("    %zu bytes\n", length);
     if (length == 0)
         return;
-    printf("    byte 0: version %u%s\n", record[0], record[0] == VERSION ? "" : ", which is unknown");
-    if (record[0] != VERSION)
+    required[0] = head_bytes(record[0]);
+    printf("    byte 0: version %u%s\n", record[0], required[0] > 0 ? "" : ", which is unknown");
+    if (required[0] == 0)
         return;
     for (size_t i = 0; i < 6; i++) {
         printf("    byte %zu: field %zu, %s: ", at, i + 1, fields[i]);
@@ -108,17 +130,18 @@ static void explain(size_t length)
             return;
         at += 4;
         if (i == 0) {
-            const uint8_t *const head = record + at;
-            const size_t t = big_endian(head + 3, 2), row = big_endian(head + 5, 4);
-            const rachnoel_lengths n = rachnoel_lengths_of(head[0], head[1], head[2], t, row / 8);
-            const int zeros = head[0] == 0 && head[1] == 0 && head[2] == 0 && t == 0;
+            const shape s = shape_of(record[0], record + at);
+            const size_t row = big_endian(record + at + 5, 4);
+            const rachnoel_lengths n = rachnoel_lengths_of(NUMBERS(s), row / 8);
             const int row_fits = row % 8 == 0 && row >= 8 && row <= 65536;
-            printf("        tau %u, k %u, w %u, T %zu%s\n", head[0], head[1], head[2], t, zeros ? ": FAEST-128f, 16 7 8 110" : n.leaves == 0 ? ": no shape" : "");
+            printf("        tau %zu, k %zu, w %zu, T %zu, level %zu%s\n", NUMBERS(s), is_default(s) ? ": FAEST-128f, 16 7 8 110" : n.leaves == 0 ? ": no shape" : "");
             printf("        rows of %zu bits%s\n", row, row_fits ? "" : ": no row length");
             if (n.leaves == 0 || !row_fits)
                 return;
+            required[2] = n.node;
             required[3] = n.corrections;
             required[4] = n.opening;
+            required[5] = n.commitment;
         }
         at += says;
     }
@@ -133,9 +156,8 @@ static void explain(size_t length)
 /* T as the record means it: zeros stand for FAEST-128f */
 static size_t allowance(void)
 {
-    const uint8_t *const head = record + 5;
-    const size_t t = big_endian(head + 3, 2);
-    return head[0] == 0 && head[1] == 0 && head[2] == 0 && t == 0 ? 110 : t;
+    const shape s = shape_of(record[0], record + 5);
+    return is_default(s) ? 110 : s.t;
 }
 
 static int check(const char *name, int explained)

@@ -5,8 +5,9 @@
 #include <rachnoel.h>
 
 #include "guarded.h"
+#include "shape.h"
 
-enum { BASES = 48, MOST = 4096 };
+enum { BASES = 48, MOST = 16384 };
 
 /* ---- a fixed sequence (SplitMix64) */
 
@@ -59,51 +60,59 @@ static void must(size_t number, const char *call)
     }
 }
 
-/* a small shape, or the default; its allowance is mostly enough */
-static void random_shape(size_t s[4])
+/* a small shape, or the default; its allowance is mostly enough. At levels 192 and 256 no shape has fewer than 65 and 129 open bits */
+static shape random_shape(void)
 {
-    if (below(16) == 0) {
-        memset(s, 0, 4 * sizeof s[0]);
-        return;
+    if (below(16) == 0)
+        return (shape)DEFAULT;
+    size_t k = 1 + below(4), tau = 1 + below(6), deeper = below(2) ? 0 : below(tau), level = 128;
+    if (below(6) == 0) {
+        level = below(2) ? 192 : 256;
+        tau = 28 + below(5);
+        k = (level - 120) / tau;
+        deeper = level - 120 - tau * k;
     }
-    const size_t k = 1 + below(4), tau = 1 + below(6);
-    const size_t deeper = below(2) ? 0 : below(tau), w = 128 - tau * k - deeper;
-    s[0] = tau;
-    s[1] = k;
-    s[2] = w > 127 ? 127 : w;
-    s[3] = below(5) ? tau * (k + 1) + below(3) : 1 + below(tau);
+    const size_t w = level - tau * k - deeper;
+    return (shape){tau, k, w > 127 ? 127 : w, below(5) ? tau * (k + 1) + below(3) : 1 + below(tau), level};
 }
 
 static void make_base(struct base *base)
 {
-    uint8_t root[RACHNOEL_BLOCK], iv[RACHNOEL_BLOCK], challenge[RACHNOEL_BLOCK], commitment[RACHNOEL_COMMITMENT], count[RACHNOEL_COUNT], length[RACHNOEL_RECORD_LENGTH];
-    size_t s[4], row_bits;
-    random_shape(s);
-    row_bits = 8 * (1 + below(4));
-    const rachnoel_lengths n = rachnoel_lengths_of(s[0], s[1], s[2], s[3], row_bits / 8);
+    uint8_t root[RACHNOEL_NODE_MOST], iv[RACHNOEL_IV], challenge[RACHNOEL_NODE_MOST], commitment[RACHNOEL_COMMITMENT_MOST], count[RACHNOEL_COUNT], length[RACHNOEL_RECORD_LENGTH];
+    const shape s = random_shape();
+    const size_t row_bits = 8 * (1 + below(4));
+    const rachnoel_lengths n = rachnoel_lengths_of(NUMBERS(s), row_bits / 8);
     uint8_t *const tree = room(n.tree), *const lcs = room(n.leaf_commitments), *const u = room(n.u), *const v = room(n.matrix), *const corrections = room(n.corrections),
                   *const opening = room(n.opening);
     random_bytes(root, sizeof root);
     random_bytes(iv, sizeof iv);
     random_bytes(challenge, sizeof challenge);
     if (below(12))
-        for (size_t bit = 128 - (s[0] == 0 ? 8 : s[2]); bit < 128; bit++)
+        for (size_t bit = s.level - grinding_bits(s); bit < s.level; bit++)
             challenge[bit / 8] &= (uint8_t)~(1u << bit % 8);
-    must(rachnoel_commit(s[0], s[1], s[2], s[3], row_bits, root, sizeof root, iv, sizeof iv, commitment, sizeof commitment, tree, n.tree, lcs, n.leaf_commitments, u, n.u, v,
+    must(rachnoel_commit(NUMBERS(s), row_bits, root, n.node, iv, sizeof iv, commitment, n.commitment, tree, n.tree, lcs, n.leaf_commitments, u, n.u, v,
              n.matrix, corrections, n.corrections, count, sizeof count),
         "commit");
-    if (rachnoel_open(s[0], s[1], s[2], s[3], challenge, sizeof challenge, tree, n.tree, lcs, n.leaf_commitments, opening, n.opening, count, sizeof count) != 0)
+    if (rachnoel_open(NUMBERS(s), challenge, n.node, tree, n.tree, lcs, n.leaf_commitments, opening, n.opening, count, sizeof count) != 0)
         random_bytes(opening, n.opening);
-    must(rachnoel_record_length(s[0], s[1], s[2], s[3], row_bits, length, sizeof length), "record_length");
+    must(rachnoel_record_length(NUMBERS(s), row_bits, length, sizeof length), "record_length");
     base->length = rachnoel_number(length);
     if (base->length > MOST) {
         fprintf(stderr, "a record of %zu bytes\n", base->length);
         exit(1);
     }
-    must(rachnoel_write_record(s[0], s[1], s[2], s[3], row_bits, iv, sizeof iv, challenge, sizeof challenge, corrections, n.corrections, opening, n.opening, commitment,
-             sizeof commitment, base->bytes, base->length),
+    must(rachnoel_write_record(NUMBERS(s), row_bits, iv, sizeof iv, challenge, n.node, corrections, n.corrections, opening, n.opening, commitment,
+             n.commitment, base->bytes, base->length),
         "write_record");
-    const size_t lengths[6] = {9, sizeof iv, sizeof challenge, n.corrections, n.opening, sizeof commitment};
+    /* at level 128 one in three becomes version 1, whose first field has no level */
+    const int first = s.level == 128 && below(3) == 0;
+    if (first) {
+        base->bytes[0] = 1;
+        base->bytes[4] = 9;
+        base->length--;
+        memmove(base->bytes + 14, base->bytes + 15, base->length - 14);
+    }
+    const size_t lengths[6] = {first ? 9 : 10, sizeof iv, n.node, n.corrections, n.opening, n.commitment};
     size_t at = 1;
     for (size_t i = 0; i < 6; i++) {
         base->fields[i] = at;
@@ -144,8 +153,8 @@ static size_t change(const struct base *base, uint8_t *bytes, size_t length)
             put_number(bytes + field, odd[below(sizeof odd / sizeof odd[0])]);
         break;
     case 5:
-        if (length >= 14)
-            memcpy(bytes + 5, other->bytes + 5, 9);
+        if (length >= 15)
+            memcpy(bytes + 5, other->bytes + 5, 10);
         break;
     case 6: {
         const size_t most = length < other->length ? length : other->length, at = below(most), n = 1 + below(most - at);
@@ -158,8 +167,8 @@ static size_t change(const struct base *base, uint8_t *bytes, size_t length)
         break;
     }
     default: /* a byte of the commitment, where it is still there */
-        if (base->fields[5] + 36 <= length)
-            bytes[base->fields[5] + 4 + below(32)] ^= (uint8_t)(1 + below(255));
+        if (base->length <= length)
+            bytes[base->fields[5] + 4 + below(base->length - base->fields[5] - 4)] ^= (uint8_t)(1 + below(255));
     }
     return length;
 }

@@ -1,65 +1,69 @@
-/* The header's rule for shapes and its lengths are those of the calls: every tau, k and w up to past their limits, with several t. */
+/* The header's rule for shapes and its lengths are those of the calls: every tau, k and w up to past their limits, with several t and levels. */
 #include <rachnoel.h>
+
+#include "shape.h"
 
 #include <stdio.h>
 
-enum { ROW = 1, MOST_LEAVES = 40960 };
-static uint8_t tree[32 * MOST_LEAVES], lcs[48 * MOST_LEAVES], opening[48 * 32 + 16 * 512 + 1], list[4 * 512 + 1];
-static uint8_t challenge[RACHNOEL_BLOCK], iv[RACHNOEL_BLOCK], commitment[RACHNOEL_COMMITMENT], q[128 * ROW + 1], corrections[31 * ROW + 1], count[RACHNOEL_COUNT];
+enum { ROW = 1, MOST_LEAVES = 86016 };
+static uint8_t tree[64 * MOST_LEAVES], lcs[96 * MOST_LEAVES + 1], opening[96 * 32 + 32 * 512 + 1], list[4 * 512 + 1];
+static uint8_t challenge[RACHNOEL_NODE_MOST + 1], iv[RACHNOEL_IV], commitment[RACHNOEL_COMMITMENT_MOST + 1], q[256 * ROW + 1], corrections[31 * ROW + 1], count[RACHNOEL_COUNT];
 
 static size_t wrong, shapes;
 
-static void expect(int right, const char *what, const size_t s[4])
+static void expect(int right, const char *what, shape s)
 {
     if (!right) {
-        printf("%s: tau %zu, k %zu, w %zu, t %zu\n", what, s[0], s[1], s[2], s[3]);
+        printf("%s: tau %zu, k %zu, w %zu, t %zu, level %zu\n", what, NUMBERS(s));
         wrong++;
     }
 }
 
-/* reconstruct with a grinding bit set: 4 where every length is right. Of the five buffers whose length the shape or the row decides, the one numbered `longer` has a byte more. */
-static size_t reconstruct(const size_t s[4], const rachnoel_lengths *n, int longer)
+/* reconstruct with a grinding bit set: 4 where every length is right. Of the seven buffers whose length the shape or the row decides, the one numbered `longer` has a byte more. */
+static size_t reconstruct(shape s, const rachnoel_lengths *n, int longer)
 {
-    return rachnoel_reconstruct(s[0], s[1], s[2], s[3], 8 * ROW, iv, sizeof iv, challenge, sizeof challenge, corrections, n->corrections + (longer == 1), opening,
-        n->opening + (longer == 2), commitment, sizeof commitment, tree, n->tree + (longer == 3), lcs, n->leaf_commitments + (longer == 4), q,
+    return rachnoel_reconstruct(NUMBERS(s), 8 * ROW, iv, sizeof iv, challenge, n->node + (longer == 6), corrections, n->corrections + (longer == 1), opening,
+        n->opening + (longer == 2), commitment, n->commitment + (longer == 7), tree, n->tree + (longer == 3), lcs, n->leaf_commitments + (longer == 4), q,
         n->matrix + (longer == 5), count, sizeof count);
 }
 
-static void try(const size_t s[4])
+static void try(shape s)
 {
-    const rachnoel_lengths n = rachnoel_lengths_of(s[0], s[1], s[2], s[3], ROW);
-    size_t number = rachnoel_decode(s[0], s[1], s[2], s[3], challenge, 0, list, 0, count, sizeof count);
+    const rachnoel_lengths n = rachnoel_lengths_of(NUMBERS(s), ROW);
+    size_t number = rachnoel_decode(NUMBERS(s), challenge, 0, list, 0, count, sizeof count);
     expect(number == (n.leaves == 0 ? RACHNOEL_SHAPE : RACHNOEL_BUFFER), "a shape", s);
     if (n.leaves == 0)
         return;
     shapes++;
-    challenge[15] = 0;
     for (size_t more = 0; more < 2; more++) {
-        number = rachnoel_decode(s[0], s[1], s[2], s[3], challenge, sizeof challenge, list, n.indices + more, count, sizeof count);
+        number = rachnoel_decode(NUMBERS(s), challenge, n.node, list, n.indices + more, count, sizeof count);
         expect(number == (more ? RACHNOEL_BUFFER : 0), "the indices", s);
-        number = rachnoel_plan(s[0], s[1], s[2], s[3], challenge, sizeof challenge, list, n.nodes + more, count, sizeof count);
+        number = rachnoel_plan(NUMBERS(s), challenge, n.node, list, n.nodes + more, count, sizeof count);
         expect(more ? number == RACHNOEL_BUFFER : number == 0 || number == RACHNOEL_NODES, "the nodes", s);
     }
-    challenge[15] = 0x80;
-    if (s[2] > 0 || s[0] == 0)
-        for (int longer = 0; longer <= 5; longer++)
+    challenge[n.node - 1] = 0x80;
+    if (grinding_bits(s) > 0)
+        for (int longer = 0; longer <= 7; longer++)
             expect(reconstruct(s, &n, longer) == (longer ? RACHNOEL_BUFFER : RACHNOEL_GRINDING), "the buffers of reconstruct", s);
+    challenge[n.node - 1] = 0;
 }
 
 int main(void)
 {
-    static const size_t ts[] = {0, 1, 2, 110, 512, 513, (size_t)-1};
+    static const size_t ts[] = {0, 1, 110, 512, 513, (size_t)-1}, levels[] = {128, 192, 256, 0, 127, 160, 384, (size_t)-1};
     for (size_t tau = 0; tau <= 34; tau++)
         for (size_t k = 0; k <= 14; k++)
             for (size_t w = 0; w <= 130; w++)
-                for (size_t i = 0; i < sizeof ts / sizeof ts[0]; i++)
-                    try((const size_t[4]){tau, k, w, ts[i]});
+                for (size_t l = 0; l < sizeof levels / sizeof levels[0]; l++)
+                    for (size_t i = 0; i < sizeof ts / sizeof ts[0]; i++)
+                        try((shape){tau, k, w, ts[i], levels[l]});
     /* numbers whose products wrap */
     static const size_t large[] = {64, 1 << 16, (size_t)1 << 32, (size_t)1 << 63, (size_t)-1};
     for (size_t i = 0; i < sizeof large / sizeof large[0]; i++)
-        for (int place = 0; place < 4; place++) {
-            size_t s[4] = {11, 11, 7, 102};
-            s[place] = large[i];
+        for (int place = 0; place < 5; place++) {
+            shape s = FAEST_128S;
+            size_t *const numbers[] = {&s.tau, &s.k, &s.w, &s.t, &s.level};
+            *numbers[place] = large[i];
             try(s);
         }
     printf("%zu shapes, %zu wrong\n", shapes, wrong);

@@ -1,6 +1,8 @@
 /* make_record: a signing record to try things with. docs/TOOLS.md has its page. It is for those who sign: it holds both what makes a commitment and the writer. */
 #include <rachnoel.h>
 
+#include "shape.h"
+
 #include <errno.h>
 #include <stdio.h>
 #include <stdlib.h>
@@ -15,10 +17,11 @@ static const char usage[] =
 static const char help[] =
     "Commits to the tree of a root, opens it for a challenge, and writes the signing record to standard output.\n"
     "\n"
-    "SET        128f, 128s, zeros (four zeros in the record, which stand for 128f), or TAU,K,W,T\n"
-    "ROWBITS    the row length, 1680 where it is not given\n"
-    "ROOT, IV   32 hexadecimal digits, byte 0 first; 00 01 .. 0f and 10 11 .. 1f where they are not given\n"
-    "CHALLENGE  likewise; where it is not given, the first of a fixed list of challenges that the set allows\n"
+    "SET        128s, 128f, 192s, 192f, 256s, 256f, zeros (four zeros in the record, which stand for 128f), TAU,K,W,T,LEVEL,\n"
+    "           or TAU,K,W,T at level 128\n"
+    "ROWBITS    the row length; where it is not given, that of the named set, and 1680 of another\n"
+    "ROOT, IV   hexadecimal digits, byte 0 first: level / 8 bytes of a root, 16 of an IV; 00 01 .. and 10 11 .. 1f where they are not given\n"
+    "CHALLENGE  level / 8 bytes; where it is not given, the first of a fixed list of challenges that the set allows\n"
     "\n"
     "Exit status: 0 the record is written, 1 a call refused (its number is said), 2 wrong usage, or no output.\n";
 
@@ -34,32 +37,37 @@ static int to_number(const char *text, size_t *x)
     return errno == 0 && *end == '\0';
 }
 
-static int to_shape(const char *text, size_t s[4])
+static int to_shape(const char *text, shape *s, size_t *row_bits)
 {
     static const struct {
         const char *name;
-        size_t shape[4];
-    } sets[] = {{"128f", {16, 7, 8, 110}}, {"128s", {11, 11, 7, 102}}, {"zeros", {0, 0, 0, 0}}};
+        shape set;
+        size_t row_bits;
+    } sets[] = {{"128s", FAEST_128S, 1680}, {"128f", FAEST_128F, 1680}, {"zeros", DEFAULT, 1680}, {"192s", FAEST_192S, 3088}, {"192f", FAEST_192F, 3088},
+        {"256s", FAEST_256S, 3888}, {"256f", FAEST_256F, 3888}};
     for (size_t i = 0; i < sizeof sets / sizeof sets[0]; i++)
         if (strcmp(text, sets[i].name) == 0) {
-            memcpy(s, sets[i].shape, sizeof sets[i].shape);
+            *s = sets[i].set;
+            *row_bits = sets[i].row_bits;
             return 1;
         }
+    s->level = 128;
+    size_t *const numbers[] = {&s->tau, &s->k, &s->w, &s->t, &s->level};
     char copy[64], *part = copy;
     if (strlen(text) >= sizeof copy)
         return 0;
     strcpy(copy, text);
-    for (size_t i = 0; i < 4; i++) {
+    for (size_t i = 0; i < 5; i++) {
         char *const comma = strchr(part, ',');
-        if ((comma == NULL) != (i == 3))
-            return 0;
         if (comma != NULL)
             *comma = '\0';
-        if (!to_number(part, &s[i]))
+        if (!to_number(part, numbers[i]))
             return 0;
-        part = comma == NULL ? part : comma + 1;
+        if (comma == NULL)
+            return i >= 3;
+        part = comma + 1;
     }
-    return 1;
+    return 0;
 }
 
 static int digit(char c)
@@ -67,15 +75,16 @@ static int digit(char c)
     return c >= '0' && c <= '9' ? c - '0' : c >= 'a' && c <= 'f' ? c - 'a' + 10 : c >= 'A' && c <= 'F' ? c - 'A' + 10 : -1;
 }
 
-static int to_block(const char *text, uint8_t block[RACHNOEL_BLOCK])
+/* n bytes; of a number of digits that is not 2 n none is taken */
+static int to_bytes(const char *text, uint8_t *bytes, size_t n)
 {
-    if (strlen(text) != 2 * RACHNOEL_BLOCK)
+    if (strlen(text) != 2 * n)
         return 0;
-    for (size_t i = 0; i < RACHNOEL_BLOCK; i++) {
+    for (size_t i = 0; i < n; i++) {
         const int high = digit(text[2 * i]), low = digit(text[2 * i + 1]);
         if (high < 0 || low < 0)
             return 0;
-        block[i] = (uint8_t)(16 * high + low);
+        bytes[i] = (uint8_t)(16 * high + low);
     }
     return 1;
 }
@@ -90,11 +99,11 @@ static uint64_t splitmix(uint64_t *state)
     return z ^ z >> 31;
 }
 
-static void next_challenge(uint64_t *state, size_t w, uint8_t challenge[RACHNOEL_BLOCK])
+static void next_challenge(uint64_t *state, shape s, uint8_t *challenge)
 {
-    for (size_t i = 0; i < RACHNOEL_BLOCK; i++)
+    for (size_t i = 0; i < s.level / 8; i++)
         challenge[i] = (uint8_t)splitmix(state);
-    for (size_t bit = 128 - w; bit < 128; bit++)
+    for (size_t bit = s.level - grinding_bits(s); bit < s.level; bit++)
         challenge[bit / 8] &= (uint8_t)~(1u << bit % 8);
 }
 
@@ -106,13 +115,13 @@ static int refused(const char *call, size_t number)
     return REFUSED;
 }
 
-static int make(const size_t s[4], size_t row_bits, const uint8_t root[RACHNOEL_BLOCK], const uint8_t iv[RACHNOEL_BLOCK], uint8_t challenge[RACHNOEL_BLOCK], int drawn)
+static int make(shape s, size_t row_bits, const uint8_t *root, const uint8_t iv[RACHNOEL_IV], uint8_t *challenge, int drawn)
 {
-    uint8_t length[RACHNOEL_RECORD_LENGTH], count[RACHNOEL_COUNT], commitment[RACHNOEL_COMMITMENT];
-    size_t number = rachnoel_record_length(s[0], s[1], s[2], s[3], row_bits, length, sizeof length);
+    uint8_t length[RACHNOEL_RECORD_LENGTH], count[RACHNOEL_COUNT], commitment[RACHNOEL_COMMITMENT_MOST];
+    size_t number = rachnoel_record_length(NUMBERS(s), row_bits, length, sizeof length);
     if (number != 0)
         return refused("record_length", number);
-    const rachnoel_lengths n = rachnoel_lengths_of(s[0], s[1], s[2], s[3], row_bits / 8);
+    const rachnoel_lengths n = rachnoel_lengths_of(NUMBERS(s), row_bits / 8);
     const size_t bytes = rachnoel_number(length);
     uint8_t *const tree = malloc(n.tree), *const lcs = malloc(n.leaf_commitments), *const u = malloc(n.u), *const v = malloc(n.matrix);
     uint8_t *const corrections = malloc(n.corrections + 1), *const opening = malloc(n.opening), *const record = malloc(bytes); /* + 1: malloc(0) may be NULL */
@@ -121,18 +130,17 @@ static int make(const size_t s[4], size_t row_bits, const uint8_t root[RACHNOEL_
         fprintf(stderr, "make_record: %s\n", strerror(ENOMEM));
         goto out;
     }
-    number = rachnoel_commit(s[0], s[1], s[2], s[3], row_bits, root, RACHNOEL_BLOCK, iv, RACHNOEL_BLOCK, commitment, sizeof commitment, tree, n.tree, lcs,
+    number = rachnoel_commit(NUMBERS(s), row_bits, root, n.node, iv, RACHNOEL_IV, commitment, n.commitment, tree, n.tree, lcs,
         n.leaf_commitments, u, n.u, v, n.matrix, corrections, n.corrections, count, sizeof count);
     if (number != 0) {
         status = refused("commit", number);
         goto out;
     }
     uint64_t state = 1;
-    const size_t w = s[0] == 0 ? 8 : s[2];
     for (int tries = 0;; tries++) {
         if (drawn)
-            next_challenge(&state, w, challenge);
-        number = rachnoel_open(s[0], s[1], s[2], s[3], challenge, RACHNOEL_BLOCK, tree, n.tree, lcs, n.leaf_commitments, opening, n.opening, count, sizeof count);
+            next_challenge(&state, s, challenge);
+        number = rachnoel_open(NUMBERS(s), challenge, n.node, tree, n.tree, lcs, n.leaf_commitments, opening, n.opening, count, sizeof count);
         if (number != RACHNOEL_NODES || !drawn || tries == 100000)
             break;
     }
@@ -140,8 +148,8 @@ static int make(const size_t s[4], size_t row_bits, const uint8_t root[RACHNOEL_
         status = refused("open", number);
         goto out;
     }
-    number = rachnoel_write_record(s[0], s[1], s[2], s[3], row_bits, iv, RACHNOEL_BLOCK, challenge, RACHNOEL_BLOCK, corrections, n.corrections, opening, n.opening,
-        commitment, sizeof commitment, record, bytes);
+    number = rachnoel_write_record(NUMBERS(s), row_bits, iv, RACHNOEL_IV, challenge, n.node, corrections, n.corrections, opening, n.opening,
+        commitment, n.commitment, record, bytes);
     if (number != 0) {
         status = refused("write_record", number);
         goto out;
@@ -157,18 +165,24 @@ out:
 
 int main(int argc, char **argv)
 {
-    size_t s[4], row_bits = 1680;
-    uint8_t root[RACHNOEL_BLOCK], iv[RACHNOEL_BLOCK], challenge[RACHNOEL_BLOCK] = {0};
-    for (size_t i = 0; i < RACHNOEL_BLOCK; i++) {
+    shape s;
+    size_t row_bits = 1680;
+    uint8_t root[RACHNOEL_NODE_MOST], iv[RACHNOEL_IV], challenge[RACHNOEL_NODE_MOST] = {0};
+    for (size_t i = 0; i < sizeof root; i++)
         root[i] = (uint8_t)i;
+    for (size_t i = 0; i < sizeof iv; i++)
         iv[i] = (uint8_t)(16 + i);
-    }
     if (argc == 2 && strcmp(argv[1], "--help") == 0) {
         printf("%s\n%s", usage, help);
         return fflush(stdout) == 0 ? DONE : TROUBLE;
     }
-    if (argc < 2 || argc == 4 || argc > 6 || !to_shape(argv[1], s) || (argc > 2 && !to_number(argv[2], &row_bits))
-        || (argc > 4 && (!to_block(argv[3], root) || !to_block(argv[4], iv))) || (argc > 5 && !to_block(argv[5], challenge))) {
+    if (argc < 2 || argc == 4 || argc > 6 || !to_shape(argv[1], &s, &row_bits) || (argc > 2 && !to_number(argv[2], &row_bits))) {
+        fprintf(stderr, "%s", usage);
+        return TROUBLE;
+    }
+    /* of a level that is none any length will do: the first call refuses the shape */
+    const size_t node = s.level == 192 ? 24 : s.level == 256 ? 32 : 16;
+    if ((argc > 4 && (!to_bytes(argv[3], root, node) || !to_bytes(argv[4], iv, sizeof iv))) || (argc > 5 && !to_bytes(argv[5], challenge, node))) {
         fprintf(stderr, "%s", usage);
         return TROUBLE;
     }

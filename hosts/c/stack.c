@@ -1,7 +1,9 @@
-/* How deep the stack of each exported call goes, at the largest trees, at the smallest and at the two sets: the call runs on a stack of the size that the header names, with a
+/* How deep the stack of each exported call goes, at the largest trees, at the smallest and at the sets of each level: the call runs on a stack of the size that the header names, with a
  * forbidden page beneath, which is filled before and looked through after. Prints the deepest of each call; exit status 1 where a call was refused or went beyond seven eighths. */
 #define _DEFAULT_SOURCE
 #include <rachnoel.h>
+
+#include "shape.h"
 
 #include <stdio.h>
 #include <stdlib.h>
@@ -11,41 +13,41 @@
 #include <unistd.h>
 
 enum { BITS = 1680, ROW = BITS / 8, FIRST = 5, WIDTH = 200, FILL = 0xa5 };
-static size_t shape[4];
-#define SHAPE shape[0], shape[1], shape[2], shape[3]
+static shape now;
+#define SHAPE NUMBERS(now)
 
 static rachnoel_lengths n, m; /* of the whole rows, and of the stretch */
-static uint8_t root[RACHNOEL_BLOCK], iv[RACHNOEL_BLOCK], challenge[RACHNOEL_BLOCK], commitment[RACHNOEL_COMMITMENT], count[RACHNOEL_COUNT];
+static uint8_t root[RACHNOEL_NODE_MOST], iv[RACHNOEL_IV], challenge[RACHNOEL_NODE_MOST], commitment[RACHNOEL_COMMITMENT_MOST], count[RACHNOEL_COUNT];
 static uint8_t record[RACHNOEL_RECORD_MOST], length[RACHNOEL_RECORD_LENGTH], lengths[RACHNOEL_WORK_LENGTHS];
 static uint8_t *tree, *lcs, *u, *v, *corrections, *opening, *indices, *nodes;
 static size_t answer;
 
-static void decode(void) { answer = rachnoel_decode(SHAPE, challenge, 16, indices, n.indices, count, 4); }
-static void plan(void) { answer = rachnoel_plan(SHAPE, challenge, 16, nodes, n.nodes, count, 4); }
+static void decode(void) { answer = rachnoel_decode(SHAPE, challenge, n.node, indices, n.indices, count, 4); }
+static void plan(void) { answer = rachnoel_plan(SHAPE, challenge, n.node, nodes, n.nodes, count, 4); }
 static void commit(void)
 {
-    answer = rachnoel_commit(SHAPE, BITS, root, 16, iv, 16, commitment, 32, tree, n.tree, lcs, n.leaf_commitments, u, n.u, v, n.matrix, corrections, n.corrections, count, 4);
+    answer = rachnoel_commit(SHAPE, BITS, root, n.node, iv, 16, commitment, n.commitment, tree, n.tree, lcs, n.leaf_commitments, u, n.u, v, n.matrix, corrections, n.corrections, count, 4);
 }
 static void commit_stretch(void)
 {
-    answer = rachnoel_commit_stretch(SHAPE, BITS, FIRST, WIDTH, root, 16, iv, 16, commitment, 32, tree, m.tree, lcs, m.leaf_commitments, u, m.u, v, m.matrix, corrections,
+    answer = rachnoel_commit_stretch(SHAPE, BITS, FIRST, WIDTH, root, n.node, iv, 16, commitment, n.commitment, tree, m.tree, lcs, m.leaf_commitments, u, m.u, v, m.matrix, corrections,
         m.corrections, count, 4);
 }
-static void opened(void) { answer = rachnoel_open(SHAPE, challenge, 16, tree, n.tree, lcs, n.leaf_commitments, opening, n.opening, count, 4); }
+static void opened(void) { answer = rachnoel_open(SHAPE, challenge, n.node, tree, n.tree, lcs, n.leaf_commitments, opening, n.opening, count, 4); }
 static void reconstruct(void)
 {
-    answer = rachnoel_reconstruct(SHAPE, BITS, iv, 16, challenge, 16, corrections, n.corrections, opening, n.opening, commitment, 32, tree, n.tree, lcs, n.leaf_commitments, v,
+    answer = rachnoel_reconstruct(SHAPE, BITS, iv, 16, challenge, n.node, corrections, n.corrections, opening, n.opening, commitment, n.commitment, tree, n.tree, lcs, n.leaf_commitments, v,
         n.matrix, count, 4);
 }
 static void reconstruct_stretch(void)
 {
-    answer = rachnoel_reconstruct_stretch(SHAPE, BITS, FIRST, WIDTH, iv, 16, challenge, 16, corrections, m.corrections, opening, m.opening, commitment, 32, tree, m.tree, lcs,
+    answer = rachnoel_reconstruct_stretch(SHAPE, BITS, FIRST, WIDTH, iv, 16, challenge, n.node, corrections, m.corrections, opening, m.opening, commitment, n.commitment, tree, m.tree, lcs,
         m.leaf_commitments, v, m.matrix, count, 4);
 }
 static void record_length(void) { answer = rachnoel_record_length(SHAPE, BITS, length, 4); }
 static void write_record(void)
 {
-    answer = rachnoel_write_record(SHAPE, BITS, iv, 16, challenge, 16, corrections, n.corrections, opening, n.opening, commitment, 32, record, rachnoel_number(length));
+    answer = rachnoel_write_record(SHAPE, BITS, iv, 16, challenge, n.node, corrections, n.corrections, opening, n.opening, commitment, n.commitment, record, rachnoel_number(length));
 }
 static void work_lengths(void) { answer = rachnoel_work_lengths(record, rachnoel_number(length), lengths, 12); }
 static void check_record(void)
@@ -88,10 +90,11 @@ static size_t depth(void (*work)(void))
 
 int main(void)
 {
-    static const size_t shapes[][4] = {{0, 0, 0, 0}, {11, 11, 7, 102}, {10, 12, 8, 512}, {32, 4, 0, 512}, {10, 11, 9, 512}, {1, 1, 127, 1}};
+    static const shape shapes[] = {DEFAULT, FAEST_128S, {10, 12, 8, 512, 128}, {32, 4, 0, 512, 128}, {10, 11, 9, 512, 128}, {1, 1, 127, 1, 128}, FAEST_192S, FAEST_192F, {16, 12, 0, 512, 192},
+        {32, 2, 127, 512, 192}, FAEST_256S, FAEST_256F, {21, 12, 4, 512, 256}, {32, 8, 0, 512, 256}, {21, 11, 5, 512, 256}};
     size_t deepest[CALLS] = {0}, wrong = 0;
     for (size_t i = 0; i < sizeof shapes / sizeof shapes[0]; i++) {
-        memcpy(shape, shapes[i], sizeof shape);
+        now = shapes[i];
         n = rachnoel_lengths_of(SHAPE, ROW);
         m = rachnoel_lengths_of(SHAPE, WIDTH);
         tree = calloc(1, n.tree), lcs = calloc(1, n.leaf_commitments), u = calloc(1, n.u), v = calloc(1, n.matrix), corrections = calloc(1, n.corrections);
@@ -100,7 +103,7 @@ int main(void)
             return 1;
         /* hidden leaves far apart where T allows it */
         memset(challenge, 0, sizeof challenge);
-        for (size_t b = 0; shape[3] == 512 && b < 128 - shape[2]; b++)
+        for (size_t b = 0; now.t == 512 && b < now.level - now.w; b++)
             if (b * b % 7 == 4)
                 challenge[b / 8] = (uint8_t)(challenge[b / 8] | 1u << b % 8);
         for (size_t c = 0; c < CALLS; c++) {
@@ -108,7 +111,7 @@ int main(void)
             calls[c].work(); /* the first call may bind names of the C library, on the stack it runs on */
             const size_t d = depth(calls[c].work);
             if (answer != 0 || d > RACHNOEL_STACK / 8 * 7)
-                wrong += (size_t)printf("%s: answered %zu, %zu bytes of stack, at tau %zu\n", calls[c].name, answer, d, shape[0]);
+                wrong += (size_t)printf("%s: answered %zu, %zu bytes of stack, at tau %zu, level %zu\n", calls[c].name, answer, d, now.tau, now.level);
             if (deepest[c] < d)
                 deepest[c] = d;
         }

@@ -2,16 +2,16 @@
 
 use crate::prg::{h0, h1, prg};
 use crate::shape::Shape;
-use crate::{field, Block, Digest, LeafCom};
+use crate::{field, Block, Digest, LeafCom, Node};
 
 /// What [`commit`] and [`reconstruct`] give: the commitment, the nodes of the
 /// tree, and for each vector its leaf commitments and leaf seeds in entry
 /// order. A node or seed that reconstruction cannot know is `None`.
 pub struct Vectors {
     pub com: Digest,
-    pub nodes: Vec<Option<Block>>,
+    pub nodes: Vec<Option<Node>>,
     pub leaf_coms: Vec<Vec<LeafCom>>,
-    pub seeds: Vec<Vec<Option<Block>>>,
+    pub seeds: Vec<Vec<Option<Node>>>,
 }
 
 /// Why [`reconstruct`] gives ⊥: line 18 or line 23 of figure 5.5.
@@ -32,28 +32,29 @@ pub fn pos_in_tree(shape: &Shape, i: usize, j: usize) -> usize {
     shape.leaves() - 1 + place
 }
 
-/// Figure 5.3: FAEST.LeafHash, h = u x_0 + x_1 in the field of 2^384 elements.
-pub fn leaf_hash(uhash: &LeafCom, x0: &Block, x1: &[u8]) -> LeafCom {
-    let hash = field::leaf_hash::<6>(uhash, x0, x1);
-    hash.try_into().expect("48 bytes")
+/// Figure 5.3: FAEST.LeafHash, h = u x_0 + x_1 in the field of 2^(3λ) elements,
+/// where x_0 has λ bits.
+pub fn leaf_hash(uhash: &[u8], x0: &[u8], x1: &[u8]) -> LeafCom {
+    match x0.len() {
+        16 => field::leaf_hash::<6>(uhash, x0, x1),
+        24 => field::leaf_hash::<9>(uhash, x0, x1),
+        32 => field::leaf_hash::<12>(uhash, x0, x1),
+        _ => panic!("no field of this width"),
+    }
 }
 
-/// Figure 5.3: FAEST.LeafCommit, the seed and the commitment of a leaf.
-pub fn leaf_commit(r: &Block, iv: &Block, twk: u32, uhash: &LeafCom) -> (Block, LeafCom) {
-    let stretched = prg(r, iv, twk, 512);
-    let (sd, x1) = stretched.split_at(16);
-    let sd = sd.try_into().expect("16 bytes");
-    (sd, leaf_hash(uhash, &sd, x1))
+/// Figure 5.3: FAEST.LeafCommit, the seed of λ bits and the commitment of a leaf.
+pub fn leaf_commit(r: &[u8], iv: &Block, twk: u32, uhash: &[u8]) -> (Node, LeafCom) {
+    let stretched = prg(r, iv, twk, 4 * 8 * r.len());
+    let (sd, x1) = stretched.split_at(r.len());
+    (sd.to_vec(), leaf_hash(uhash, sd, x1))
 }
 
 /// The two halves of 2λ bits from node α: figure 5.4, line 7.
-fn children(node: &Block, iv: &Block, alpha: usize) -> (Block, Block) {
-    let both = prg(node, iv, alpha as u32, 256);
-    let (left, right) = both.split_at(16);
-    (
-        left.try_into().expect("16 bytes"),
-        right.try_into().expect("16 bytes"),
-    )
+fn children(node: &[u8], iv: &Block, alpha: usize) -> (Node, Node) {
+    let both = prg(node, iv, alpha as u32, 2 * 8 * node.len());
+    let (left, right) = both.split_at(node.len());
+    (left.to_vec(), right.to_vec())
 }
 
 /// Figure 5.4, lines 8 to 13, which are lines 28 to 37 of figure 5.5: the leaf
@@ -62,10 +63,10 @@ fn children(node: &Block, iv: &Block, alpha: usize) -> (Block, Block) {
 fn commit_leaves(
     shape: &Shape,
     iv: &Block,
-    nodes: Vec<Option<Block>>,
+    nodes: Vec<Option<Node>>,
     hidden: &[LeafCom],
 ) -> Vectors {
-    let uhash = h0(iv, shape.tau);
+    let uhash = h0(shape.level, iv, shape.tau);
     let (mut leaf_coms, mut seeds, mut h) = (Vec::new(), Vec::new(), Vec::new());
     for i in 0..shape.tau {
         let twk = (i + shape.leaves() - 1) as u32;
@@ -76,17 +77,17 @@ fn commit_leaves(
                     let (seed, com) = leaf_commit(node, iv, twk, &uhash[i]);
                     (Some(seed), com)
                 }
-                None => (None, hidden[i]),
+                None => (None, hidden[i].clone()),
             };
             seeds_i.push(seed);
             coms_i.push(com);
         }
-        h.push(h1(&coms_i.concat()));
+        h.push(h1(shape.level, &coms_i.concat()));
         leaf_coms.push(coms_i);
         seeds.push(seeds_i);
     }
     Vectors {
-        com: h1(&h.concat()),
+        com: h1(shape.level, &h.concat()),
         nodes,
         leaf_coms,
         seeds,
@@ -94,10 +95,10 @@ fn commit_leaves(
 }
 
 /// Figure 5.4: BAVC.Commit.
-pub fn commit(shape: &Shape, r: &Block, iv: &Block) -> Vectors {
+pub fn commit(shape: &Shape, r: &[u8], iv: &Block) -> Vectors {
     let l = shape.leaves();
-    let mut k = vec![[0; 16]; 2 * l - 1];
-    k[0] = *r;
+    let mut k = vec![Node::new(); 2 * l - 1];
+    k[0] = r.to_vec();
     for alpha in 0..=l - 2 {
         (k[2 * alpha + 1], k[2 * alpha + 2]) = children(&k[alpha], iv, alpha);
     }
@@ -140,16 +141,17 @@ pub fn revealed_nodes(shape: &Shape, hidden: &[usize]) -> Vec<usize> {
 /// Figure 5.4: BAVC.Open, from the nodes and the leaf commitments (vector after
 /// vector) in bytes; nothing where the node count exceeds T_open.
 pub fn open(shape: &Shape, tree: &[u8], leaf_coms: &[u8], hidden: &[usize]) -> Option<Vec<u8>> {
+    let (n, m) = (shape.node_bytes(), shape.leaf_commitment_bytes());
     let mut decom = Vec::new();
     for (i, &delta) in hidden.iter().enumerate() {
-        let at = 48 * (shape.entries_before(i) + delta);
-        decom.extend(&leaf_coms[at..at + 48]);
+        let at = m * (shape.entries_before(i) + delta);
+        decom.extend(&leaf_coms[at..at + m]);
     }
     if node_count(shape, hidden) > shape.t {
         return None;
     }
     for alpha in revealed_nodes(shape, hidden) {
-        decom.extend(&tree[16 * alpha..16 * alpha + 16]);
+        decom.extend(&tree[n * alpha..n * alpha + n]);
     }
     decom.resize(shape.opening_bytes(), 0);
     Some(decom)
@@ -163,12 +165,10 @@ pub fn reconstruct(
     iv: &Block,
 ) -> Result<Vectors, Bottom> {
     let l = shape.leaves();
-    let (coms, nodes) = decom.split_at(48 * shape.tau);
-    let coms: Vec<LeafCom> = coms
-        .chunks_exact(48)
-        .map(|com| com.try_into().expect("48 bytes"))
-        .collect();
-    let mut nodes = nodes.chunks_exact(16);
+    let m = shape.leaf_commitment_bytes();
+    let (coms, nodes) = decom.split_at(m * shape.tau);
+    let coms: Vec<LeafCom> = coms.chunks_exact(m).map(LeafCom::from).collect();
+    let mut nodes = nodes.chunks_exact(shape.node_bytes());
 
     // Mark tree nodes that are not revealed.
     let mut s = vec![false; 2 * l - 1];
@@ -177,13 +177,13 @@ pub fn reconstruct(
     }
 
     // Walk up the tree, copying nodes from the opening.
-    let mut k: Vec<Option<Block>> = vec![None; 2 * l - 1];
+    let mut k: Vec<Option<Node>> = vec![None; 2 * l - 1];
     for i in (0..=l - 2).rev() {
         s[i] = s[2 * i + 1] || s[2 * i + 2];
         if s[2 * i + 1] ^ s[2 * i + 2] {
             let node = nodes.next().ok_or(Bottom::TooManyNodes)?;
             let alpha = 2 * i + 1 + usize::from(s[2 * i + 1]);
-            k[alpha] = Some(node.try_into().expect("16 bytes"));
+            k[alpha] = Some(node.to_vec());
         }
     }
 
@@ -195,8 +195,8 @@ pub fn reconstruct(
     // Expand the tree. A node that is not marked has its seed by now.
     for i in 0..=l - 2 {
         if !s[i] {
-            let node = k[i].expect("an unmarked node is known");
-            let (left, right) = children(&node, iv, i);
+            let node = k[i].as_ref().expect("an unmarked node is known");
+            let (left, right) = children(node, iv, i);
             (k[2 * i + 1], k[2 * i + 2]) = (Some(left), Some(right));
         }
     }

@@ -50,10 +50,14 @@ impl Answer {
     }
 }
 
-/// The tree of document 01: the nodes in order, 16 zero bytes for a covered one.
-fn tree_bytes(vectors: &Vectors) -> Vec<u8> {
+/// The tree of document 01: the nodes in order, zero bytes for a covered one.
+fn tree_bytes(shape: &Shape, vectors: &Vectors) -> Vec<u8> {
+    let zeros = vec![0; shape.node_bytes()];
     let nodes = vectors.nodes.iter();
-    nodes.flat_map(|node| node.unwrap_or_default()).collect()
+    let bytes: Vec<&[u8]> = nodes
+        .map(|node| node.as_ref().unwrap_or(&zeros).as_slice())
+        .collect();
+    bytes.concat()
 }
 
 /// The leaf commitments of document 01: vector after vector.
@@ -66,16 +70,13 @@ pub fn decode(shape: Shape, challenge: &[u8], indices: &mut [u32]) -> Answer {
     let Some(shape) = shape.resolve() else {
         return Answer::refused(Refusal::Shape, 0);
     };
-    let Ok(challenge) = Block::try_from(challenge) else {
-        return Answer::refused(Refusal::Buffer, 0);
-    };
-    if indices.len() != shape.tau {
+    if challenge.len() != shape.node_bytes() || indices.len() != shape.tau {
         return Answer::refused(Refusal::Buffer, 0);
     }
-    if !grinding_bits_are_zero(&shape, &challenge) {
+    if !grinding_bits_are_zero(&shape, challenge) {
         return Answer::refused(Refusal::Grinding, 0);
     }
-    for (place, index) in indices.iter_mut().zip(decode_all_chall(&shape, &challenge)) {
+    for (place, index) in indices.iter_mut().zip(decode_all_chall(&shape, challenge)) {
         *place = index as u32;
     }
     Answer::done(0)
@@ -87,16 +88,13 @@ pub fn plan(shape: Shape, challenge: &[u8], nodes: &mut [u32]) -> Answer {
     let Some(shape) = shape.resolve() else {
         return Answer::refused(Refusal::Shape, 0);
     };
-    let Ok(challenge) = Block::try_from(challenge) else {
-        return Answer::refused(Refusal::Buffer, 0);
-    };
-    if nodes.len() != shape.t {
+    if challenge.len() != shape.node_bytes() || nodes.len() != shape.t {
         return Answer::refused(Refusal::Buffer, 0);
     }
-    if !grinding_bits_are_zero(&shape, &challenge) {
+    if !grinding_bits_are_zero(&shape, challenge) {
         return Answer::refused(Refusal::Grinding, 0);
     }
-    let hidden = decode_all_chall(&shape, &challenge);
+    let hidden = decode_all_chall(&shape, challenge);
     let count = bavc::node_count(&shape, &hidden);
     if count > shape.t {
         return Answer::refused(Refusal::Nodes, count);
@@ -127,21 +125,22 @@ pub fn commit(
     let Some(b) = row_bytes(row_bits) else {
         return Answer::refused(Refusal::RowLength, 0);
     };
-    let (Ok(root), Ok(iv)) = (Block::try_from(root), Block::try_from(iv)) else {
+    let Ok(iv) = Block::try_from(iv) else {
         return Answer::refused(Refusal::Buffer, 0);
     };
-    if commitment.len() != 32
+    if root.len() != shape.node_bytes()
+        || commitment.len() != shape.commitment_bytes()
         || tree.len() != shape.tree_bytes()
         || leaf_commitments.len() != shape.leaf_commitments_bytes()
         || u.len() != b
-        || v.len() != 128 * b
-        || corrections.len() != (shape.tau - 1) * b
+        || v.len() != shape.matrix_bytes(b)
+        || corrections.len() != shape.corrections_bytes(b)
     {
         return Answer::refused(Refusal::Buffer, 0);
     }
-    let made = vole_commit(&shape, &root, &iv, row_bits);
+    let made = vole_commit(&shape, root, &iv, row_bits);
     commitment.copy_from_slice(&made.vectors.com);
-    tree.copy_from_slice(&tree_bytes(&made.vectors));
+    tree.copy_from_slice(&tree_bytes(&shape, &made.vectors));
     leaf_commitments.copy_from_slice(&leaf_commitment_bytes(&made.vectors));
     u.copy_from_slice(&made.u);
     v.copy_from_slice(&made.v.concat());
@@ -175,15 +174,14 @@ pub fn commit_stretch(
     let Some(places) = stretch.within(b) else {
         return Answer::refused(Refusal::Stretch, 0);
     };
-    let others = meant.tau - 1;
     if u.len() != stretch.width
-        || v.len() != 128 * stretch.width
-        || corrections.len() != others * stretch.width
+        || v.len() != meant.matrix_bytes(stretch.width)
+        || corrections.len() != meant.corrections_bytes(stretch.width)
     {
         return Answer::refused(Refusal::Buffer, 0);
     }
-    let (mut whole_u, mut whole_v) = (vec![0; b], vec![0; 128 * b]);
-    let mut whole_corrections = vec![0; others * b];
+    let (mut whole_u, mut whole_v) = (vec![0; b], vec![0; meant.matrix_bytes(b)]);
+    let mut whole_corrections = vec![0; meant.corrections_bytes(b)];
     let answer = commit(
         shape,
         row_bits,
@@ -216,19 +214,17 @@ pub fn open(
     let Some(shape) = shape.resolve() else {
         return Answer::refused(Refusal::Shape, 0);
     };
-    let Ok(challenge) = Block::try_from(challenge) else {
-        return Answer::refused(Refusal::Buffer, 0);
-    };
-    if tree.len() != shape.tree_bytes()
+    if challenge.len() != shape.node_bytes()
+        || tree.len() != shape.tree_bytes()
         || leaf_commitments.len() != shape.leaf_commitments_bytes()
         || opening.len() != shape.opening_bytes()
     {
         return Answer::refused(Refusal::Buffer, 0);
     }
-    if !grinding_bits_are_zero(&shape, &challenge) {
+    if !grinding_bits_are_zero(&shape, challenge) {
         return Answer::refused(Refusal::Grinding, 0);
     }
-    let hidden = decode_all_chall(&shape, &challenge);
+    let hidden = decode_all_chall(&shape, challenge);
     let count = bavc::node_count(&shape, &hidden);
     let Some(decom) = bavc::open(&shape, tree, leaf_commitments, &hidden) else {
         return Answer::refused(Refusal::Nodes, count);
@@ -257,29 +253,30 @@ pub fn reconstruct(
     let Some(b) = row_bytes(row_bits) else {
         return Answer::refused(Refusal::RowLength, 0);
     };
-    let (Ok(iv), Ok(challenge)) = (Block::try_from(iv), Block::try_from(challenge)) else {
+    let Ok(iv) = Block::try_from(iv) else {
         return Answer::refused(Refusal::Buffer, 0);
     };
-    if corrections.len() != (shape.tau - 1) * b
+    if challenge.len() != shape.node_bytes()
+        || corrections.len() != shape.corrections_bytes(b)
         || opening.len() != shape.opening_bytes()
-        || commitment.len() != 32
+        || commitment.len() != shape.commitment_bytes()
         || tree.len() != shape.tree_bytes()
         || leaf_commitments.len() != shape.leaf_commitments_bytes()
-        || q.len() != 128 * b
+        || q.len() != shape.matrix_bytes(b)
     {
         return Answer::refused(Refusal::Buffer, 0);
     }
-    if !grinding_bits_are_zero(&shape, &challenge) {
+    if !grinding_bits_are_zero(&shape, challenge) {
         return Answer::refused(Refusal::Grinding, 0);
     }
-    let count = bavc::node_count(&shape, &decode_all_chall(&shape, &challenge));
+    let count = bavc::node_count(&shape, &decode_all_chall(&shape, challenge));
     let c: Vec<Row> = corrections.chunks_exact(b).map(Row::from).collect();
-    match vole_reconstruct(&shape, &challenge, opening, &c, &iv, row_bits) {
+    match vole_reconstruct(&shape, challenge, opening, &c, &iv, row_bits) {
         Err(Bottom::TooManyNodes) => Answer::refused(Refusal::Nodes, count),
         Err(Bottom::UnusedSlotNotZero) => Answer::refused(Refusal::Slots, count),
         Ok((vectors, columns)) => {
             commitment.copy_from_slice(&vectors.com);
-            tree.copy_from_slice(&tree_bytes(&vectors));
+            tree.copy_from_slice(&tree_bytes(&shape, &vectors));
             leaf_commitments.copy_from_slice(&leaf_commitment_bytes(&vectors));
             q.copy_from_slice(&columns.concat());
             Answer::done(count)
@@ -314,10 +311,12 @@ pub fn reconstruct_stretch(
     let Some(places) = stretch.within(b) else {
         return Answer::refused(Refusal::Stretch, 0);
     };
-    if corrections.len() != (meant.tau - 1) * stretch.width || q.len() != 128 * stretch.width {
+    if corrections.len() != meant.corrections_bytes(stretch.width)
+        || q.len() != meant.matrix_bytes(stretch.width)
+    {
         return Answer::refused(Refusal::Buffer, 0);
     }
-    let mut whole_q = vec![0; 128 * b];
+    let mut whole_q = vec![0; meant.matrix_bytes(b)];
     let answer = reconstruct(
         shape,
         row_bits,

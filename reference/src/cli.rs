@@ -14,27 +14,29 @@ use crate::shape::{row_bytes, Shape};
 use crate::stretch::Stretch;
 
 pub const USAGE: &str = "\
-usage: reference decode      TAU K W T CHALLENGE
-       reference plan        TAU K W T CHALLENGE
-       reference commit      TAU K W T ROWBITS ROOT IV
-       reference open        TAU K W T ROWBITS ROOT IV CHALLENGE
-       reference reconstruct TAU K W T ROWBITS ROOT IV CHALLENGE [FLIP]
-       reference roundtrip   TAU K W T ROWBITS ROOT IV CHALLENGE
-       reference record      TAU K W T ROWBITS ROOT IV CHALLENGE
-       reference prefixes    TAU K W T ROWBITS ROOT IV CHALLENGE
-       reference flips       TAU K W T ROWBITS ROOT IV CHALLENGE
-       reference pairs       TAU K W T ROWBITS ROOT IV CHALLENGE
-       reference probe_commit      TAU K W T ROWBITS WHICH MORE
-       reference probe_open        TAU K W T BYTE WHICH MORE
-       reference probe_reconstruct TAU K W T ROWBITS BYTE WHICH MORE SET
-       reference probe_decode      TAU K W T BYTE WHICH MORE
-       reference probe_plan        TAU K W T BYTE WHICH MORE
+usage: reference decode      TAU K W T LEVEL CHALLENGE
+       reference plan        TAU K W T LEVEL CHALLENGE
+       reference commit      TAU K W T LEVEL ROWBITS ROOT IV
+       reference open        TAU K W T LEVEL ROWBITS ROOT IV CHALLENGE
+       reference reconstruct TAU K W T LEVEL ROWBITS ROOT IV CHALLENGE [FLIP]
+       reference roundtrip   TAU K W T LEVEL ROWBITS ROOT IV CHALLENGE
+       reference record      TAU K W T LEVEL ROWBITS ROOT IV CHALLENGE
+       reference prefixes    TAU K W T LEVEL ROWBITS ROOT IV CHALLENGE
+       reference flips       TAU K W T LEVEL ROWBITS ROOT IV CHALLENGE
+       reference pairs       TAU K W T LEVEL ROWBITS ROOT IV CHALLENGE
+       reference probe_commit      TAU K W T LEVEL ROWBITS WHICH MORE
+       reference probe_open        TAU K W T LEVEL BYTE WHICH MORE
+       reference probe_reconstruct TAU K W T LEVEL ROWBITS BYTE WHICH MORE SET
+       reference probe_decode      TAU K W T LEVEL BYTE WHICH MORE
+       reference probe_plan        TAU K W T LEVEL BYTE WHICH MORE
        reference list        (its line on standard input)
        reference list_challenges (its line on standard input)
        reference check       (a record on standard input)
        reference checks      (records and buffers on standard input)
-Each with ROWBITS is also there for a stretch of the rows: _stretch behind its
-name, FIRST WIDTH behind ROWBITS.
+Each with ROWBITS but those on records is also there for a stretch of the rows:
+_stretch behind its name, FIRST WIDTH behind ROWBITS. Each on records that has
+ROWBITS is also there with a record of version 1, at level 128: _version_1 behind
+its name.
 Numbers are decimal; ROOT, IV and CHALLENGE are hexadecimal, byte 0 first.
 ";
 
@@ -166,17 +168,17 @@ impl Run {
         let b = rows.width();
         Run {
             answers: Vec::new(),
-            commitment: vec![0; 32],
+            commitment: bytes(Shape::commitment_bytes),
             tree: bytes(Shape::tree_bytes),
             leaf_commitments: bytes(Shape::leaf_commitments_bytes),
             u: vec![0; b],
-            v: vec![0; 128 * b],
-            corrections: vec![0; shape.map_or(0, |shape| (shape.tau - 1) * b)],
+            v: vec![0; shape.map_or(0, |shape| shape.matrix_bytes(b))],
+            corrections: vec![0; shape.map_or(0, |shape| shape.corrections_bytes(b))],
             opening: bytes(Shape::opening_bytes),
-            again_commitment: vec![0; 32],
+            again_commitment: bytes(Shape::commitment_bytes),
             again_tree: bytes(Shape::tree_bytes),
             again_leaf_commitments: bytes(Shape::leaf_commitments_bytes),
-            q: vec![0; 128 * b],
+            q: vec![0; shape.map_or(0, |shape| shape.matrix_bytes(b))],
         }
     }
 
@@ -232,7 +234,7 @@ impl Run {
             let bit = challenge[j / 8] >> (j % 8) & 1;
             (0..b).all(|n| self.q[j * b + n] == self.v[j * b + n] ^ (bit * self.u[n]))
         };
-        (0..128).filter(obeys).count()
+        (0..8 * challenge.len()).filter(obeys).count()
     }
 }
 
@@ -262,6 +264,7 @@ impl Arguments<'_> {
             k: self.number()?,
             w: self.number()?,
             t: self.number()?,
+            level: self.number()?,
         })
     }
 
@@ -368,8 +371,9 @@ fn bytes_command(command: &str, of_stretch: bool, mut rest: Arguments) -> Option
             let agree = run.commitment == run.again_commitment;
             let columns = run.columns_obeying(&challenge);
             let word = if agree { "agree" } else { "differ" };
-            let text = format!("{text}commitments {word}\ncolumns {columns} of 128\n");
-            return Some((text.into_bytes(), agree && columns == 128));
+            let all = 8 * challenge.len();
+            let text = format!("{text}commitments {word}\ncolumns {columns} of {all}\n");
+            return Some((text.into_bytes(), agree && columns == all));
         }
     };
     let lines = buffers.iter().map(|(name, bytes)| buffer_line(name, bytes));
@@ -392,6 +396,11 @@ fn probed_length(exact: usize, changed: bool, more: usize) -> usize {
     }
 }
 
+/// The bytes of a root and of a challenge in a probe: 16 where there is no shape.
+fn probed_node_bytes(shape: Shape) -> usize {
+    shape.resolve().map_or(16, |meant| meant.node_bytes())
+}
+
 /// What a probe prints: the answer, and whether the outputs are as they were.
 fn probe_lines(answer: Answer, kept: bool) -> String {
     let word = if kept { "kept" } else { "written" };
@@ -407,7 +416,8 @@ fn probe_numbers_command(command: &str, mut rest: Arguments) -> Option<Outcome> 
     let (which, more) = (rest.number()?, rest.number()?);
     rest.end()?;
 
-    let mut challenge = vec![0; probed_length(16, which == 0, more)];
+    let exact = probed_node_bytes(shape);
+    let mut challenge = vec![0; probed_length(exact, which == 0, more)];
     challenge[0] = first_byte;
     let meant = shape.resolve();
     let (call, exact): (fn(Shape, &[u8], &mut [u32]) -> Answer, usize) = match command {
@@ -449,16 +459,17 @@ fn probe_command(command: &str, of_stretch: bool, mut rest: Arguments) -> Option
         vec![content; probed_length(exact, place == which, more)]
     };
     let challenge = |place: usize| {
-        let mut challenge = buffer(place, 16, 0);
+        let mut challenge = buffer(place, probed_node_bytes(shape), 0);
         challenge[0] = first_byte;
         challenge
     };
     let mut outputs;
     let answer = match command {
         "probe_commit" => {
-            let (root, iv) = (buffer(0, 16, 0), buffer(1, 16, 0));
+            let root = buffer(0, probed_node_bytes(shape), 0);
+            let iv = buffer(1, 16, 0);
             outputs = vec![
-                buffer(2, 32, PATTERN),
+                buffer(2, exact.commitment.len(), PATTERN),
                 buffer(3, exact.tree.len(), PATTERN),
                 buffer(4, exact.leaf_commitments.len(), PATTERN),
                 buffer(5, exact.u.len(), PATTERN),
@@ -501,7 +512,7 @@ fn probe_command(command: &str, of_stretch: bool, mut rest: Arguments) -> Option
                 *byte = 1;
             }
             outputs = vec![
-                buffer(4, 32, PATTERN),
+                buffer(4, exact.commitment.len(), PATTERN),
                 buffer(5, exact.tree.len(), PATTERN),
                 buffer(6, exact.leaf_commitments.len(), PATTERN),
                 buffer(7, exact.q.len(), PATTERN),
@@ -531,6 +542,12 @@ fn probe_command(command: &str, of_stretch: bool, mut rest: Arguments) -> Option
 pub fn run(args: &[String], input: &mut impl Read) -> Option<Outcome> {
     let (name, rest) = args.split_first()?;
     let rest = Arguments(rest.iter());
+    if let Some(command) = name.strip_suffix("_version_1") {
+        return match command {
+            "record" | "prefixes" | "flips" | "pairs" => record_command(command, true, rest),
+            _ => None,
+        };
+    }
     let (command, of_stretch) = match name.strip_suffix("_stretch") {
         Some(command) => (command, true),
         None => (name.as_str(), false),
@@ -542,7 +559,7 @@ pub fn run(args: &[String], input: &mut impl Read) -> Option<Outcome> {
         "list" | "list_challenges" => list_command(command, rest, input),
         "check" => check_command(rest, input),
         "checks" => checks_command(rest, input),
-        "record" | "prefixes" | "flips" | "pairs" => record_command(command, rest),
+        "record" | "prefixes" | "flips" | "pairs" => record_command(command, false, rest),
         "decode" | "plan" => numbers_command(command, rest),
         "probe_open" => probe_command(command, false, rest),
         "probe_decode" | "probe_plan" => probe_numbers_command(command, rest),

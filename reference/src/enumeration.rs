@@ -1,5 +1,5 @@
-//! Document 02, E10: all challenges of a small shape, from input bytes to
-//! output bytes.
+//! Document 02, E10: all challenges of a small shape at level 128, from input
+//! bytes to output bytes.
 
 use crate::bavc::node_count;
 use crate::calls::Refusal;
@@ -25,7 +25,7 @@ fn parse(input: &[u8]) -> Option<Shape> {
     let [tau, k, w, t] = numbers?[..] else {
         return None;
     };
-    Some(Shape { tau, k, w, t })
+    Some(Shape::new(tau, k, w, t))
 }
 
 /// The challenge that hides these indices: the bits of each vector behind those

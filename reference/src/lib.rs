@@ -1,5 +1,5 @@
-//! The batch vector commitment of FAEST v2.0 at the 128-bit level with the
-//! ordinary leaf commitment, written as the documents in code.
+//! The batch vector commitment of FAEST v2.0 at the levels 128, 192 and 256 with
+//! the ordinary leaf commitment, written as the documents in code.
 //!
 //! "Document 000" is the FAEST v2.0 specification; its figures and sections
 //! are named beside the functions that carry them out. "Document 01" is the
@@ -21,11 +21,14 @@ pub mod shape;
 pub mod stretch;
 pub mod vole;
 
-/// A string of 128 bits: a node, a seed, an IV, a challenge or an AES block.
+/// A string of 128 bits: an IV or an AES block, at every level.
 pub type Block = [u8; 16];
 
-/// A leaf commitment or a hash key: 3λ = 384 bits.
-pub type LeafCom = [u8; 48];
+/// A string of λ bits: a node, a seed or a challenge.
+pub type Node = Vec<u8>;
 
-/// The answer of H1 and the commitment: 2λ = 256 bits.
-pub type Digest = [u8; 32];
+/// A leaf commitment or a hash key: 3λ bits.
+pub type LeafCom = Vec<u8>;
+
+/// The answer of H1 and the commitment: 2λ bits.
+pub type Digest = Vec<u8>;

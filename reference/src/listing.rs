@@ -1,4 +1,5 @@
-//! The listing program of document 01, from input bytes to output bytes.
+//! The listing program of document 01, at level 128, from input bytes to output
+//! bytes.
 
 use crate::calls::{plan, Refusal};
 use crate::shape::Shape;
@@ -28,12 +29,8 @@ fn hex_digit(digit: u8) -> Option<u8> {
 /// The whole line: four numbers, 32 hexadecimal digits, then one line feed or
 /// the end.
 fn parse(mut line: &[u8]) -> Option<(Shape, Vec<u8>)> {
-    let shape = Shape {
-        tau: number(&mut line)?,
-        k: number(&mut line)?,
-        w: number(&mut line)?,
-        t: number(&mut line)?,
-    };
+    let mut next = || number(&mut line);
+    let shape = Shape::new(next()?, next()?, next()?, next()?);
     let digits = line.strip_suffix(b"\n").unwrap_or(line);
     if digits.len() != 32 {
         return None;

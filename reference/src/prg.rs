@@ -21,9 +21,10 @@ pub fn add_to_lower_word(iv: &Block, alpha: u32) -> Block {
     add_to_word(iv, 0, alpha)
 }
 
-/// Figure 3.6: PRG, with m in bits, a multiple of 8. The figure's count of
-/// blocks leaves out the last incomplete one; it is made too and cut.
-pub fn prg(sd: &Block, iv: &Block, twk: u32, m: usize) -> Vec<u8> {
+/// Figure 3.6: PRG, with m in bits, a multiple of 8. The seed of λ bits is the key
+/// of AES-λ. The figure's count of blocks leaves out the last incomplete one; it is
+/// made too and cut.
+pub fn prg(sd: &[u8], iv: &Block, twk: u32, m: usize) -> Vec<u8> {
     let keys = aes::key_expansion(sd);
     let iv = add_to_upper_word(iv, twk);
     let mut s = Vec::new();
@@ -34,20 +35,26 @@ pub fn prg(sd: &Block, iv: &Block, twk: u32, m: usize) -> Vec<u8> {
     s
 }
 
-/// Section 3.3: SHAKE128 of the message with the domain byte after it.
-fn hash(message: &[u8], domain: u8, length: usize) -> Vec<u8> {
-    shake::shake128(&[message, &[domain]].concat(), length)
+/// Section 3.3: SHAKE128 at level 128, SHAKE256 at the others, of the message with
+/// the domain byte after it.
+fn hash(level: usize, message: &[u8], domain: u8, length: usize) -> Vec<u8> {
+    let shake = match level {
+        128 => shake::shake128,
+        _ => shake::shake256,
+    };
+    shake(&[message, &[domain]].concat(), length)
 }
 
 /// H0 with 3λτ bits (figure 5.4, line 2): one hash key for each vector.
-pub fn h0(iv: &Block, tau: usize) -> Vec<LeafCom> {
-    hash(iv, 0, 48 * tau)
-        .chunks_exact(48)
-        .map(|key| key.try_into().expect("48 bytes"))
+pub fn h0(level: usize, iv: &Block, tau: usize) -> Vec<LeafCom> {
+    let bytes = 3 * level / 8;
+    hash(level, iv, 0, bytes * tau)
+        .chunks_exact(bytes)
+        .map(LeafCom::from)
         .collect()
 }
 
 /// H1 with 2λ bits.
-pub fn h1(message: &[u8]) -> Digest {
-    hash(message, 1, 32).try_into().expect("32 bytes")
+pub fn h1(level: usize, message: &[u8]) -> Digest {
+    hash(level, message, 1, 2 * level / 8)
 }

@@ -1,16 +1,22 @@
-//! The signing record of document 02, E6: its reader, its writer, and the check
-//! that a broker makes of it.
+//! The signing record of document 02, E6, with the version of E7: its reader, its
+//! writer, and the check that a broker makes of it.
 
 use crate::calls::{reconstruct, Answer, Refusal};
 use crate::shape::{row_bytes, Shape};
-use crate::Digest;
 
-/// The one version byte.
-pub const VERSION: u8 = 1;
+/// The bytes of the first field by the version byte: τ, k, w in one byte each, T in
+/// two, the row length in four, and from version 2 on level / 8 in one. Nothing where
+/// the version is unknown.
+fn head_bytes(version: u8) -> Option<usize> {
+    match version {
+        1 => Some(9),
+        2 => Some(10),
+        _ => None,
+    }
+}
 
-/// The bytes of the first field: τ, k, w in one byte each, T in two, the row
-/// length in four.
-const HEAD: usize = 9;
+/// The version that the writer puts.
+pub const VERSION: u8 = 2;
 
 /// What a record says: the numbers of its first field, and its other fields,
 /// which are parts of the record.
@@ -44,11 +50,10 @@ impl<'a> Reader<'a> {
         Some(taken)
     }
 
-    fn version(&mut self) -> Result<(), Refusal> {
-        match self.take(1) {
-            Some([VERSION]) => Ok(()),
-            _ => Err(Refusal::Version),
-        }
+    /// The version byte: the length of the first field.
+    fn version(&mut self) -> Result<usize, Refusal> {
+        let version = self.take(1).ok_or(Refusal::Version)?;
+        head_bytes(version[0]).ok_or(Refusal::Version)
     }
 
     /// The next field, which must have this length.
@@ -61,12 +66,13 @@ impl<'a> Reader<'a> {
     }
 
     /// Version and first field: the shape as written, the shape meant, the row
-    /// length in bits and in bytes.
+    /// length in bits and in bytes. Version 1 means level 128.
     fn front(&mut self) -> Result<(Shape, Shape, usize, usize), Refusal> {
-        self.version()?;
-        let head = self.field(HEAD)?;
+        let length = self.version()?;
+        let head = self.field(length)?;
         let part = |from: usize, to: usize| number(&head[from..to]);
-        let shape = Shape::new(part(0, 1), part(1, 2), part(2, 3), part(3, 5));
+        let level = head.get(9).map_or(128, |byte| 8 * usize::from(*byte));
+        let shape = Shape::at_level(part(0, 1), part(1, 2), part(2, 3), part(3, 5), level);
         let row_bits = part(5, 9);
         let meant = shape.resolve().ok_or(Refusal::Shape)?;
         let b = row_bytes(row_bits).ok_or(Refusal::RowLength)?;
@@ -89,18 +95,26 @@ pub fn read(bytes: &[u8]) -> Result<Record<'_>, Refusal> {
         shape,
         row_bits,
         iv: reader.field(16)?,
-        challenge: reader.field(16)?,
-        corrections: reader.field((meant.tau - 1) * b)?,
+        challenge: reader.field(meant.node_bytes())?,
+        corrections: reader.field(meant.corrections_bytes(b))?,
         opening: reader.field(meant.opening_bytes())?,
-        commitment: reader.field(32)?,
+        commitment: reader.field(meant.commitment_bytes())?,
     };
     reader.end()?;
     Ok(record)
 }
 
-/// The bytes of the record of a shape that is meant, with rows of b bytes.
+/// The bytes of the record that is written of a shape that is meant, with rows of b
+/// bytes.
 pub fn record_bytes(meant: &Shape, b: usize) -> usize {
-    let fields = [HEAD, 16, 16, (meant.tau - 1) * b, meant.opening_bytes(), 32];
+    let fields = [
+        10,
+        16,
+        meant.node_bytes(),
+        meant.corrections_bytes(b),
+        meant.opening_bytes(),
+        meant.commitment_bytes(),
+    ];
     1 + fields.iter().map(|length| 4 + length).sum::<usize>()
 }
 
@@ -108,7 +122,11 @@ pub fn record_bytes(meant: &Shape, b: usize) -> usize {
 /// leaf commitments, Q.
 pub fn work_lengths(bytes: &[u8]) -> Result<[usize; 3], Refusal> {
     let (_, meant, _, b) = Reader { rest: bytes }.front()?;
-    Ok([meant.tree_bytes(), meant.leaf_commitments_bytes(), 128 * b])
+    Ok([
+        meant.tree_bytes(),
+        meant.leaf_commitments_bytes(),
+        meant.matrix_bytes(b),
+    ])
 }
 
 /// Check: reads the record, reconstructs from its fields with the lent work
@@ -124,7 +142,7 @@ pub fn check_record(
         Ok(record) => record,
         Err(refusal) => return Answer::refused(refusal, 0),
     };
-    let mut commitment = Digest::default();
+    let mut commitment = vec![0; record.commitment.len()];
     let answer = reconstruct(
         record.shape,
         record.row_bits,
@@ -137,36 +155,17 @@ pub fn check_record(
         leaf_commitments,
         q,
     );
-    if answer.number == 0 && commitment != *record.commitment {
+    if answer.number == 0 && commitment != record.commitment {
         return Answer::refused(Refusal::Commitment, answer.count as usize);
     }
     answer
 }
 
-/// Write: checks 1, 2, 3. The shape is written as it is given, zeros too.
-pub fn write_record(record: &Record, out: &mut [u8]) -> Answer {
-    let Some(meant) = record.shape.resolve() else {
-        return Answer::refused(Refusal::Shape, 0);
-    };
-    let Some(b) = row_bytes(record.row_bits) else {
-        return Answer::refused(Refusal::RowLength, 0);
-    };
-    if record.iv.len() != 16
-        || record.challenge.len() != 16
-        || record.corrections.len() != (meant.tau - 1) * b
-        || record.opening.len() != meant.opening_bytes()
-        || record.commitment.len() != 32
-        || out.len() != record_bytes(&meant, b)
-    {
-        return Answer::refused(Refusal::Buffer, 0);
-    }
-    let Shape { tau, k, w, t } = record.shape;
-    let mut head = vec![tau as u8, k as u8, w as u8];
-    head.extend((t as u16).to_be_bytes());
-    head.extend((record.row_bits as u32).to_be_bytes());
-    let mut bytes = vec![VERSION];
+/// The version byte, and the fields behind their lengths.
+fn joined(version: u8, head: &[u8], record: &Record) -> Vec<u8> {
+    let mut bytes = vec![version];
     for field in [
-        &head,
+        head,
         record.iv,
         record.challenge,
         record.corrections,
@@ -176,6 +175,43 @@ pub fn write_record(record: &Record, out: &mut [u8]) -> Answer {
         bytes.extend((field.len() as u32).to_be_bytes());
         bytes.extend(field);
     }
-    out.copy_from_slice(&bytes);
+    bytes
+}
+
+/// The first field of version 1: the shape as it is given, zeros too, but for its
+/// level, and the row length.
+fn head_of_version_1(record: &Record) -> Vec<u8> {
+    let Shape { tau, k, w, t, .. } = record.shape;
+    let mut head = vec![tau as u8, k as u8, w as u8];
+    head.extend((t as u16).to_be_bytes());
+    head.extend((record.row_bits as u32).to_be_bytes());
+    head
+}
+
+/// Write: checks 1, 2, 3. Puts version 2 at every level.
+pub fn write_record(record: &Record, out: &mut [u8]) -> Answer {
+    let Some(meant) = record.shape.resolve() else {
+        return Answer::refused(Refusal::Shape, 0);
+    };
+    let Some(b) = row_bytes(record.row_bits) else {
+        return Answer::refused(Refusal::RowLength, 0);
+    };
+    if record.iv.len() != 16
+        || record.challenge.len() != meant.node_bytes()
+        || record.corrections.len() != meant.corrections_bytes(b)
+        || record.opening.len() != meant.opening_bytes()
+        || record.commitment.len() != meant.commitment_bytes()
+        || out.len() != record_bytes(&meant, b)
+    {
+        return Answer::refused(Refusal::Buffer, 0);
+    }
+    let mut head = head_of_version_1(record);
+    head.push((meant.level / 8) as u8);
+    out.copy_from_slice(&joined(VERSION, &head, record));
     Answer::done(0)
+}
+
+/// A record of version 1, as E6 wrote it, for tests: nothing of it is tested.
+pub fn version_1(record: &Record) -> Vec<u8> {
+    joined(1, &head_of_version_1(record), record)
 }

@@ -5,7 +5,7 @@ use std::io::Read;
 
 use crate::calls::Answer;
 use crate::cli::{answer_lines, buffer_line, to_hex, Arguments, Outcome, Rows, Run, PATTERN};
-use crate::record::{check_record, record_bytes, work_lengths, write_record, Record};
+use crate::record::{check_record, record_bytes, version_1, work_lengths, write_record, Record};
 use crate::shape::{row_bytes, Shape};
 
 /// The work buffers of the check, with a pattern in each byte.
@@ -61,16 +61,42 @@ fn verdict(record: &[u8], mut work: Work) -> String {
 /// How many edits there are.
 const EDITS: usize = 12;
 
+/// Places in a record: of the last byte of the IV's length, of the last byte of
+/// challenge and opening, and of the first of the commitment.
+#[derive(Clone, Copy)]
+struct Places {
+    iv_length: usize,
+    challenge: usize,
+    opening: usize,
+    commitment: usize,
+}
+
+impl Places {
+    /// Behind the version byte each field stands behind the four bytes of its
+    /// length: the head, the IV of 16 bytes, the challenge; at the end the
+    /// commitment.
+    fn of(bytes: &[u8], record: &Record) -> Places {
+        let behind_head = 1 + 4 + usize::from(bytes[4]);
+        let commitment = bytes.len() - record.commitment.len();
+        Places {
+            iv_length: behind_head + 3,
+            challenge: behind_head + 4 + 16 + 4 + record.challenge.len() - 1,
+            opening: commitment - 4 - 1,
+            commitment,
+        }
+    }
+}
+
 /// One of the edits of `pairs`, each of which the check must refuse: of a byte of
-/// the record, which had so many bytes, or of the length of what is lent.
-fn edit(number: usize, long: usize, record: &mut Vec<u8>, work: &mut Work) {
+/// the record, or of the length of what is lent.
+fn edit(number: usize, at: Places, record: &mut Vec<u8>, work: &mut Work) {
     match number {
         // version, the first field's length, τ, the row length, the IV's length
-        0 => record[0] ^= 3,
+        0 => record[0] ^= 4,
         1 => record[4] ^= 1,
         2 => record[5] ^= 0x20,
         3 => record[13] ^= 4,
-        4 => record[17] ^= 1,
+        4 => record[at.iv_length] ^= 1,
         // a byte left over
         5 => record.push(0),
         // the work buffers
@@ -78,9 +104,9 @@ fn edit(number: usize, long: usize, record: &mut Vec<u8>, work: &mut Work) {
         7 => work.leaf_commitments.push(PATTERN),
         8 => work.q.truncate(work.q.len() - 1),
         // the last byte of challenge and opening, the first of the commitment
-        9 => record[53] ^= 0x80,
-        10 => record[long - 37] ^= 1,
-        _ => record[long - 32] ^= 1,
+        9 => record[at.challenge] ^= 0x80,
+        10 => record[at.opening] ^= 1,
+        _ => record[at.commitment] ^= 1,
     }
 }
 
@@ -105,13 +131,12 @@ fn flips(record: &[u8], work: &Work) -> String {
 }
 
 /// Every edit, and every two of them.
-fn pairs(record: &[u8], work: &Work) -> String {
+fn pairs(record: &[u8], at: Places, work: &Work) -> String {
     let edited = |first: usize, second: usize| {
         let (mut record, mut work) = (record.to_vec(), work.clone());
-        let long = record.len();
-        edit(first, long, &mut record, &mut work);
+        edit(first, at, &mut record, &mut work);
         if first != second {
-            edit(second, long, &mut record, &mut work);
+            edit(second, at, &mut record, &mut work);
         }
         verdict(&record, work)
     };
@@ -123,9 +148,13 @@ fn pairs(record: &[u8], work: &Work) -> String {
 }
 
 /// `record`, `prefixes`, `flips` and `pairs`. The last three check what is made
-/// of the record also where the opening was refused; it is zeros then.
-pub fn record_command(command: &str, mut rest: Arguments) -> Option<Outcome> {
+/// of the record also where the opening was refused; it is zeros then. With
+/// `of_version_1` the record is one of version 1, which there is at level 128 only.
+pub fn record_command(command: &str, of_version_1: bool, mut rest: Arguments) -> Option<Outcome> {
     let (shape, row_bits) = (rest.shape()?, rest.number()?);
+    if of_version_1 && shape.level != 128 {
+        return None;
+    }
     let (root, iv, challenge) = (rest.bytes()?, rest.bytes()?, rest.bytes()?);
     rest.end()?;
 
@@ -151,11 +180,14 @@ pub fn record_command(command: &str, mut rest: Arguments) -> Option<Outcome> {
     if answer.number != 0 {
         return Some((answer_lines(answer).into_bytes(), true));
     }
+    if of_version_1 {
+        bytes = version_1(&record);
+    }
     let mut work = Work::new(work_lengths(&bytes).ok()?);
     let text = match command {
         "prefixes" => prefixes(&bytes, &work),
         "flips" => flips(&bytes, &work),
-        "pairs" => pairs(&bytes, &work),
+        "pairs" => pairs(&bytes, Places::of(&bytes, &record), &work),
         _ => {
             let answer = work.check(&bytes);
             answer_lines(answer) + &buffer_line("record", &bytes) + &work.lines()

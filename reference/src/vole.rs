@@ -3,7 +3,7 @@
 use crate::bavc::{self, Bottom, Vectors};
 use crate::prg::prg;
 use crate::shape::{decode_all_chall, Shape};
-use crate::Block;
+use crate::{Block, Node};
 
 /// A string of ℓ̂ bits: a row, a column, u or a correction.
 pub type Row = Vec<u8>;
@@ -16,7 +16,7 @@ fn xor(a: &[u8], b: &[u8]) -> Row {
 /// Figure 5.6: ConvertToVOLE, giving u and the columns v_0 to v_(d-1) for 2^d
 /// seeds. An absent seed (⊥) gives a row of zeros.
 pub fn convert_to_vole(
-    seeds: &[Option<Block>],
+    seeds: &[Option<Node>],
     iv: &Block,
     twk: u32,
     row_bits: usize,
@@ -46,7 +46,7 @@ fn row_tweak(i: usize) -> u32 {
     i as u32 + (1 << 31)
 }
 
-/// What [`vole_commit`] gives. V is its 128 columns.
+/// What [`vole_commit`] gives. V is its λ columns.
 pub struct VoleCommitment {
     pub vectors: Vectors,
     pub corrections: Vec<Row>,
@@ -55,7 +55,7 @@ pub struct VoleCommitment {
 }
 
 /// Figure 5.8: FAEST.VOLECommit.
-pub fn vole_commit(shape: &Shape, r: &Block, iv: &Block, row_bits: usize) -> VoleCommitment {
+pub fn vole_commit(shape: &Shape, r: &[u8], iv: &Block, row_bits: usize) -> VoleCommitment {
     let vectors = bavc::commit(shape, r, iv);
     let (mut us, mut v) = (Vec::new(), Vec::new());
     for (i, seeds) in vectors.seeds.iter().enumerate() {
@@ -63,7 +63,7 @@ pub fn vole_commit(shape: &Shape, r: &Block, iv: &Block, row_bits: usize) -> Vol
         us.push(u_i);
         v.extend(v_i);
     }
-    v.resize(128, vec![0; row_bits / 8]);
+    v.resize(shape.level, vec![0; row_bits / 8]);
     VoleCommitment {
         vectors,
         corrections: us[1..].iter().map(|u_i| xor(&us[0], u_i)).collect(),
@@ -72,11 +72,11 @@ pub fn vole_commit(shape: &Shape, r: &Block, iv: &Block, row_bits: usize) -> Vol
     }
 }
 
-/// Figure 5.9: FAEST.VOLEReconstruct, giving the vectors and the 128 columns of
+/// Figure 5.9: FAEST.VOLEReconstruct, giving the vectors and the λ columns of
 /// Q. Correction i is `corrections[i - 1]`.
 pub fn vole_reconstruct(
     shape: &Shape,
-    challenge: &Block,
+    challenge: &[u8],
     decom: &[u8],
     corrections: &[Row],
     iv: &Block,
@@ -87,7 +87,7 @@ pub fn vole_reconstruct(
     let mut q = Vec::new();
     for (i, (seeds, delta)) in vectors.seeds.iter().zip(&hidden).enumerate() {
         // sd'_(i,j) = sd_(i, j xor Δ_i): the hidden entry comes to place 0.
-        let permuted: Vec<_> = (0..seeds.len()).map(|j| seeds[j ^ delta]).collect();
+        let permuted: Vec<_> = (0..seeds.len()).map(|j| seeds[j ^ delta].clone()).collect();
         let (_, q_i) = convert_to_vole(&permuted, iv, row_tweak(i), row_bits);
         for (j, q_ij) in q_i.into_iter().enumerate() {
             let corrected = i > 0 && delta >> j & 1 == 1;
@@ -97,6 +97,6 @@ pub fn vole_reconstruct(
             });
         }
     }
-    q.resize(128, vec![0; row_bits / 8]);
+    q.resize(shape.level, vec![0; row_bits / 8]);
     Ok((vectors, q))
 }

@@ -1,12 +1,12 @@
 #!/usr/bin/env python3
 """Derives tests/known_answers.txt; run only when that file is to be made anew.
 
-Nothing here comes from src/: SHAKE128 is hashlib's, AES is that of the Python
-package `cryptography`, field elements are Python integers, and what is computed
-follows the definitions of documents 01 and 02 word by word (a node is covered if
-it has a hidden leaf beneath it; column j is the xor of the rows whose entry has
-bit j set; a stretch is made from rows that begin at its first byte) and not the
-procedures of document 000's figures.
+Nothing here comes from src/: SHAKE128 and SHAKE256 are hashlib's, AES is that of
+the Python package `cryptography`, field elements are Python integers, and what is
+computed follows the definitions of documents 01 and 02 word by word (a node is
+covered if it has a hidden leaf beneath it; column j is the xor of the rows whose
+entry has bit j set; a stretch is made from rows that begin at its first byte) and
+not the procedures of document 000's figures.
 
 usage: python3 tests/derive.py > tests/known_answers.txt
 """
@@ -17,6 +17,12 @@ from cryptography.hazmat.primitives.ciphers import Cipher, algorithms, modes
 
 def shake(message, length):
     return hashlib.shake_128(message).digest(length)
+
+
+def hashed(level, message, length):
+    """Document 000, section 3.3."""
+    made = hashlib.shake_128 if level == 128 else hashlib.shake_256
+    return made(message).digest(length)
 
 
 def generator(key, iv, tweak, length, first=0):
@@ -31,29 +37,51 @@ def generator(key, iv, tweak, length, first=0):
     return encryptor.update(blocks)[first % 16 :][:length]
 
 
-def times(a, b):
-    """The product in the field of 2^384 elements: carryless, then reduced."""
+# The exponents of the polynomials of document 000, section 3.2, by the level.
+POLYNOMIALS = {
+    128: (384, 12, 3, 2, 0),
+    192: (576, 13, 4, 3, 0),
+    256: (768, 19, 17, 4, 0),
+}
+
+
+def times(level, a, b):
+    """The product in the field of 2^(3 level) elements: carryless, then reduced."""
+    polynomial = sum(1 << exponent for exponent in POLYNOMIALS[level])
     product = 0
     while b:
         if b & 1:
             product ^= a
         a <<= 1
         b >>= 1
-    while product.bit_length() > 384:
-        top = product.bit_length() - 1
-        product ^= (1 << 384 | 1 << 12 | 1 << 3 | 1 << 2 | 1) << (top - 384)
+    while product.bit_length() > 3 * level:
+        product ^= polynomial << (product.bit_length() - 1 - 3 * level)
     return product
 
 
+def is_shape(tau, k, w, t, level):
+    """The limits of documents 01 and 02 (E2, E7)."""
+    if (tau, k, w, t) == (0, 0, 0, 0):
+        return level == 128
+    if level not in (128, 192, 256) or not (1 <= tau <= 32 and 1 <= k <= 12):
+        return False
+    if not (0 <= w <= 127 and 1 <= t <= 512):
+        return False
+    r = level - w - tau * k
+    return 0 <= r <= tau - 1 and (r == 0 or k + 1 <= 12)
+
+
 class Shape:
-    def __init__(self, tau, k, w, t):
+    def __init__(self, tau, k, w, t, level):
         if (tau, k, w, t) == (0, 0, 0, 0):
             tau, k, w, t = 16, 7, 8, 110
-        self.tau, self.k, self.w, self.t = tau, k, w, t
-        self.r = 128 - w - tau * k
+        self.tau, self.k, self.w, self.t, self.level = tau, k, w, t, level
+        self.r = level - w - tau * k
         self.depths = [k + 1 if i < self.r else k for i in range(tau)]
         self.leaves = (tau + self.r) * 2**k
         self.nodes = 2 * self.leaves - 1
+        self.width = level // 8
+        self.com_width = 3 * self.width
 
     def leaf(self, i, j):
         near = 2**self.k
@@ -97,25 +125,37 @@ class Signer:
 
     def __init__(self, shape, row_bits, root, iv):
         s, self.shape, self.iv = shape, shape, iv
+        n = s.width
         self.tree = {0: root}
         for a in range(s.leaves - 1):
-            both = generator(self.tree[a], iv, a, 32)
-            self.tree[2 * a + 1], self.tree[2 * a + 2] = both[:16], both[16:]
-        keys = shake(iv + b"\x00", 48 * s.tau)
+            both = generator(self.tree[a], iv, a, 2 * n)
+            self.tree[2 * a + 1], self.tree[2 * a + 2] = both[:n], both[n:]
         self.coms, self.seeds = [], []
         for i in range(s.tau):
-            key = int.from_bytes(keys[48 * i : 48 * i + 48], "little")
-            coms, seeds = [], []
-            for j in range(2 ** s.depths[i]):
-                out = generator(self.tree[s.leaf(i, j)], iv, i + s.leaves - 1, 64)
-                high = times(key, int.from_bytes(out[:16], "little"))
-                coms.append(xor(high.to_bytes(48, "little"), out[16:]))
-                seeds.append(out[:16])
-            self.coms.append(coms)
-            self.seeds.append(seeds)
-        tops = [shake(b"".join(coms) + b"\x01", 32) for coms in self.coms]
-        self.commitment = shake(b"".join(tops) + b"\x01", 32)
+            keys = [self.tree[s.leaf(i, j)] for j in range(2 ** s.depths[i])]
+            made = self.ordinary_leaves(i, keys)
+            self.coms.append([com for _, com in made])
+            self.seeds.append([seed for seed, _ in made])
+        tops = [self.hash_1(b"".join(coms)) for coms in self.coms]
+        self.commitment = self.hash_1(b"".join(tops))
         self.take(0, row_bits // 8)
+
+    def ordinary_leaves(self, i, leaf_keys):
+        """Seed and commitment of each: 4 level bits of the generator, of which the
+        first quarter is the seed; that times the hash key of the vector, and the
+        other three added."""
+        s, n, m = self.shape, self.shape.width, self.shape.com_width
+        hash_keys = hashed(s.level, self.iv + b"\x00", m * s.tau)
+        hash_key = int.from_bytes(hash_keys[m * i : m * i + m], "little")
+        made = []
+        for leaf_key in leaf_keys:
+            out = generator(leaf_key, self.iv, i + s.leaves - 1, 4 * n)
+            high = times(s.level, hash_key, int.from_bytes(out[:n], "little"))
+            made.append((out[:n], xor(high.to_bytes(m, "little"), out[n:])))
+        return made
+
+    def hash_1(self, message):
+        return hashed(self.shape.level, message + b"\x01", 2 * self.shape.width)
 
     def take(self, first, width):
         """From now on rows are these bytes of each row."""
@@ -142,7 +182,7 @@ class Signer:
             ("tree", b"".join(self.tree[a] for a in range(s.nodes))),
             ("leaf_commitments", b"".join(b"".join(coms) for coms in self.coms)),
             ("u", us[0]),
-            ("v", v.ljust(128 * self.b, b"\x00")),
+            ("v", v.ljust(s.level * self.b, b"\x00")),
             ("corrections", b"".join(xor(us[0], u) for u in us[1:])),
         ]
 
@@ -151,7 +191,8 @@ class Signer:
         hidden = s.indices(challenge)
         opening = b"".join(self.coms[i][hidden[i]] for i in range(s.tau))
         opening += b"".join(self.tree[a] for a in s.revealed(challenge))
-        return [("opening", opening.ljust(48 * s.tau + 16 * s.t, b"\x00"))]
+        length = s.com_width * s.tau + s.width * s.t
+        return [("opening", opening.ljust(length, b"\x00"))]
 
     def reconstruct(self, challenge):
         """For an honest opening: the same tree but zeros where covered, and Q
@@ -174,20 +215,23 @@ class Signer:
             (
                 "tree",
                 b"".join(
-                    bytes(16) if a in covered else self.tree[a]
+                    bytes(s.width) if a in covered else self.tree[a]
                     for a in range(s.nodes)
                 ),
             ),
             ("leaf_commitments", b"".join(b"".join(coms) for coms in self.coms)),
-            ("q", q.ljust(128 * self.b, b"\x00")),
+            ("q", q.ljust(s.level * self.b, b"\x00")),
         ]
 
 
-def record(numbers, row_bits, fields):
-    """Document 02, E6: a version byte, then each field behind its length."""
-    tau, k, w, t = numbers
+def record(version, numbers, row_bits, fields):
+    """Document 02, E6 and E7: a version byte, then each field behind its length;
+    version 2 has the level in its first field."""
+    tau, k, w, t, level = numbers
     head = bytes([tau, k, w]) + t.to_bytes(2, "big") + row_bits.to_bytes(4, "big")
-    text = b"\x01"
+    if version == 2:
+        head += bytes([level // 8])
+    text = bytes([version])
     for field in [head] + fields:
         text += len(field).to_bytes(4, "big") + field
     return text
@@ -208,45 +252,107 @@ def show(command, arguments, count, lines):
             print(name, len(value), "shake128", shake(value, 32).hex())
 
 
+def round_trip(shape, arguments, challenge):
+    show("roundtrip", arguments, len(shape.revealed(challenge)), [])
+    print("commitments agree")
+    print(f"columns {shape.level} of {shape.level}")
+
+
+def refused(command, arguments, number):
+    print("$", command, *arguments)
+    print("number", number)
+    print("count 0")
+
+
 def challenge_for(shape, label):
     """The first allowed challenge under this label that needs at most T nodes."""
+    n = shape.width
     for attempt in range(10**6):
-        number = int.from_bytes(shake(f"{label} {attempt}".encode(), 16), "little")
-        challenge = (number % 2 ** (128 - shape.w)).to_bytes(16, "little")
+        number = int.from_bytes(shake(f"{label} {attempt}".encode(), n), "little")
+        challenge = (number % 2 ** (shape.level - shape.w)).to_bytes(n, "little")
         if len(shape.revealed(challenge)) <= shape.t:
             return challenge
     raise SystemExit(f"no challenge for {label}")
 
 
 CASES = [
-    # (tau, k, w, T), row length in bits, stretch, IV (None: any), label (where it
-    # is not the shape)
-    ((1, 1, 127, 1), 8, (0, 1), None),
-    ((1, 12, 116, 12), 136, (15, 2), None),
-    ((2, 2, 124, 4), 128, (5, 7), "ff" * 16),
-    ((3, 1, 125, 2), 1680, (13, 37), None),
-    ((5, 3, 113, 9), 65536, (5000, 16), "fdffffff" + "00" * 8 + "f0ffffff"),
-    ((7, 5, 93, 30), 24, (1, 1), "ffffffff" + "00" * 8 + "ffffff7f"),
-    ((9, 7, 65, 40), 264, (16, 17), None),
-    ((32, 4, 0, 512), 1000, (100, 25), None),
-    ((16, 8, 0, 120), 72, (8, 1), None),
-    ((11, 11, 7, 102), 1680, (5, 20), None, "0 0 0 0"),
-    ((10, 12, 8, 110), 8, (0, 1), "ff" * 16),
-    ((2, 1, 125, 4), 128, (15, 1), None),
-    ((3, 1, 123, 6), 24, (0, 2), "ff" * 16),
-    ((32, 3, 1, 512), 72, (4, 3), None),
-    ((16, 7, 8, 110), 1680, (200, 10), None),
-    ((0, 0, 0, 0), 16, (1, 1), None, "default"),
+    # (tau, k, w, T, level), row length in bits, stretch, IV (None: any), label
+    # (where it is not the shape)
+    ((1, 1, 127, 1, 128), 8, (0, 1), None),
+    ((1, 12, 116, 12, 128), 136, (15, 2), None),
+    ((2, 2, 124, 4, 128), 128, (5, 7), "ff" * 16),
+    ((3, 1, 125, 2, 128), 1680, (13, 37), None),
+    ((5, 3, 113, 9, 128), 65536, (5000, 16), "fdffffff" + "00" * 8 + "f0ffffff"),
+    ((7, 5, 93, 30, 128), 24, (1, 1), "ffffffff" + "00" * 8 + "ffffff7f"),
+    ((9, 7, 65, 40, 128), 264, (16, 17), None),
+    ((32, 4, 0, 512, 128), 1000, (100, 25), None),
+    ((16, 8, 0, 120, 128), 72, (8, 1), None),
+    ((11, 11, 7, 102, 128), 1680, (5, 20), None, "0 0 0 0"),
+    ((10, 12, 8, 110, 128), 8, (0, 1), "ff" * 16),
+    ((2, 1, 125, 4, 128), 128, (15, 1), None),
+    ((3, 1, 123, 6, 128), 24, (0, 2), "ff" * 16),
+    ((32, 3, 1, 512, 128), 72, (4, 3), None),
+    ((16, 7, 8, 110, 128), 1680, (200, 10), None),
+    ((0, 0, 0, 0, 128), 16, (1, 1), None, "default"),
+    # the fewest leaves of each level, and other depths
+    ((32, 2, 127, 40, 192), 8, (0, 1), None),
+    ((32, 2, 127, 512, 192), 136, (15, 2), "ff" * 16),
+    ((6, 12, 120, 60, 192), 24, (1, 2), "fdffffff" + "00" * 8 + "f0ffffff"),
+    ((32, 6, 0, 512, 192), 264, (16, 17), None),
+    ((24, 5, 60, 110, 192), 72, (8, 1), None),
+    ((32, 4, 127, 100, 256), 8, (0, 1), None),
+    ((32, 4, 127, 512, 256), 136, (15, 2), "ff" * 16),
+    ((11, 12, 124, 130, 256), 24, (1, 2), "ffffffff" + "00" * 8 + "ffffff7f"),
+    ((32, 8, 0, 512, 256), 264, (16, 17), None),
+    ((31, 5, 100, 170, 256), 72, (8, 1), None),
+    # FAEST-192f and FAEST-256f, with the row lengths of document 000
+    ((24, 7, 8, 163, 192), 3088, (13, 37), None),
+    ((32, 7, 8, 246, 256), 3888, (470, 16), None),
 ]
+
+# FAEST-192s and FAEST-256s: commit and the round trip alone.
+LARGE = [
+    ((16, 11, 12, 162, 192), 3088),
+    ((22, 11, 6, 245, 256), 3888),
+]
+
+# Four numbers, for levels that there are not, and such that do not fit a level.
+REFUSED = [
+    *[(2, 2, 124, 4, level) for level in (0, 16, 127, 129, 160, 191, 255, 384)],
+    *[(0, 0, 0, 0, level) for level in (0, 16, 127, 160, 192, 256, 384)],
+    *[(0, 0, 0, 1, level) for level in (128, 192, 256)],
+    *[(11, 11, 7, 102, level) for level in (192, 256)],
+    *[(24, 7, 8, 163, level) for level in (128, 256)],
+    *[(32, 7, 8, 246, level) for level in (128, 192)],
+    (16, 12, 0, 512, 191),
+    (16, 11, 0, 512, 192),
+    (15, 12, 11, 162, 192),
+    (32, 2, 128, 40, 192),
+    (33, 5, 27, 162, 192),
+    (32, 4, 127, 0, 256),
+    (32, 4, 127, 513, 256),
+    (21, 12, 3, 245, 256),
+    (19, 13, 9, 245, 256),
+]
+
+
+def root_and_iv(label, shape, iv=None):
+    root = shake(f"root {label}".encode(), shape.width)
+    return root, bytes.fromhex(iv) if iv else shake(f"iv {label}".encode(), 16)
+
+
+def label_of(numbers):
+    """At level 128 the four numbers, as before there were other levels."""
+    return " ".join(map(str, numbers[:4] if numbers[4] == 128 else numbers))
 
 
 def main():
     print("# Derived by tests/derive.py with hashlib and the package cryptography.")
     for numbers, row_bits, stretch, iv, *labels in CASES:
+        assert is_shape(*numbers)
         shape = Shape(*numbers)
-        label = labels[0] if labels else " ".join(map(str, numbers))
-        root = shake(f"root {label}".encode(), 16)
-        iv = bytes.fromhex(iv) if iv else shake(f"iv {label}".encode(), 16)
+        label = labels[0] if labels else label_of(numbers)
+        root, iv = root_and_iv(label, shape, iv)
         challenge = challenge_for(shape, f"challenge {label}")
         revealed = shape.revealed(challenge)
         signer = Signer(shape, row_bits, root, iv)
@@ -262,13 +368,35 @@ def main():
         committed = dict(signer.commit())
         fields = [iv, challenge, committed["corrections"]]
         fields += [value for _, value in signer.open(challenge)] + [signer.commitment]
-        lines = [("record", record(numbers, row_bits, fields))]
-        lines += signer.reconstruct(challenge)[1:]
+        work = signer.reconstruct(challenge)[1:]
+        lines = [("record", record(2, numbers, row_bits, fields))] + work
         show("record", long, len(revealed), lines)
+        if shape.level == 128:
+            lines = [("record", record(1, numbers, row_bits, fields))] + work
+            show("record_version_1", long, len(revealed), lines)
+        if shape.level != 128:
+            round_trip(shape, long, challenge)
         signer.take(*stretch)
         show("commit_stretch", part, 0, signer.commit())
         part.append(challenge.hex())
         show("reconstruct_stretch", part, len(revealed), signer.reconstruct(challenge))
+    for numbers, row_bits in LARGE:
+        shape, label = Shape(*numbers), label_of(numbers)
+        root, iv = root_and_iv(label, shape)
+        challenge = challenge_for(shape, f"challenge {label}")
+        long = [*numbers, row_bits, root.hex(), iv.hex()]
+        show("commit", long, 0, Signer(shape, row_bits, root, iv).commit())
+        round_trip(shape, [*long, challenge.hex()], challenge)
+    for numbers in REFUSED:
+        assert not is_shape(*numbers)
+        node = bytes(numbers[4] // 8 if numbers[4] in (192, 256) else 16).hex()
+        iv = bytes(16).hex()
+        for command in ("decode", "plan"):
+            refused(command, [*numbers, node], 1)
+        refused("commit", [*numbers, 8, node, iv], 1)
+        for command in ("open", "reconstruct", "roundtrip", "record"):
+            refused(command, [*numbers, 8, node, iv, node], 1)
+        refused("commit_stretch", [*numbers, 8, 0, 1, node, iv], 1)
 
 
 main()

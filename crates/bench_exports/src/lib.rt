@@ -84,7 +84,7 @@ pub extern "C" fn rattle_h1(message: &[u8], out: &mut [u8])
 }
 
 #[no_mangle]
-pub extern "C" fn rattle_multiples(key: &[u8; 48], m: &mut [[u64; 6]; 16])
+pub extern "C" fn rattle_multiples(key: &[u8; 48], m: &mut [[u64; 12]; 16])
     ensures { λ _. ⌜ Multiples 384 p384 (number 8 (now (key .entry))) (now (m .exit)) ⌝ }
 {
     let r = field_384::multiples(key);
@@ -92,13 +92,13 @@ pub extern "C" fn rattle_multiples(key: &[u8; 48], m: &mut [[u64; 6]; 16])
 }
 
 #[no_mangle]
-pub extern "C" fn rattle_leaf_hash(m: &[[u64; 6]; 16], stretched: &[u8; 64], out: &mut [u8; 48])
+pub extern "C" fn rattle_leaf_hash(m: &[[u64; 12]; 16], stretched: &[u8; 64], out: &mut [u8; 48])
     ensures { λ _. ⌜ ((u : List ℕ) → Multiples 384 p384 (number 8 u) (now (m .entry)) → now (out .exit) ≡ tabulate 48 (leafHashByte 384 p384 u (take 16 (now (stretched .entry))) (drop 16 (now (stretched .entry))))) ⌝ }
 {
     field_384::leaf_hash(m, stretched, out);
 }
 
-// The tree of a root.
+// The tree of a root, at level 128.
 #[no_mangle]
 pub extern "C" fn rattle_grow(
     t: &[u8; 256],
@@ -111,10 +111,16 @@ pub extern "C" fn rattle_grow(
     tree: &mut [u8],
 )
     requires { ⌜ SboxTable (now t) ⌝ }
-    requires { ⌜ (shapeOk (record { tau = tau; k = k; w = w; t = most }) ≡ true) × (length (now root) ≡ nodeBytes (record { tau = tau; k = k; w = w; t = most })) × (length (now tree) ≡ treeBytes (record { tau = tau; k = k; w = w; t = most })) ⌝ }
-    ensures { λ _. ⌜ now (tree .exit) ≡ signerTree faest (record { tau = tau; k = k; w = w; t = most }) (now (root .entry)) (now (iv .entry)) ⌝ }
+    requires { ⌜ (shapeOk (record { tau = tau; k = k; w = w; t = most; level = 128 }) ≡ true) × (length (now root) ≡ nodeBytes (record { tau = tau; k = k; w = w; t = most; level = 128 })) × (length (now tree) ≡ treeBytes (record { tau = tau; k = k; w = w; t = most; level = 128 })) ⌝ }
+    ensures { λ _. ⌜ now (tree .exit) ≡ signerTree faest (record { tau = tau; k = k; w = w; t = most; level = 128 }) (now (root .entry)) (now (iv .entry)) ⌝ }
 {
-    let s = Shape { tau, k, w, t: most };
+    let s = Shape {
+        tau,
+        k,
+        w,
+        t: most,
+        level: 128,
+    };
     signer_tree::grow(t, s, root, *iv, tree);
 }
 
@@ -140,7 +146,7 @@ fn count_of(r: Answer) -> usize
     r.count
 }
 
-// The public call plan; the answer's count.
+// The public call plan at level 128; the answer's count.
 #[no_mangle]
 pub extern "C" fn rattle_plan(
     tau: usize,
@@ -150,7 +156,17 @@ pub extern "C" fn rattle_plan(
     challenge: &[u8],
     nodes: &mut [u32],
 ) -> usize
-    ensures { λ r. ⌜ ((a : Answer) × Plan (record { tau = tau; k = k; w = w; t = t }) (now (challenge .entry)) (now (nodes .entry)) (now (nodes .exit)) a × (r ≡ a .count)) ⌝ }
+    ensures { λ r. ⌜ ((a : Answer) × Plan (record { tau = tau; k = k; w = w; t = t; level = 128 }) (now (challenge .entry)) (now (nodes .entry)) (now (nodes .exit)) a × (r ≡ a .count)) ⌝ }
 {
-    count_of(shape::plan(Shape { tau, k, w, t }, challenge, nodes))
+    count_of(shape::plan(
+        Shape {
+            tau,
+            k,
+            w,
+            t,
+            level: 128,
+        },
+        challenge,
+        nodes,
+    ))
 }

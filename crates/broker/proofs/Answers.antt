@@ -7,13 +7,13 @@ use lib.Dec.{eqb}
 use lib.ListN.{length}
 use borrow.Author.Tests.{ne-eqb}
 use Rattle.spec.specs.declared.Answer.{Answer}
-use Rattle.spec.specs.Shapes.{resolved, plannedCount, shapeOk}
+use Rattle.spec.specs.Shapes.{resolved, hashBytes, plannedCount, shapeOk}
 use Rattle.spec.specs.Primitives.{faest}
 use Rattle.spec.specs.Calls.{firstRefusal, rowOk, countGiven, countWith, Reconstructed}
 use Rattle.record.specs.Fields.{fieldOk}
-use Rattle.record.specs.Record.{versionOk, recordBytes, restOk, Contents, contentsOf, readNumber}
+use Rattle.record.specs.Record.{versionOf, headBytes, versionOk, recordEnd, restOk, Contents, contentsOf, readNumber}
 use Rattle.record.specs.RecordCalls.{answered, Work, workOf, Reconstructs, made, sameBytes, CheckRecord}
-use Rattle.record.proofs.Reconstructing.{lent, fieldsNumber, ran-number, ran-count, ran-made, ran-kept, not-eleven, number-refused, lent-steps}
+use Rattle.record.proofs.Reconstructing.{fieldsNumber, ran-number, ran-count, ran-made, ran-kept, not-eleven, number-refused, number-steps}
 
 -- ---- refused in reading
 
@@ -25,9 +25,10 @@ First a b c d e f = firstRefusal ((a, 9) ∷ (b, 10) ∷ (c, 1) ∷ (d, 2) ∷ (
 pub read-quiet : (rec : List ℕ) → (readNumber rec ≡ 0 → ⊥) → (eqb (answered (readNumber rec)) 0 ≡ false) × (countGiven (answered (readNumber rec)) ≡ false)
 unfolding readNumber
 read-quiet rec bad =
+    let h = headBytes (versionOf rec) in
     let s = resolved (contentsOf rec .shape) in
     let b = contentsOf rec .row / 8 in
-    go (versionOk rec) (fieldOk rec 1 9) (shapeOk s) (rowOk (contentsOf rec .row)) (restOk s b rec) (eqb (length rec) (recordBytes s b)) bad
+    go (versionOk rec) (fieldOk rec 1 h) (shapeOk s) (rowOk (contentsOf rec .row)) (restOk h s b rec) (eqb (length rec) (recordEnd h s b)) bad
   where
     go : (a b c d e f : Bool) → (First a b c d e f ≡ 0 → ⊥) → (eqb (answered (First a b c d e f)) 0 ≡ false) × (countGiven (answered (First a b c d e f)) ≡ false)
     go false b c d e f n = (refl, refl)
@@ -49,47 +50,47 @@ check-read rec x r k e bad a =
       buffers = rw (n, q .0) refl;
     }
 
--- ---- a record that is read; a is what reconstruct answers of its fields, y what it leaves
+-- ---- a record that is read; x are the buffers of reconstruct, a is what it answers of the fields, y what it leaves
 
-module _ (rec : List ℕ) (ok : readNumber rec ≡ 0) (x : Work) (y : Reconstructed) (a : Answer) (w : Reconstructs faest (contentsOf rec) (lent (contentsOf rec) x) y a) where
+module _ (rec : List ℕ) (ok : readNumber rec ≡ 0) (x y : Reconstructed) (long : length (x .commitment) ≡ hashBytes (resolved (contentsOf rec .shape))) (a : Answer) (w : Reconstructs faest (contentsOf rec) x y a) where
   abbrev c : Contents
   c = contentsOf rec
 
-  said : a .number ≡ fieldsNumber c (lent c x)
-  said = ran-number faest c (lent c x) y a w
+  said : a .number ≡ fieldsNumber c x
+  said = ran-number faest c x y a w
 
-  pub check-work : (a .number ≡ 0 → ⊥) → CheckRecord faest rec x (workOf y) a
+  pub check-work : (a .number ≡ 0 → ⊥) → CheckRecord faest rec (workOf x) (workOf y) a
   check-work bad =
       let z : eqb (a .number) 0 ≡ false = ne-eqb (a .number) 0 bad in
-      let e : eqb (a .number) 11 ≡ false = ap (λ (k : ℕ). eqb k 11) said ∙ not-eleven c (lent c x) in
+      let e : eqb (a .number) 11 ≡ false = ap (λ (k : ℕ). eqb k 11) said ∙ not-eleven c x in
       record {
-        number = sym (lent-steps faest rec x ∙ rw (ok, sym said, z) refl);
-        count = rw e (ran-count faest c (lent c x) y a w);
-        buffers = rw (e, z) (ap workOf (ran-kept faest c (lent c x) y a w bad));
+        number = sym (number-steps faest rec x long ∙ rw (ok, sym said, z) refl);
+        count = rw e (ran-count faest c x y a w);
+        buffers = rw (e, z) (ap workOf (ran-kept faest c x y a w bad));
       }
 
   module _ (z : a .number ≡ 0) where
     left : y ≡ made faest c
-    left = ran-made faest c (lent c x) y a w z
+    left = ran-made faest c x y a w z
 
     count : a .count ≡ plannedCount (resolved (c .shape)) (c .challenge)
     unfolding countWith
-    count = ran-count faest c (lent c x) y a w ∙ rw z refl
+    count = ran-count faest c x y a w ∙ rw z refl
 
-    pub check-eleven : (r : Answer) → sameBytes (y .commitment) (c .commitment) ≡ false → (r .number ≡ 11) × (r .count ≡ a .count) → CheckRecord faest rec x (workOf y) r
+    pub check-eleven : (r : Answer) → sameBytes (y .commitment) (c .commitment) ≡ false → (r .number ≡ 11) × (r .count ≡ a .count) → CheckRecord faest rec (workOf x) (workOf y) r
     unfolding countWith
     check-eleven r f b =
         record {
-          number = b .0 ∙ sym (lent-steps faest rec x ∙ rw (ok, sym said, z, sym left, f) refl);
+          number = b .0 ∙ sym (number-steps faest rec x long ∙ rw (ok, sym said, z, sym left, f) refl);
           count = b .1 ∙ count ∙ sym (rw (b .0) refl);
           buffers = rw (b .0) (ap workOf left);
         }
 
-    pub check-accepted : sameBytes (y .commitment) (c .commitment) ≡ true → CheckRecord faest rec x (workOf y) a
+    pub check-accepted : sameBytes (y .commitment) (c .commitment) ≡ true → CheckRecord faest rec (workOf x) (workOf y) a
     unfolding countWith
     check-accepted f =
         record {
-          number = z ∙ sym (lent-steps faest rec x ∙ rw (ok, sym said, z, sym left, f) refl);
+          number = z ∙ sym (number-steps faest rec x long ∙ rw (ok, sym said, z, sym left, f) refl);
           count = count ∙ sym (rw z refl);
           buffers = rw z (ap workOf left);
         }

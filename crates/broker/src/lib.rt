@@ -1,5 +1,7 @@
 // The broker's public calls on a signing record: check_record, and the lengths of the work buffers that it asks for. Nothing here depends on the signing half.
 ghost use mathlib.Core.Path.{_≡_};
+ghost use lib.ListN.{length};
+ghost use Rattle.spec.specs.Shapes.{resolved, hashBytes};
 ghost use Rattle.spec.specs.Primitives.{faest};
 ghost use Rattle.record.specs.Record.{contentsOf, readNumber};
 ghost use Rattle.record.specs.RecordCalls.{WorkLengths, Reconstructs, CheckRecord};
@@ -19,13 +21,13 @@ pub fn work_lengths(record: &[u8]) -> Lengths
             q: 0,
         };
     }
-    let leaves = rules::leaf_count(record_reading::resolved_shape(record));
+    let s = record_reading::resolved_shape(record);
     let b = record_reading::row_bytes(record);
     Lengths {
         number: 0,
-        tree: 16 * (2 * leaves - 1),
-        leaf_commitments: 48 * leaves,
-        q: b * 128,
+        tree: lengths::tree_bytes(s),
+        leaf_commitments: lengths::leaf_commitments_bytes(s),
+        q: lengths::matrix_bytes(s, b),
     }
 }
 
@@ -57,6 +59,30 @@ fn reconstruct_fields(
     )
 }
 
+// The check of a record that is read. The reconstructed commitment goes to a buffer that has its length.
+fn check_read(
+    record: &[u8],
+    commitment: &mut [u8],
+    tree: &mut [u8],
+    leaf_commitments: &mut [u8],
+    q: &mut [u8],
+) -> Answer
+    requires { ⌜ (readNumber (now «record») ≡ 0) × (length (now commitment) ≡ hashBytes (resolved (contentsOf (now «record») .shape))) ⌝ }
+    ensures { λ r. ⌜ CheckRecord faest (now («record» .entry))
+        (record { tree = now (tree .entry); leafCommitments = now («leaf_commitments» .entry); q = now (q .entry) })
+        (record { tree = now (tree .exit); leafCommitments = now («leaf_commitments» .exit); q = now (q .exit) })
+        r ⌝ }
+{
+    let r = reconstruct_fields(record, commitment, tree, leaf_commitments, q);
+    if r.number != 0 {
+        return r;
+    }
+    if !record_fields::same_bytes(commitment, record_reading::commitment_of(record)) {
+        return rules::answer(11, r.count);
+    }
+    r
+}
+
 // CHECK RECORD: whether the record is read, reconstruct accepts its fields, and the commitment is the record's. No test comes after a write but the last, 11.
 pub fn check_record(
     record: &[u8],
@@ -73,13 +99,7 @@ pub fn check_record(
     if number != 0 {
         return rules::answer(number, 0);
     }
-    let mut commitment = [0u8; 32];
-    let r = reconstruct_fields(record, &mut commitment, tree, leaf_commitments, q);
-    if r.number != 0 {
-        return r;
-    }
-    if !record_fields::same_bytes(&commitment, record_reading::commitment_of(record)) {
-        return rules::answer(11, r.count);
-    }
-    r
+    let n = rules::hash_bytes(record_reading::resolved_shape(record));
+    let mut commitment = [0u8; 64];
+    check_read(record, &mut commitment[..n], tree, leaf_commitments, q)
 }

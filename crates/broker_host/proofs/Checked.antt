@@ -11,13 +11,14 @@ use lib.Seq.{take-length}
 use borrow.Author.Tests.{eqb-true, eqb-false, ne-eqb}
 use Rattle.spec.specs.declared.Shape.{Shape}
 use Rattle.spec.specs.declared.Answer.{Answer}
-use Rattle.spec.specs.Shapes.{resolved, level, nodeBytes, leaves, shapeOk, treeBytes}
+use Rattle.spec.specs.Shapes.{resolved, nodeBytes, leaves, shapeOk, treeBytes}
 use Rattle.spec.specs.Primitives.{faest}
 use Rattle.spec.specs.Calls.{fits, countGiven, written}
 use Rattle.spec.specs.HostCalls.{countSlice, withCount}
+use Rattle.laws.proofs.Concat.{mul-limit}
 use Rattle.laws.proofs.Conjunctions.{contrary}
 use Rattle.laws.proofs.Words.{count-slice}
-use Rattle.planning_laws.proofs.ShapeFacts.{shape-facts, leaves-pos}
+use Rattle.planning_laws.proofs.ShapeFacts.{shape-facts, widths, leaves-pos}
 use Rattle.record.specs.Record.{contentsOf, readNumber}
 use Rattle.record.specs.RecordCalls.{Work, workLengths, workOf, made, recordNumber, answered, CheckRecord}
 use Rattle.record.specs.HostRecordCalls.{HostCheckRecord}
@@ -27,8 +28,12 @@ use Rattle.broker.proofs.Answers.{read-quiet}
 
 -- no tree has no bytes
 tree-some : (s : Shape) → shapeOk s ≡ true → eqb 0 (treeBytes s) ≡ false
-unfolding level nodeBytes treeBytes
-tree-some s ok = ne-eqb 0 (treeBytes s) (λ z. let l = leaves-pos s (shape-facts s ok) in omega arith)
+unfolding treeBytes
+tree-some s ok =
+    let f = shape-facts s ok in
+    let l = leaves-pos s f in
+    let m : 16 * 1 ≤ nodeBytes s * (2 * leaves s - 1) = mul-limit 16 1 (nodeBytes s) (2 * leaves s - 1) (widths s f .node-min) (omega arith) in
+    ne-eqb 0 (treeBytes s) (λ z. omega arith)
 
 module _ (rec : List ℕ) (x : Work) (count : List ℕ) (m : ℕ) (e : m ≡ cond (eqb (length count) 4) (length (x .tree)) 0) (y : Work) (r : Answer)
     (o : CheckRecord faest rec (record { tree = take m (x .tree); leafCommitments = x .leafCommitments; q = x .q }) y r) where

@@ -64,7 +64,7 @@ pub fn hidden_index(s: Shape, ch: &[u8], i: usize) -> usize
 // The hidden leaf of vector i.
 pub fn hidden_leaf(s: Shape, ch: &[u8], i: usize) -> usize
     requires { ⌜ (shapeOk s ≡ true) × (length (now ch) ≡ challengeBytes s) × (i < s .tau) ⌝ }
-    ensures { λ r. ⌜ (r ≡ hiddenLeaf s (now (ch .entry)) i) × (r < 81920) × (r + 1 < 2 * leaves s) ⌝ }
+    ensures { λ r. ⌜ (r ≡ hiddenLeaf s (now (ch .entry)) i) × (r < 172032) × (r + 1 < 2 * leaves s) ⌝ }
 {
     let j = hidden_index(s, ch, i);
     rules::leaf_of(s, i, j)

@@ -34,7 +34,7 @@ revealed-most c (suc n) =
     let a = length-append (siblingToReveal (c (2 * n + 1)) (c (2 * n + 2)) n) (revealedFrom c n) in
     omega arith
 
-pub count-lt : (s : Shape) (ch : List ℕ) → shapeOk s ≡ true → plannedCount s ch < 40960
+pub count-lt : (s : Shape) (ch : List ℕ) → shapeOk s ≡ true → plannedCount s ch < 86016
 unfolding plannedCount nodeCount revealed
 count-lt s ch e =
     let f = shape-facts s e in
@@ -56,13 +56,13 @@ pub record Counted (s : Shape) (x m n : ℕ) : Type 0 where
   pub within : m ≡ within (s .t) (counted s x)
   pub total : n ≡ total (counted s x)
   pub few : m ≤ x
-  pub most : n ≤ 40960 * x
+  pub most : n ≤ 86016 * x
 
 pub counted-none : (s : Shape) → Counted s 0 0 0
 unfolding tabulate sumOf within total
 counted-none s = record { within = refl; total = refl; few = omega arith; most = omega arith }
 
-pub counted-more : (s : Shape) (x m n count one : ℕ) → Counted s x m n → count ≡ plannedCount s (challengeAt s x) → count < 40960
+pub counted-more : (s : Shape) (x m n count one : ℕ) → Counted s x m n → count ≡ plannedCount s (challengeAt s x) → count < 86016
     → one ≡ cond (leb count (s .t)) 1 0 → one ≤ 1 → Counted s (x + 1) (m + one) (n + count)
 unfolding listedAt within total
 counted-more s x m n count one c e h o l =

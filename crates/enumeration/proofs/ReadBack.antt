@@ -70,21 +70,21 @@ number-read n =
     ∙ ap (decimalFrom 0) (take-at (decimal n) (10 ∷ []) (length (decimal n)) refl)
     ∙ q .1
 
-count-read : (s : Shape) (x : ℕ) → printedCount (lineText (listedAt s x)) ≡ listedAt s x .count
-unfolding lineText listedAt challengeAt digits challengeBytes level
-count-read s x =
+count-read : (s : Shape) (x : ℕ) → level s ≡ 128 → printedCount (lineText (listedAt s x)) ≡ listedAt s x .count
+unfolding lineText listedAt challengeAt digits challengeBytes
+count-read s x e =
     let ch = challengeAt s x in
     let n = plannedCount s ch in
     let size : length (hexText ch) ≡ 2 * length ch = hex-length ch in
-    let bytes : length ch ≡ 16 = length-tabulate 16 _ in
+    let bytes : length ch ≡ 16 = length-tabulate (level s / 8) _ ∙ ap (λ (m : ℕ). m / 8) e in
     let front : length (hexText ch ++ (32 ∷ [])) ≡ 33 = omega (arith, length-append (hexText ch) (32 ∷ [])) in
     ap numberOf (drop-at (hexText ch ++ (32 ∷ [])) (decimal n ++ (10 ∷ [])) 33 front) ∙ number-read n
 
-pub read-back : (s : Shape) → ReadBack s
+pub read-back : (s : Shape) → level s ≡ 128 → ReadBack s
 unfolding listed within total
-read-back s =
+read-back s e =
     record {
-      each-count = count-read s;
-      first-total = λ t. sum-same _ _ (2 ^ openBits s) (listedAt s) (λ x. ap (λ (n : ℕ). cond (leb n t) 1 0) (sym (count-read s x)));
-      second-total = sum-same _ _ (2 ^ openBits s) (listedAt s) (λ x. sym (count-read s x));
+      each-count = λ x. count-read s x e;
+      first-total = λ t. sum-same _ _ (2 ^ openBits s) (listedAt s) (λ x. ap (λ (n : ℕ). cond (leb n t) 1 0) (sym (count-read s x e)));
+      second-total = sum-same _ _ (2 ^ openBits s) (listedAt s) (λ x. sym (count-read s x e));
     }

@@ -14,6 +14,7 @@ use Rattle.spec.specs.declared.Shape.{Shape}
 use Rattle.spec.specs.Shapes.{level, shapeOk}
 use Rattle.spec.specs.Calls.{firstRefusal}
 use Rattle.laws.proofs.Conjunctions.{refuted}
+use Rattle.planning_laws.proofs.ShapeFacts.{shape-facts, by-level}
 use Rattle.listing_line.specs.Line.{shapeLineOk}
 use Rattle.listing_line.proofs.Lines.{shape-line-length}
 use Rattle.enumeration_text.specs.Listed.{openBits}
@@ -21,9 +22,18 @@ use Rattle.enumeration.specs.declared.Reading.{Reading}
 use Rattle.enumeration.specs.Enumeration.{shapeIn, enumerationNumber}
 use Rattle.enumeration.specs.Pieces.{Reads, Readable}
 
-pub open-is : (s : Shape) → openBits s ≡ 128 - s .w
+pub open-is : (s : Shape) → openBits s ≡ s .level - s .w
 unfolding openBits level
 open-is s = refl
+
+-- with at most 16 open bits, and grinding bits of at most 127, the level is 128
+pub level-128 : (s : Shape) → shapeOk s ≡ true → openBits s ≤ 16 → level s ≡ 128
+unfolding level
+level-128 s ok h =
+    let f = shape-facts s ok in
+    let w = f .w-max in
+    let o = open-is s in
+    by-level (λ n. n ≤ 143 → n ≡ 128) (λ l. refl) (λ l. absurd (omega arith)) (λ l. absurd (omega arith)) (s .level) (f .level-is) (omega arith)
 
 -- ---- the number
 

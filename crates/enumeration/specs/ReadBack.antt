@@ -14,6 +14,7 @@ use Rattle.enumeration_text.specs.Text.{lineText}
 abbrev pub printedCount : List ℕ → ℕ
 printedCount line = numberOf (drop 33 line)
 
+-- of a shape at level 128
 pub record ReadBack (s : Shape) : Type 0 where
   pub each-count : (x : ℕ) → printedCount (lineText (listedAt s x)) ≡ listedAt s x .count
   pub first-total : (t : ℕ) → within t (listed s) ≡ sumOf (λ l. cond (leb (printedCount (lineText l)) t) 1 0) (listed s)

@@ -7,7 +7,7 @@ ghost use lib.Dec.{leb};
 ghost use lib.ListN.{length, take};
 ghost use Rattle.spec.specs.Calls.{firstRefusal};
 ghost use Rattle.spec.specs.declared.Shape.{Shape};
-ghost use Rattle.spec.specs.Shapes.{shapeOk, plannedCount};
+ghost use Rattle.spec.specs.Shapes.{level, shapeOk, plannedCount};
 ghost use Rattle.listing_text.specs.Put.{Put};
 ghost use Rattle.enumeration_text.specs.Listed.{openBits, challengeAt, listedAt, listed, within, total};
 ghost use Rattle.enumeration_text.specs.Text.{lineText};
@@ -33,7 +33,7 @@ fn shape_number(s: Shape) -> usize
     if !rules::is_shape(s) {
         return 1;
     }
-    if 16 < 128 - s.w {
+    if 16 < s.level - s.w {
         return 12;
     }
     0
@@ -49,6 +49,7 @@ pub fn read(input: &[u8]) -> Reading
             k: 0,
             w: 0,
             t: 0,
+            level: 128,
         };
         return Reading {
             number: 7,
@@ -68,9 +69,9 @@ pub fn read_start(start: [u8; 64], n: usize) -> Reading
     read(&start[..n])
 }
 
-// The bytes of challenge x: x, least byte first.
+// The bytes of challenge x at level 128: x, least byte first.
 fn challenge_at(x: usize) -> [u8; 16]
-    ensures { λ r. ⌜ ((s : Shape) → r ≡ challengeAt s x) ⌝ }
+    ensures { λ r. ⌜ ((s : Shape) → level s ≡ 128 → r ≡ challengeAt s x) ⌝ }
 {
     let mut challenge = [0u8; 16];
     let mut rest = x;
@@ -85,8 +86,8 @@ fn challenge_at(x: usize) -> [u8; 16]
 
 // The node count of a challenge. The list has room for one node, and is not read.
 fn count_of(s: Shape, challenge: [u8; 16]) -> usize
-    requires { ⌜ shapeOk s ≡ true ⌝ }
-    ensures { λ r. ⌜ (r ≡ plannedCount s challenge) × (r < 40960) ⌝ }
+    requires { ⌜ (shapeOk s ≡ true) × (level s ≡ 128) ⌝ }
+    ensures { λ r. ⌜ (r ≡ plannedCount s challenge) × (r < 86016) ⌝ }
 {
     let mut none = [0u32; 1];
     planning::revealed_nodes(s, &challenge, &mut none)
@@ -94,7 +95,7 @@ fn count_of(s: Shape, challenge: [u8; 16]) -> usize
 
 // Puts the line of challenge x.
 fn put_line(s: Shape, x: usize, out: &mut [u8], at: usize) -> usize
-    requires { ⌜ (shapeOk s ≡ true) × (at + 39 ≤ length (now out)) ⌝ }
+    requires { ⌜ (shapeOk s ≡ true) × (level s ≡ 128) × (at + 39 ≤ length (now out)) ⌝ }
     ensures { λ r. ⌜ (Put (lineText (listedAt s x)) at (now (out .entry)) (now (out .exit)) r) × (r ≤ at + 39) ⌝ }
 {
     let challenge = challenge_at(x);
@@ -104,7 +105,7 @@ fn put_line(s: Shape, x: usize, out: &mut [u8], at: usize) -> usize
 
 // Puts n lines, from line `from` on.
 fn put_lines(s: Shape, from: usize, n: usize, out: &mut [u8]) -> usize
-    requires { ⌜ (shapeOk s ≡ true) × (from + n ≤ 65536) × (39 * n ≤ length (now out)) ⌝ }
+    requires { ⌜ (shapeOk s ≡ true) × (level s ≡ 128) × (from + n ≤ 65536) × (39 * n ≤ length (now out)) ⌝ }
     ensures { λ r. ⌜ Put (linesFrom s from n) 0 (now (out .entry)) (now (out .exit)) r ⌝ }
 {
     let mut end = 0;
@@ -121,7 +122,7 @@ fn line_count(s: Shape) -> usize
     requires { ⌜ (shapeOk s ≡ true) × (openBits s ≤ 16) ⌝ }
     ensures { λ r. ⌜ (r ≡ 2 ^ openBits s) × (1 ≤ r) × (r ≤ 65536) ⌝ }
 {
-    1usize << (128 - s.w)
+    1usize << (s.level - s.w)
 }
 
 // 1 for a count that is at most t, and else 0.
@@ -134,7 +135,7 @@ fn one_within(count: usize, t: usize) -> usize
 // What the lines give, counted anew.
 fn count_all(s: Shape) -> Totals
     requires { ⌜ (shapeOk s ≡ true) × (openBits s ≤ 16) ⌝ }
-    ensures { λ r. ⌜ (r .within ≡ within (s .t) (listed s)) × (r .total ≡ total (listed s)) × (r .within ≤ 65536) × (r .total ≤ 2684354560) ⌝ }
+    ensures { λ r. ⌜ (r .within ≡ within (s .t) (listed s)) × (r .total ≡ total (listed s)) × (r .within ≤ 65536) × (r .total ≤ 5637144576) ⌝ }
 {
     let all = line_count(s);
     let t = s.t;

@@ -16,7 +16,7 @@ use borrow.Author.Tests.{eqb-true, ne-eqb}
 use Rattle.spec.specs.declared.Shape.{Shape}
 use Rattle.spec.specs.Bytes.{tabulate, number, digits, allZero}
 use Rattle.spec.specs.Challenge.{bitAt, bitsAt, indexAt, clearAt}
-use Rattle.spec.specs.Shapes.{level, challengeBytes, shapeOk, depthOf, entriesOf, firstBit, hiddenIndex, grindingOk}
+use Rattle.spec.specs.Shapes.{challengeBytes, shapeOk, depthOf, entriesOf, firstBit, hiddenIndex, grindingOk}
 use Rattle.laws.proofs.Lists.{length-tabulate, getD-tabulate}
 use Rattle.laws.proofs.Numbers.{Digits}
 use Rattle.laws.proofs.Digits.{digits-number, number-digits}
@@ -24,7 +24,7 @@ use Rattle.laws.proofs.Limbs.{number-below, number-part}
 use Rattle.laws.proofs.Words.{same-test}
 use Rattle.planning_laws.proofs.Bits.{index-none, index-more}
 use Rattle.planning_laws.proofs.Depths.{bit-none, bit-next}
-use Rattle.planning_laws.proofs.ShapeFacts.{shape-facts, bit-all}
+use Rattle.planning_laws.proofs.ShapeFacts.{shape-facts, bit-all, widths}
 use Rattle.enumeration_text.specs.Listed.{openBits, challengeAt}
 use Rattle.enumeration_text.specs.Order.{IsChallenge, MixedRadix, Ascending, ListOrder}
 
@@ -75,9 +75,9 @@ digits-small n x i = go (decLt i n)
 
 module _ (s : Shape) (ok : shapeOk s ≡ true) where
   -- the open bits and the grinding bits are all
-  open-bits : (firstBit s (s .tau) ≡ openBits s) × (s .w + openBits s ≡ 128)
-  unfolding openBits level
-  open-bits = (let f = shape-facts s ok in let b = bit-all s f in (omega arith, omega arith))
+  open-bits : (firstBit s (s .tau) ≡ openBits s) × (s .w + openBits s ≡ 8 * challengeBytes s)
+  unfolding openBits
+  open-bits = (let f = shape-facts s ok in let b = bit-all s f in let w = widths s f in (omega arith, omega arith))
 
   at-small : (x : ℕ) → Digits 8 (challengeAt s x)
   unfolding challengeAt
@@ -88,10 +88,10 @@ module _ (s : Shape) (ok : shapeOk s ≡ true) where
   at-length x = length-tabulate (challengeBytes s) _
 
   at-number : (x : ℕ) → x < 2 ^ openBits s → number 8 (challengeAt s x) ≡ x
-  unfolding challengeAt challengeBytes level
+  unfolding challengeAt
   at-number x h =
-      let l : openBits s ≤ 128 = omega (arith, open-bits .1) in
-      number-digits 8 16 x (lt-of-lt-of-le h (pow-mono l))
+      let l : openBits s ≤ 8 * challengeBytes s = omega (arith, open-bits .1) in
+      number-digits 8 (challengeBytes s) x (lt-of-lt-of-le h (pow-mono l))
 
   clear-bits : (ch : List ℕ) → Digits 8 ch → grindingOk s ch ≡ eqb (number 8 ch / 2 ^ openBits s % 2 ^ s .w) 0
   unfolding grindingOk
@@ -103,11 +103,11 @@ module _ (s : Shape) (ok : shapeOk s ≡ true) where
       ∙ rw (at-number x h, div-eq-of-lt h, zero-mod) refl
 
   found : (ch : List ℕ) → IsChallenge s ch → grindingOk s ch ≡ true → (x : ℕ) × (x < 2 ^ openBits s) × (challengeAt s x ≡ ch)
-  unfolding challengeAt challengeBytes level
+  unfolding challengeAt
   found ch c e =
       let N = number 8 ch in
       let o = openBits s in
-      let size : N < 2 ^ 128 = number-below 8 16 ch (c .size) (c .bytes) in
+      let size : N < 2 ^ (8 * challengeBytes s) = number-below 8 (challengeBytes s) ch (c .size) (c .bytes) in
       let all : N < 2 ^ (s .w + o) = subst (λ (n : ℕ). N < 2 ^ n) (sym (open-bits .1)) size in
       let high : N / 2 ^ o % 2 ^ s .w ≡ 0 = eqb-true _ 0 (sym (clear-bits ch (c .bytes)) ∙ e) in
       let none : N / 2 ^ o ≡ 0 = sym (mod-eq-of-lt (shr-lt (s .w) o all)) ∙ high in

@@ -58,29 +58,43 @@ fn element(s: &[u8]) -> [u64; 6]
     r
 }
 
+// An entry of a table: an element, and limbs that are zero.
+fn padded(x: [u64; 6]) -> [u64; 12]
+    ensures { λ r. ⌜ number 64 r ≡ number 64 x ⌝ }
+{
+    [x[0], x[1], x[2], x[3], x[4], x[5], 0, 0, 0, 0, 0, 0]
+}
+
+// The element of an entry.
+fn limbs(x: [u64; 12]) -> [u64; 6]
+    ensures { λ r. ⌜ (number 64 x < 2 ^ 384 → number 64 r ≡ number 64 x) ⌝ }
+{
+    [x[0], x[1], x[2], x[3], x[4], x[5]]
+}
+
 // The multiples of a hash key by the sixteen polynomials of four terms, made once for each key.
-pub fn multiples(key: &[u8]) -> [[u64; 6]; 16]
+pub fn multiples(key: &[u8]) -> [[u64; 12]; 16]
     requires { ⌜ length (now key) ≡ 48 ⌝ }
     ensures { λ r. ⌜ Multiples 384 p384 (number 8 (now (key .entry))) r ⌝ }
 {
-    let mut t = [[0u64; 6]; 16];
-    t[1] = element(key);
+    let mut t = [[0u64; 12]; 16];
+    t[1] = padded(element(key));
     for d in 2..16 {
-        t[d] = xor(times_alpha(t[d / 2], 1), t[d % 2]);
+        t[d] = padded(xor(times_alpha(limbs(t[d / 2]), 1), limbs(t[d % 2])));
     }
     t
 }
 
 // One window of a product: alpha ^ 4 times a, plus entry d of a table.
-fn window(t: &[[u64; 6]; 16], a: [u64; 6], d: u64) -> [u64; 6]
+fn window(t: &[[u64; 12]; 16], a: [u64; 6], d: u64) -> [u64; 6]
     requires { ⌜ d < 16 ⌝ }
-    ensures { λ r. ⌜ number 64 r ≡ bitXor (remainder 384 p384 4 (number 64 a * 2 ^ 4)) (number 64 (getD (now (t .entry)) d [])) ⌝ }
+    ensures { λ r. ⌜ (number 64 (getD (now (t .entry)) d []) < 2 ^ 384 → number 64 r ≡ bitXor (remainder 384 p384 4 (number 64 a * 2 ^ 4)) (number 64 (getD (now (t .entry)) d []))) ⌝ }
 {
-    xor(times_alpha(a, 4), t[d as usize])
+    xor(times_alpha(a, 4), limbs(t[d as usize]))
 }
 
 // The product of x, given as its multiples, and the element of the bytes s, from the top byte down.
-fn multiply(t: &[[u64; 6]; 16], s: &[u8]) -> [u64; 6]
+fn multiply(t: &[[u64; 12]; 16], s: &[u8]) -> [u64; 6]
     ensures { λ r. ⌜ ((x : ℕ) → Multiples 384 p384 x (now (t .entry)) → number 64 r ≡ fieldProduct 384 p384 (8 * length (now (s .entry))) x (number 8 (now (s .entry)))) ⌝ }
 {
     let mut r = [0u64; 6];
@@ -104,7 +118,7 @@ fn write(x: [u64; 6], y: &[u8], out: &mut [u8])
 }
 
 // The leaf hash of 64 bytes: the hash key, given as its multiples, times the first 16, plus the other 48.
-pub fn leaf_hash(t: &[[u64; 6]; 16], stretched: &[u8], out: &mut [u8])
+pub fn leaf_hash(t: &[[u64; 12]; 16], stretched: &[u8], out: &mut [u8])
     requires { ⌜ (length (now stretched) ≡ 64) × (length (now out) ≡ 48) ⌝ }
     ensures { λ _. ⌜ ((u : List ℕ) → Multiples 384 p384 (number 8 u) (now (t .entry)) → now (out .exit) ≡ tabulate 48 (leafHashByte 384 p384 u (take 16 (now (stretched .entry))) (drop 16 (now (stretched .entry))))) ⌝ }
 {

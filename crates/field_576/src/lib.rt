@@ -58,29 +58,56 @@ fn element(s: &[u8]) -> [u64; 9]
     r
 }
 
+// An entry of a table: an element, and limbs that are zero.
+fn padded(x: [u64; 9]) -> [u64; 12]
+    ensures { λ r. ⌜ number 64 r ≡ number 64 x ⌝ }
+{
+    [
+        x[0],
+        x[1],
+        x[2],
+        x[3],
+        x[4],
+        x[5],
+        x[6],
+        x[7],
+        x[8],
+        0,
+        0,
+        0,
+    ]
+}
+
+// The element of an entry.
+fn limbs(x: [u64; 12]) -> [u64; 9]
+    ensures { λ r. ⌜ (number 64 x < 2 ^ 576 → number 64 r ≡ number 64 x) ⌝ }
+{
+    [x[0], x[1], x[2], x[3], x[4], x[5], x[6], x[7], x[8]]
+}
+
 // The multiples of a hash key by the sixteen polynomials of four terms, made once for each key.
-pub fn multiples(key: &[u8]) -> [[u64; 9]; 16]
+pub fn multiples(key: &[u8]) -> [[u64; 12]; 16]
     requires { ⌜ length (now key) ≡ 72 ⌝ }
     ensures { λ r. ⌜ Multiples 576 p576 (number 8 (now (key .entry))) r ⌝ }
 {
-    let mut t = [[0u64; 9]; 16];
-    t[1] = element(key);
+    let mut t = [[0u64; 12]; 16];
+    t[1] = padded(element(key));
     for d in 2..16 {
-        t[d] = xor(times_alpha(t[d / 2], 1), t[d % 2]);
+        t[d] = padded(xor(times_alpha(limbs(t[d / 2]), 1), limbs(t[d % 2])));
     }
     t
 }
 
 // One window of a product: alpha ^ 4 times a, plus entry d of a table.
-fn window(t: &[[u64; 9]; 16], a: [u64; 9], d: u64) -> [u64; 9]
+fn window(t: &[[u64; 12]; 16], a: [u64; 9], d: u64) -> [u64; 9]
     requires { ⌜ d < 16 ⌝ }
-    ensures { λ r. ⌜ number 64 r ≡ bitXor (remainder 576 p576 4 (number 64 a * 2 ^ 4)) (number 64 (getD (now (t .entry)) d [])) ⌝ }
+    ensures { λ r. ⌜ (number 64 (getD (now (t .entry)) d []) < 2 ^ 576 → number 64 r ≡ bitXor (remainder 576 p576 4 (number 64 a * 2 ^ 4)) (number 64 (getD (now (t .entry)) d []))) ⌝ }
 {
-    xor(times_alpha(a, 4), t[d as usize])
+    xor(times_alpha(a, 4), limbs(t[d as usize]))
 }
 
 // The product of x, given as its multiples, and the element of the bytes s, from the top byte down.
-fn multiply(t: &[[u64; 9]; 16], s: &[u8]) -> [u64; 9]
+fn multiply(t: &[[u64; 12]; 16], s: &[u8]) -> [u64; 9]
     ensures { λ r. ⌜ ((x : ℕ) → Multiples 576 p576 x (now (t .entry)) → number 64 r ≡ fieldProduct 576 p576 (8 * length (now (s .entry))) x (number 8 (now (s .entry)))) ⌝ }
 {
     let mut r = [0u64; 9];
@@ -93,18 +120,18 @@ fn multiply(t: &[[u64; 9]; 16], s: &[u8]) -> [u64; 9]
     r
 }
 
-// The 72 bytes of an element, xored with those of y.
+// The 72 bytes of an element, xored with those of y. The count is not a constant: with one the compiler shares the stores of the three fields, and those of 384 bits get slower.
 fn write(x: [u64; 9], y: &[u8], out: &mut [u8])
     requires { ⌜ (length (now y) ≡ 72) × (length (now out) ≡ 72) ⌝ }
     ensures { λ _. ⌜ now (out .exit) ≡ tabulate 72 (λ p. bitXor (number 64 x) (number 8 (now (y .entry))) / 2 ^ (8 * p) % 2 ^ 8) ⌝ }
 {
-    for i in 0..9 {
+    for i in 0..out.len() / 8 {
         write_limb(x[i], y, out, 8 * i);
     }
 }
 
 // The leaf hash of 96 bytes: the hash key, given as its multiples, times the first 24, plus the other 72.
-pub fn leaf_hash(t: &[[u64; 9]; 16], stretched: &[u8], out: &mut [u8])
+pub fn leaf_hash(t: &[[u64; 12]; 16], stretched: &[u8], out: &mut [u8])
     requires { ⌜ (length (now stretched) ≡ 96) × (length (now out) ≡ 72) ⌝ }
     ensures { λ _. ⌜ ((u : List ℕ) → Multiples 576 p576 (number 8 u) (now (t .entry)) → now (out .exit) ≡ tabulate 72 (leafHashByte 576 p576 u (take 24 (now (stretched .entry))) (drop 24 (now (stretched .entry))))) ⌝ }
 {

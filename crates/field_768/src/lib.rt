@@ -93,12 +93,12 @@ fn multiply(t: &[[u64; 12]; 16], s: &[u8]) -> [u64; 12]
     r
 }
 
-// The 96 bytes of an element, xored with those of y.
+// The 96 bytes of an element, xored with those of y. The count is not a constant: with one the compiler shares the stores of the three fields, and those of 384 bits get slower.
 fn write(x: [u64; 12], y: &[u8], out: &mut [u8])
     requires { ⌜ (length (now y) ≡ 96) × (length (now out) ≡ 96) ⌝ }
     ensures { λ _. ⌜ now (out .exit) ≡ tabulate 96 (λ p. bitXor (number 64 x) (number 8 (now (y .entry))) / 2 ^ (8 * p) % 2 ^ 8) ⌝ }
 {
-    for i in 0..12 {
+    for i in 0..out.len() / 8 {
         write_limb(x[i], y, out, 8 * i);
     }
 }

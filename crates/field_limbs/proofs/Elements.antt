@@ -1,8 +1,8 @@
 -- Elements of n limbs of 64 bits: what holds in each loop over limbs or bytes, and that it holds after one more. A loop's invariant is one of these at its n.
-use mathlib.Core.Path.{_≡_, sym, ap, _∙_}
-use mathlib.Core.List.{List, _++_}
-use Prim.Native.Nat.{ℕ, suc, _+_, _-_, _*_, _/_, _%_, _^_, _≤_, _<_}
-use native.Mathlib.Nat.{mod-lt, lt-of-lt-of-le, lt-trans, mul-one, add-comm}
+use mathlib.Core.Path.{_≡_, refl, sym, ap, _∙_}
+use mathlib.Core.List.{List, [], _∷_, _++_}
+use Prim.Native.Nat.{ℕ, zero, suc, _+_, _-_, _*_, _/_, _%_, _^_, _≤_, _<_}
+use native.Mathlib.Nat.{mod-lt, lt-of-lt-of-le, lt-of-mul-lt-mul-right, lt-trans, mul-one, add-comm}
 use native.Mathlib.Omega.{arith}
 use lib.Bits.{bitXor, bitOr, xor-lt, or-lt}
 use lib.ListN.{length, getD, take, set, length-set}
@@ -10,11 +10,21 @@ use lib.Pow.{pow-pos, pow-mono, shr-lt}
 use lib.Seq.{take-all}
 use Rattle.spec.specs.Bytes.{number, tabulate}
 use Rattle.spec.specs.Polynomials.{product, remainder}
-use Rattle.laws.proofs.Numbers.{Digits}
+use Rattle.laws.proofs.Numbers.{Digits, pow-next}
 use Rattle.laws.proofs.Limbs.{digits-set, number-below, limb-xor, joined-more, joined-xor, shift-stored, xor-stored}
 use Rattle.laws.proofs.Polynomials.{product-lt}
 use Rattle.laws.proofs.FieldProduct.{product-pad, remainder-shift}
 use Rattle.laws.proofs.Prefixes.{tabulate-block}
+
+-- ---- the first limbs
+
+-- a number that fits n limbs is that of the first n
+pub number-first : (n : ℕ) (x : List ℕ) → number 64 x < 2 ^ (64 * n) → number 64 (tabulate n (λ i. getD x i 0)) ≡ number 64 x
+unfolding number tabulate
+number-first zero x h = omega arith
+number-first (suc n) [] h = (let z = number-first n [] (pow-pos (64 * n)) in omega arith)
+number-first (suc n) (x ∷ xs) h =
+    ap (λ (y : ℕ). x + y * 2 ^ 64) (number-first n xs (lt-of-mul-lt-mul-right (2 ^ 64) (let z = rw pow-next at h in omega arith)))
 
 -- ---- limbs from bytes
 

@@ -12,7 +12,7 @@ use lib.Seq.{getD-set-same, getD-set-other, drop-cons, drop-length}
 use Rattle.spec.specs.Bytes.{number}
 use Rattle.spec.specs.Polynomials.{remainder, fieldProduct}
 use Rattle.laws.proofs.Xor.{digit-cases}
-use Rattle.laws.proofs.FieldProduct.{field-zero, field-one, field-half, field-byte}
+use Rattle.laws.proofs.FieldProduct.{field-lt, field-zero, field-one, field-half, field-byte}
 use Rattle.field_limbs.specs.Multiples.{Multiples}
 
 -- the entries of t below d are those of x
@@ -33,9 +33,10 @@ module _ (w m : ℕ) (low : 2 ^ w ≤ m) (high : m < 2 ^ suc w) where
     digit-cases (λ (k : ℕ). number 64 (getD t k []) ≡ fieldProduct w m 4 x k) (e0 ∙ sym (field-zero w m low high x hx 4)) (e1 ∙ sym (field-one w m low high x hx 3)),
   )
 
-  -- a is alpha times the half, v the sum of it and the entry of the lowest term
+  -- a is alpha times the half, v the sum of it and the entry of the lowest term; both entries fit the width
   pub entries-next : (x : ℕ) (t : List (List ℕ)) (d : ℕ) (a v : List ℕ) → x < 2 ^ w → d < 16
-      → number 64 a ≡ remainder w m 1 (number 64 (getD t (d / 2) []) * 2 ^ 1) → number 64 v ≡ bitXor (number 64 a) (number 64 (getD t (d % 2) [])) → Entries w m x t d
+      → (number 64 (getD t (d / 2) []) < 2 ^ w → number 64 a ≡ remainder w m 1 (number 64 (getD t (d / 2) []) * 2 ^ 1))
+      → (number 64 (getD t (d % 2) []) < 2 ^ w → number 64 v ≡ bitXor (number 64 a) (number 64 (getD t (d % 2) []))) → Entries w m x t d
       → Entries w m x (set t d v) (d + 1)
   entries-next x t d a v hx h ea ev j = (
     omega arith,
@@ -44,8 +45,9 @@ module _ (w m : ℕ) (low : 2 ^ w ≤ m) (high : m < 2 ^ suc w) where
     below-more (λ (k : ℕ). number 64 (getD (set t d v) k []) ≡ fieldProduct w m 4 x k) d
         (λ k h. ap (number 64) (getD-set-other t d k v [] (ne-of-lt h)) ∙ j .3 k h)
         (ap (number 64) (getD-set-same t d v [] (omega arith))
-        ∙ ev
-        ∙ ap₂ bitXor (ea ∙ ap (λ (b : ℕ). remainder w m 1 (b * 2 ^ 1)) (j .3 (d / 2) (omega arith))) (j .3 (d % 2) (omega arith))
+        ∙ ev (rw (j .3 (d % 2) (omega arith)) (field-lt w m low high x hx 4 (d % 2)))
+        ∙ ap₂ bitXor (ea (rw (j .3 (d / 2) (omega arith)) (field-lt w m low high x hx 4 (d / 2))) ∙ ap (λ (b : ℕ). remainder w m 1 (b * 2 ^ 1)) (j .3 (d / 2) (omega arith)))
+        (j .3 (d % 2) (omega arith))
         ∙ field-half w m low high x hx 3 d (omega arith)),
   )
 
@@ -57,10 +59,11 @@ module _ (w m : ℕ) (low : 2 ^ w ≤ m) (high : m < 2 ^ suc w) where
         λ x h. e ∙ sym (ap (λ (l : List ℕ). fieldProduct w m n x (number 8 l)) (drop-length s) ∙ field-zero w m low high x (h .degree) n),
       )
 
-  -- b is the byte before those; a and `after` are the two windows
+  -- b is the byte before those; a and `after` are the two windows, of entries that fit the width
   pub multiplied-next : (t : List (List ℕ)) (s r a after : List ℕ) (j b : ℕ) → 0 < j → b < 256 → b ≡ getD s (j - 1) 0
-      → number 64 a ≡ bitXor (remainder w m 4 (number 64 r * 2 ^ 4)) (number 64 (getD t (b / 16) []))
-      → number 64 after ≡ bitXor (remainder w m 4 (number 64 a * 2 ^ 4)) (number 64 (getD t (b % 16) [])) → Multiplied w m t s r j → Multiplied w m t s after (j - 1)
+      → (number 64 (getD t (b / 16) []) < 2 ^ w → number 64 a ≡ bitXor (remainder w m 4 (number 64 r * 2 ^ 4)) (number 64 (getD t (b / 16) [])))
+      → (number 64 (getD t (b % 16) []) < 2 ^ w → number 64 after ≡ bitXor (remainder w m 4 (number 64 a * 2 ^ 4)) (number 64 (getD t (b % 16) []))) → Multiplied w m t s r j
+      → Multiplied w m t s after (j - 1)
   unfolding number
   multiplied-next t s r a after j b some hb eb ea er p =
       let i = j - 1 in
@@ -74,8 +77,9 @@ module _ (w m : ℕ) (low : 2 ^ w ≤ m) (high : m < 2 ^ suc w) where
       let step : ℕ → ℕ → ℕ = λ a e. bitXor (remainder w m 4 (a * 2 ^ 4)) e in (
         omega arith,
         λ x h.
-            er
-            ∙ ap₂ step (ea ∙ ap₂ step (p .1 x h) (h .entry (b / 16) top)) (h .entry (b % 16) bottom)
+            let small : (d : ℕ) → d < 16 → number 64 (getD t d []) < 2 ^ w = λ d l. rw (h .entry d l) (field-lt w m low high x (h .degree) 4 d) in
+            er (small (b % 16) bottom)
+            ∙ ap₂ step (ea (small (b / 16) top) ∙ ap₂ step (p .1 x h) (h .entry (b / 16) top)) (h .entry (b % 16) bottom)
             ∙ field-byte w m low high x (h .degree) n q b hb
             ∙ ap₂ (λ (k v : ℕ). fieldProduct w m k x v) count value,
       )

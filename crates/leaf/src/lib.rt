@@ -1,10 +1,11 @@
 // FAEST.LeafCommit of document 000, section 5.1: from the leaf of an entry its seed and its commitment.
 ghost use mathlib.Core.Path.{_≡_};
+ghost use mathlib.Core.Bool.{true};
 ghost use mathlib.Core.List.{List};
 ghost use Prim.Native.Nat.{ℕ, _+_, _-_, _^_, _≤_};
 ghost use lib.ListN.{length};
 ghost use Rattle.spec.specs.Gf256.{SboxTable};
-ghost use Rattle.spec.specs.Shapes.{nodeBytes, leafCommitmentBytes, leaves};
+ghost use Rattle.spec.specs.Shapes.{nodeBytes, leafCommitmentBytes, leaves, shapeOk};
 ghost use Rattle.spec.specs.Primitives.{faest};
 ghost use Rattle.spec.specs.Leaves.{hashKey, leafSeed, leafCommitment};
 ghost use Rattle.leaf.specs.HashKeys.{HashMultiples};
@@ -19,17 +20,40 @@ pub fn leaf_tweak(i: usize, n: usize) -> u32
 }
 
 // The multiples of a vector's hash key.
-pub fn hash_multiples(s: Shape, key: &[u8]) -> [[u64; 6]; 16]
-    requires { ⌜ length (now key) ≡ leafCommitmentBytes s ⌝ }
+pub fn hash_multiples(s: Shape, key: &[u8]) -> [[u64; 12]; 16]
+    requires { ⌜ (shapeOk s ≡ true) × (length (now key) ≡ leafCommitmentBytes s) ⌝ }
     ensures { λ r. ⌜ ((iv : List ℕ) (i : ℕ) → now (key .entry) ≡ hashKey faest s iv i → HashMultiples s iv i r) ⌝ }
 {
-    field_384::multiples(key)
+    leaf_hash::multiples(s, key)
 }
 
-// The seed and the commitment of the leaf `key` of vector i; m has the multiples of the vector's hash key.
+// The seed and the commitment of the leaf `key` of vector i, with room for the stretched leaf lent; m has the multiples of the vector's hash key.
+fn stretch_leaf(
+    t: &[u8; 256],
+    m: &[[u64; 12]; 16],
+    s: Shape,
+    key: &[u8],
+    iv: [u8; 16],
+    tweak: u32,
+    stretched: &mut [u8],
+    seed: &mut [u8],
+    out: &mut [u8],
+)
+    requires { ⌜ SboxTable (now t) ⌝ }
+    requires { ⌜ (shapeOk s ≡ true) × (length (now key) ≡ nodeBytes s) × (length (now stretched) ≡ nodeBytes s + leafCommitmentBytes s) × (length (now seed) ≡ nodeBytes s) × (length (now out) ≡ leafCommitmentBytes s) ⌝ }
+    ensures { λ _. ⌜ ((i : ℕ) → tweak ≡ i + leaves s - 1 → HashMultiples s iv i (now (m .entry))
+        → (now (seed .exit) ≡ leafSeed faest s iv i (now (key .entry))) × (now (out .exit) ≡ leafCommitment faest s iv i (now (key .entry)))) ⌝ }
+{
+    let n = rules::node_bytes(s);
+    generator::fill(t, key, iv, tweak, 0, stretched);
+    leaf_hash::leaf_hash(s, m, stretched, out);
+    buffers::copy_part(stretched, 0, n, seed, 0);
+}
+
+// The same, with room of its own.
 pub fn commit_leaf(
     t: &[u8; 256],
-    m: &[[u64; 6]; 16],
+    m: &[[u64; 12]; 16],
     s: Shape,
     key: &[u8],
     iv: [u8; 16],
@@ -38,12 +62,11 @@ pub fn commit_leaf(
     out: &mut [u8],
 )
     requires { ⌜ SboxTable (now t) ⌝ }
-    requires { ⌜ (length (now key) ≡ nodeBytes s) × (length (now seed) ≡ nodeBytes s) × (length (now out) ≡ leafCommitmentBytes s) ⌝ }
+    requires { ⌜ (shapeOk s ≡ true) × (length (now key) ≡ nodeBytes s) × (length (now seed) ≡ nodeBytes s) × (length (now out) ≡ leafCommitmentBytes s) ⌝ }
     ensures { λ _. ⌜ ((i : ℕ) → tweak ≡ i + leaves s - 1 → HashMultiples s iv i (now (m .entry))
         → (now (seed .exit) ≡ leafSeed faest s iv i (now (key .entry))) × (now (out .exit) ≡ leafCommitment faest s iv i (now (key .entry)))) ⌝ }
 {
-    let mut stretched = [0u8; 64];
-    generator::fill(t, key, iv, tweak, 0, &mut stretched);
-    field_384::leaf_hash(m, &stretched, out);
-    buffers::copy_part(&stretched, 0, 16, seed, 0);
+    let n = rules::node_bytes(s) + rules::commitment_bytes(s);
+    let mut stretched = [0u8; 128];
+    stretch_leaf(t, m, s, key, iv, tweak, &mut stretched[0..n], seed, out);
 }

@@ -8,7 +8,7 @@ use spec::Shape;
 // The tree, 2 L - 1 nodes.
 pub fn tree_bytes(s: Shape) -> usize
     requires { ⌜ shapeOk s ≡ true ⌝ }
-    ensures { λ r. ⌜ (r ≡ treeBytes s) × (r ≤ 2621408) ⌝ }
+    ensures { λ r. ⌜ (r ≡ treeBytes s) × (r ≤ 5504992) ⌝ }
 {
     let n = rules::leaf_count(s);
     rules::node_bytes(s) * (2 * n - 1)
@@ -17,7 +17,7 @@ pub fn tree_bytes(s: Shape) -> usize
 // The leaf commitments.
 pub fn leaf_commitments_bytes(s: Shape) -> usize
     requires { ⌜ shapeOk s ≡ true ⌝ }
-    ensures { λ r. ⌜ (r ≡ leafCommitmentsBytes s) × (r ≤ 3932160) ⌝ }
+    ensures { λ r. ⌜ (r ≡ leafCommitmentsBytes s) × (r ≤ 8257536) ⌝ }
 {
     let n = rules::leaf_count(s);
     rules::commitment_bytes(s) * n

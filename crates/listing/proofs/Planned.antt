@@ -1,5 +1,5 @@
 -- What the listing prints of a plan: a refusal depends on the lent list only by its length, and of a plan that is let through at most 512 nodes are listed,
--- each below 81,920. By cases on the tests of plan, and by induction on the nodes that reveal.
+-- each below 100,000 at level 128. By cases on the tests of plan, and by induction on the nodes that reveal.
 use Prim.Native.Nat.{ℕ, zero, suc, _+_, _*_, _≤_, _<_}
 use mathlib.Core.Path.{_≡_, refl, sym, ap, _∙_}
 use mathlib.Core.Bool.{Bool, true, false}
@@ -12,11 +12,11 @@ use Rattle.spec.specs.declared.Shape.{Shape}
 use Rattle.spec.specs.declared.Answer.{Answer}
 use Rattle.spec.specs.Bytes.{zeros}
 use Rattle.spec.specs.Tree.{revealed}
-use Rattle.spec.specs.Shapes.{resolved, shapeOk, challengeBytes, grindingOk, planned, plannedCount}
+use Rattle.spec.specs.Shapes.{resolved, level, shapeOk, challengeBytes, grindingOk, planned, plannedCount}
 use Rattle.spec.specs.Calls.{firstRefusal, fits, nodesOk, countWith, planLengths, planNumber, Plan}
 use Rattle.laws.proofs.Lists.{length-zeros}
 use Rattle.planning_laws.proofs.Revealed.{revealed-below}
-use Rattle.planning_laws.proofs.ShapeFacts.{shape-facts, leaves-max}
+use Rattle.planning_laws.proofs.ShapeFacts.{shape-facts, leaves-level, resolved-level}
 use Rattle.planning.proofs.Planned.{planned-length}
 use Rattle.listing_text.specs.Text.{refusedText, nodesText}
 use Rattle.listing.specs.Listing.{planText}
@@ -50,9 +50,9 @@ number-same s ch xs size = go (shapeOk s) refl
 
 -- ---- the nodes
 
-planned-lt : (s : Shape) (ch : List ℕ) → shapeOk s ≡ true → (m : ℕ) → getD (planned s ch) m 0 < 81920
+planned-lt : (s : Shape) (ch : List ℕ) → shapeOk s ≡ true → level s ≡ 128 → (m : ℕ) → getD (planned s ch) m 0 < 100000
 unfolding planned revealed
-planned-lt s ch e = revealed-below _ _ 81920 (omega (arith, leaves-max s (shape-facts s e)))
+planned-lt s ch e l = revealed-below _ _ 100000 (omega (arith, leaves-level s (shape-facts s e)))
 
 -- ---- a plan of the shape s as given, lent the list xs, which is ys afterwards
 
@@ -61,7 +61,7 @@ pub record Listed (s : Shape) (ch ys : List ℕ) (r : Answer) : Type 0 where
   pub size : length (planned (resolved s) ch) ≡ r .count
   pub most : r .count ≤ 512
   pub front : (rest : List ℕ) → take (r .count) (ys ++ rest) ≡ planned (resolved s) ch
-  pub small : (m : ℕ) → getD (planned (resolved s) ch) m 0 < 81920
+  pub small : (m : ℕ) → getD (planned (resolved s) ch) m 0 < 100000
   pub text : nodesText (planned (resolved s) ch) (length (planned (resolved s) ch)) ≡ planText (resolved s) ch
 
 pub record Printed (s : Shape) (ch ys : List ℕ) (r : Answer) : Type 0 where
@@ -69,9 +69,9 @@ pub record Printed (s : Shape) (ch ys : List ℕ) (r : Answer) : Type 0 where
   pub refused : (r .number ≡ 0 → ⊥) → refusedText (r .number) ≡ planText (resolved s) ch
   pub listed : r .number ≡ 0 → Listed s ch ys r
 
-pub printed : (s : Shape) (ch xs ys : List ℕ) (r : Answer) → Plan s ch xs ys r → (resolved s .t ≤ 512 → length xs ≡ resolved s .t) → Printed s ch ys r
-unfolding planText countWith nodesOk
-printed s ch xs ys r p size =
+pub printed : (s : Shape) (ch xs ys : List ℕ) (r : Answer) → Plan s ch xs ys r → s .level ≡ 128 → (resolved s .t ≤ 512 → length xs ≡ resolved s .t) → Printed s ch ys r
+unfolding planText countWith nodesOk level
+printed s ch xs ys r p l size =
     record {
       small = rw (p .number) (number-cases (resolved s) ch (planLengths (resolved s) ch xs) .0);
       refused = λ h. rw (same, ne-eqb (r .number) 0 h) refl;
@@ -85,7 +85,7 @@ printed s ch xs ys r p size =
             size = long;
             most = omega (arith, leb-true n (resolved s .t) (q .1), shape-facts (resolved s) (q .0) .t-max);
             front = λ rest. rw (w, append-assoc) (take-at nodes (drop n xs ++ rest) (r .count) long);
-            small = planned-lt (resolved s) ch (q .0);
+            small = planned-lt (resolved s) ch (q .0) (resolved-level s ∙ l);
             text = rw (same, e) (ap (nodesText nodes) (planned-length (resolved s) ch));
           };
     }

@@ -10,7 +10,7 @@ use spec::Shape;
 
 // Writes the nodes of a plan or its refusal. `nodes` has room for every T that is allowed; a larger one is refused whatever the list's length.
 fn put_plan(out: &mut [u8], shape: Shape, challenge: &[u8], nodes: &mut [u32]) -> usize
-    requires { ⌜ (4096 ≤ length (now out)) × (512 ≤ length (now nodes)) ⌝ }
+    requires { ⌜ (4096 ≤ length (now out)) × (512 ≤ length (now nodes)) × (shape .level ≡ 128) ⌝ }
     ensures { λ r. ⌜ Put (planText (resolved shape) (now (challenge .entry))) 0 (now (out .entry)) (now (out .exit)) r ⌝ }
 {
     let s = rules::resolve(shape);

@@ -77,6 +77,7 @@ pub record ShortNumbers (input : List ℕ) : Type 0 where
   pub w : digitRun (behind 2 input) ≤ 5
   pub t : digitRun (behind 3 input) ≤ 5
 
+-- at level 128 (document 02, E7 and E10)
 unfoldable pub shapeOf : List ℕ → Shape
 shapeOf input =
     record {
@@ -84,4 +85,5 @@ shapeOf input =
       k = numberOf (behind 1 input);
       w = numberOf (behind 2 input);
       t = numberOf (behind 3 input);
+      level = 128;
     }

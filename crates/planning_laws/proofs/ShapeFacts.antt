@@ -1,16 +1,18 @@
 -- The shape rules as facts, and the numbers that follow: a vector's bits lie in the challenge, its leaves in the tree, and no tree is large. By taking the
 -- conjunction of the rules apart.
-use Prim.Native.Nat.{ℕ, zero, suc, _+_, _-_, _*_, _%_, _^_, _≤_, _<_}
-use mathlib.Core.Path.{_≡_, refl, sym, ap, ap₂, _∙_}
-use mathlib.Core.Bool.{Bool, true, false, _&&_, _||_, true≢false}
+use Prim.Native.Nat.{ℕ, zero, suc, _+_, _-_, _*_, _/_, _%_, _^_, _≤_, _<_}
+use mathlib.Core.Path.{_≡_, refl, sym, ap, ap₂, subst, _∙_}
+use mathlib.Core.Bool.{Bool, true, false, _&&_, _||_, cond, true≢false}
+use mathlib.Core.List.{[], _∷_}
 use native.Mathlib.Omega.{arith}
 use native.Mathlib.Nat.{mul-le-mul}
 use native.Mathlib.Decide.{decLt}
 use lib.Dec.{eqb, leb, ltb}
 use lib.Pow.{pow-mono, pow-pos}
-use borrow.Author.Tests.{leb-true, ltb-true, le-leb, lt-ltb, le-ltb, eq-eqb, ne-eqb}
+use borrow.Author.Tests.{leb-true, ltb-true, eqb-true, le-leb, lt-ltb, le-ltb, eq-eqb, ne-eqb}
 use Rattle.spec.specs.declared.Shape.{Shape}
-use Rattle.spec.specs.Shapes.{level, nodeBytes, challengeBytes, leafCommitmentBytes, hashBytes, keyWords, deeper, depthOf, entriesOf, firstBit, leaves, shapeOk}
+use Rattle.spec.specs.Bytes.{allZero}
+use Rattle.spec.specs.Shapes.{faest128f, resolved, level, nodeBytes, challengeBytes, leafCommitmentBytes, hashBytes, keyWords, deeper, depthOf, entriesOf, firstBit, leaves, levelOk, shapeOk}
 use Rattle.laws.proofs.Conjunctions.{refuted}
 use Rattle.laws.proofs.Segments.{segment-before}
 use Rattle.planning_laws.proofs.Depths.{depth-range, depth-deep, depth-flat, bit-next, leaves-split}
@@ -26,19 +28,21 @@ pub record ShapeFacts (s : Shape) : Type 0 where
   pub t-max : s .t ≤ 512
   pub total : s .tau * s .k + deeper s + s .w ≡ level s
   pub few : deeper s < s .tau
+  pub level-is : levelOk (s .level) ≡ true
 
-all-nine : (a b c d e f g h i : Bool) → (a && b && c && d && e && f && g && h && i) ≡ true
-    → (a ≡ true) × (b ≡ true) × (c ≡ true) × (d ≡ true) × (e ≡ true) × (f ≡ true) × (g ≡ true) × (h ≡ true) × (i ≡ true)
-all-nine false b c d e f g h i p = absurd (true≢false (sym p))
-all-nine true false c d e f g h i p = absurd (true≢false (sym p))
-all-nine true true false d e f g h i p = absurd (true≢false (sym p))
-all-nine true true true false e f g h i p = absurd (true≢false (sym p))
-all-nine true true true true false f g h i p = absurd (true≢false (sym p))
-all-nine true true true true true false g h i p = absurd (true≢false (sym p))
-all-nine true true true true true true false h i p = absurd (true≢false (sym p))
-all-nine true true true true true true true false i p = absurd (true≢false (sym p))
-all-nine true true true true true true true true false p = absurd (true≢false (sym p))
-all-nine true true true true true true true true true p = (refl, refl, refl, refl, refl, refl, refl, refl, refl)
+all-ten : (a b c d e f g h i j : Bool) → (a && b && c && d && e && f && g && h && i && j) ≡ true
+    → (a ≡ true) × (b ≡ true) × (c ≡ true) × (d ≡ true) × (e ≡ true) × (f ≡ true) × (g ≡ true) × (h ≡ true) × (i ≡ true) × (j ≡ true)
+all-ten false b c d e f g h i j p = absurd (true≢false (sym p))
+all-ten true false c d e f g h i j p = absurd (true≢false (sym p))
+all-ten true true false d e f g h i j p = absurd (true≢false (sym p))
+all-ten true true true false e f g h i j p = absurd (true≢false (sym p))
+all-ten true true true true false f g h i j p = absurd (true≢false (sym p))
+all-ten true true true true true false g h i j p = absurd (true≢false (sym p))
+all-ten true true true true true true false h i j p = absurd (true≢false (sym p))
+all-ten true true true true true true true false i j p = absurd (true≢false (sym p))
+all-ten true true true true true true true true false j p = absurd (true≢false (sym p))
+all-ten true true true true true true true true true false p = absurd (true≢false (sym p))
+all-ten true true true true true true true true true true p = (refl, refl, refl, refl, refl, refl, refl, refl, refl, refl)
 
 pub deeper-is : (s : Shape) → deeper s ≡ level s - s .w - s .tau * s .k
 unfolding deeper
@@ -48,8 +52,8 @@ pub shape-facts : (s : Shape) → shapeOk s ≡ true → ShapeFacts s
 unfolding shapeOk
 shape-facts s e =
     let q =
-    all-nine (leb 1 (s .tau)) (leb (s .tau) 32) (leb 1 (s .k)) (leb (depthOf s 0) 12) (leb (s .w) 127) (leb 1 (s .t)) (leb (s .t) 512)
-    (leb (s .tau * s .k + s .w) (level s)) (ltb (deeper s) (s .tau)) e in
+    all-ten (leb 1 (s .tau)) (leb (s .tau) 32) (leb 1 (s .k)) (leb (depthOf s 0) 12) (leb (s .w) 127) (leb 1 (s .t)) (leb (s .t) 512)
+    (leb (s .tau * s .k + s .w) (level s)) (ltb (deeper s) (s .tau)) (levelOk (s .level)) e in
     let depth : depthOf s 0 ≤ 12 = leb-true _ _ (q .3) in
     let room : s .tau * s .k + s .w ≤ level s = leb-true _ _ (q .7) in
     record {
@@ -63,15 +67,16 @@ shape-facts s e =
       t-max = leb-true _ _ (q .6);
       total = (let d = deeper-is s in omega arith);
       few = ltb-true _ _ (q .8);
+      level-is = q .9;
     }
 
 pub shape-refused : (s : Shape) → (ShapeFacts s → ⊥) → false ≡ shapeOk s
 shape-refused s h = refuted (shapeOk s) (λ e. h (shape-facts s e))
 
 shape-accepted : (s : Shape) → 1 ≤ s .tau → s .tau ≤ 32 → 1 ≤ s .k → depthOf s 0 ≤ 12 → s .w ≤ 127 → 1 ≤ s .t → s .t ≤ 512 → s .tau * s .k + s .w ≤ level s
-    → deeper s < s .tau → true ≡ shapeOk s
+    → deeper s < s .tau → levelOk (s .level) ≡ true → true ≡ shapeOk s
 unfolding shapeOk
-shape-accepted s a b c d e f g h i =
+shape-accepted s a b c d e f g h i j =
     simp (
       le-leb 1 (s .tau) a,
       le-leb (s .tau) 32 b,
@@ -82,15 +87,16 @@ shape-accepted s a b c d e f g h i =
       le-leb (s .t) 512 g,
       le-leb (s .tau * s .k + s .w) (level s) h,
       lt-ltb (deeper s) (s .tau) i,
+      j,
     )
 
 -- with every other limit kept, the depth of the deeper vectors decides
 pub shape-by-depth : (s : Shape) (r : ℕ) → 1 ≤ s .tau → s .tau ≤ 32 → 1 ≤ s .k → s .k ≤ 12 → s .w ≤ 127 → 1 ≤ s .t → s .t ≤ 512 → s .tau * s .k + s .w ≤ level s
-    → r ≡ deeper s → r < s .tau → (eqb r 0 || ltb (s .k) 12) ≡ shapeOk s
-shape-by-depth s r a b c d e f g h i j = go (decLt 0 r) (decLt (s .k) 12)
+    → r ≡ deeper s → r < s .tau → levelOk (s .level) ≡ true → (eqb r 0 || ltb (s .k) 12) ≡ shapeOk s
+shape-by-depth s r a b c d e f g h i j n = go (decLt 0 r) (decLt (s .k) 12)
   where
     accepted : depthOf s 0 ≤ 12 → true ≡ shapeOk s
-    accepted l = shape-accepted s a b c l e f g h (omega arith)
+    accepted l = shape-accepted s a b c l e f g h (omega arith) n
 
     go : Dec (0 < r) → Dec (s .k < 12) → (eqb r 0 || ltb (s .k) 12) ≡ shapeOk s
     go (no p) q = ap (λ (x : Bool). x || ltb (s .k) 12) (eq-eqb r 0 (omega arith)) ∙ accepted (let z = depth-flat s 0 (omega arith) in omega arith)
@@ -114,16 +120,36 @@ pub record Widths (s : Shape) : Type 0 where
   pub commitment-max : leafCommitmentBytes s ≤ 96
   pub hash-nodes : hashBytes s ≡ 2 * nodeBytes s
 
+-- what holds at 128, 192 and 256 holds at every level of a shape
+pub by-level : (A : ℕ → Type 0) → A 128 → A 192 → A 256 → (n : ℕ) → levelOk n ≡ true → A n
+by-level A a b c n e = go (eqb n 128) (eqb n 192) (eqb n 256) refl refl refl e
+  where
+    go : (x y z : Bool) → eqb n 128 ≡ x → eqb n 192 ≡ y → eqb n 256 ≡ z → (x || (y || z)) ≡ true → A n
+    go true y z p q r e = subst A (sym (eqb-true n 128 p)) a
+    go false true z p q r e = subst A (sym (eqb-true n 192 q)) b
+    go false false true p q r e = subst A (sym (eqb-true n 256 r)) c
+    go false false false p q r e = absurd (true≢false (sym e))
+
+-- a shape's level and what its widths are made from
+record Multiple (n : ℕ) : Type 0 where
+  pub least : 128 ≤ n
+  pub most : n ≤ 256
+  pub eight : n ≡ 64 * (n / 64)
+
+level-multiple : (n : ℕ) → levelOk n ≡ true → Multiple n
+level-multiple = by-level Multiple (record { least = omega arith; most = omega arith; eight = refl }) (record { least = omega arith; most = omega arith; eight = refl }) (record { least = omega arith; most = omega arith; eight = refl })
+
 pub widths : (s : Shape) → ShapeFacts s → Widths s
 unfolding level nodeBytes challengeBytes leafCommitmentBytes hashBytes keyWords
 widths s f =
+    let m = level-multiple (s .level) (f .level-is) in
     record {
-      level-max = omega arith;
+      level-max = m .most;
       node-min = omega arith;
       node-max = omega arith;
-      node-eight = refl;
-      node-words = refl;
-      node-bits = refl;
+      node-eight = omega arith;
+      node-words = omega arith;
+      node-bits = omega arith;
       challenge-node = refl;
       commitment-min = omega arith;
       commitment-max = omega arith;
@@ -153,29 +179,44 @@ none-deeper r k h d = go (decLt 0 r)
     go (yes p) = absurd (let z = d p in omega arith)
     go (no p) = omega arith
 
--- the largest tree has 10 vectors of depth 12
-leaves-bound : (tau r k : ℕ) → tau ≤ 32 → k ≤ 12 → (0 < r → k < 12) → r < tau → tau * k + r ≤ 128 → (tau + r) * 2 ^ k ≤ 40960
-leaves-bound tau r zero a b d c e = omega arith
-leaves-bound tau r (suc zero) a b d c e = omega arith
-leaves-bound tau r (suc (suc zero)) a b d c e = omega arith
-leaves-bound tau r (suc (suc (suc zero))) a b d c e = omega arith
-leaves-bound tau r (suc (suc (suc (suc zero)))) a b d c e = omega arith
-leaves-bound tau r (suc (suc (suc (suc (suc zero))))) a b d c e = omega arith
-leaves-bound tau r (suc (suc (suc (suc (suc (suc zero)))))) a b d c e = omega arith
-leaves-bound tau r (suc (suc (suc (suc (suc (suc (suc zero))))))) a b d c e = omega arith
-leaves-bound tau r (suc (suc (suc (suc (suc (suc (suc (suc zero)))))))) a b d c e = omega arith
-leaves-bound tau r (suc (suc (suc (suc (suc (suc (suc (suc (suc zero))))))))) a b d c e = omega arith
-leaves-bound tau r (suc (suc (suc (suc (suc (suc (suc (suc (suc (suc zero)))))))))) a b d c e = omega arith
-leaves-bound tau r (suc (suc (suc (suc (suc (suc (suc (suc (suc (suc (suc zero))))))))))) a b d c e = omega arith
-leaves-bound tau r (suc (suc (suc (suc (suc (suc (suc (suc (suc (suc (suc (suc zero)))))))))))) a b d c e =
-    (let z = none-deeper r 12 (omega arith) d in omega arith)
-leaves-bound tau r (suc (suc (suc (suc (suc (suc (suc (suc (suc (suc (suc (suc (suc k))))))))))))) a b d c e = absurd (omega arith)
+-- a vector of depth 12 has most leaves for its bits; the largest tree has 21 of them
+leaves-bound : (tau r k : ℕ) → tau ≤ 32 → 1 ≤ k → k ≤ 12 → (0 < r → k < 12) → r < tau
+    → (3 * ((tau + r) * 2 ^ k) ≤ 1024 * (tau * k + r)) × (tau * k + r ≤ 256 → (tau + r) * 2 ^ k ≤ 86016)
+leaves-bound tau r zero a p b d e = absurd (omega arith)
+leaves-bound tau r (suc zero) a p b d e = (omega arith, λ c. omega arith)
+leaves-bound tau r (suc (suc zero)) a p b d e = (omega arith, λ c. omega arith)
+leaves-bound tau r (suc (suc (suc zero))) a p b d e = (omega arith, λ c. omega arith)
+leaves-bound tau r (suc (suc (suc (suc zero)))) a p b d e = (omega arith, λ c. omega arith)
+leaves-bound tau r (suc (suc (suc (suc (suc zero))))) a p b d e = (omega arith, λ c. omega arith)
+leaves-bound tau r (suc (suc (suc (suc (suc (suc zero)))))) a p b d e = (omega arith, λ c. omega arith)
+leaves-bound tau r (suc (suc (suc (suc (suc (suc (suc zero))))))) a p b d e = (omega arith, λ c. omega arith)
+leaves-bound tau r (suc (suc (suc (suc (suc (suc (suc (suc zero)))))))) a p b d e = (omega arith, λ c. omega arith)
+leaves-bound tau r (suc (suc (suc (suc (suc (suc (suc (suc (suc zero))))))))) a p b d e = (omega arith, λ c. omega arith)
+leaves-bound tau r (suc (suc (suc (suc (suc (suc (suc (suc (suc (suc zero)))))))))) a p b d e = (omega arith, λ c. omega arith)
+leaves-bound tau r (suc (suc (suc (suc (suc (suc (suc (suc (suc (suc (suc zero))))))))))) a p b d e = (omega arith, λ c. omega arith)
+leaves-bound tau r (suc (suc (suc (suc (suc (suc (suc (suc (suc (suc (suc (suc zero)))))))))))) a p b d e = (let z = none-deeper r 12 (omega arith) d in (omega arith, λ c. omega arith))
+leaves-bound tau r (suc (suc (suc (suc (suc (suc (suc (suc (suc (suc (suc (suc (suc k))))))))))))) a p b d e = absurd (omega arith)
 
-pub leaves-max : (s : Shape) → ShapeFacts s → leaves s ≤ 40960
-unfolding leaves level
-leaves-max s f =
-    leaves-bound (s .tau) (deeper s) (s .k) (f .tau-max) (f .k-max) (λ h. let d = depth-deep s 0 h in omega (arith, f .depth-max)) (f .few)
-    (omega (arith, f .total))
+leaves-bounds : (s : Shape) → ShapeFacts s → (3 * leaves s ≤ 1024 * (s .tau * s .k + deeper s)) × (s .tau * s .k + deeper s ≤ 256 → leaves s ≤ 86016)
+unfolding leaves
+leaves-bounds s f =
+    leaves-bound (s .tau) (deeper s) (s .k) (f .tau-max) (f .k-pos) (f .k-max) (λ h. let d = depth-deep s 0 h in omega (arith, f .depth-max)) (f .few)
+
+pub leaves-max : (s : Shape) → ShapeFacts s → leaves s ≤ 86016
+leaves-max s f = (let w = widths s f in leaves-bounds s f .1 (omega (arith, f .total)))
+
+pub leaves-level : (s : Shape) → ShapeFacts s → 3 * leaves s ≤ 1024 * level s
+leaves-level s f = (let b = leaves-bounds s f .0 in omega (arith, f .total))
+
+-- the default has level 128, and is put for no other
+pub resolved-level : (s : Shape) → resolved s .level ≡ s .level
+unfolding resolved faest128f
+resolved-level s = go (allZero (s .tau ∷ s .k ∷ s .w ∷ s .t ∷ [])) (eqb (s .level) 128) refl
+  where
+    go : (a b : Bool) → eqb (s .level) 128 ≡ b → cond (a && b) faest128f s .level ≡ s .level
+    go false b e = refl
+    go true false e = refl
+    go true true e = sym (eqb-true (s .level) 128 e)
 
 pub leaves-pos : (s : Shape) → ShapeFacts s → 1 ≤ leaves s
 leaves-pos s f =

@@ -1,18 +1,47 @@
 -- The numbers that a head and its fields have room for. By the shape rules and the row rule.
-use Prim.Native.Nat.{ℕ, _-_, _%_, _≤_}
+use Prim.Native.Nat.{ℕ, _-_, _*_, _/_, _%_, _≤_, _<_}
 use mathlib.Core.Path.{_≡_, refl, ap}
-use mathlib.Core.Bool.{Bool, true, false, cond}
+use mathlib.Core.Bool.{Bool, true, false, _&&_, cond}
 use mathlib.Core.List.{[], _∷_}
 use native.Mathlib.Omega.{arith}
 use native.Mathlib.Nat.{mul-le-mul}
 use lib.Dec.{eqb, leb}
-use borrow.Author.Tests.{eqb-true, leb-true}
+use borrow.Author.Tests.{eqb-true, leb-true, ne-eqb}
 use Rattle.spec.specs.declared.Shape.{Shape}
 use Rattle.spec.specs.Bytes.{allZero}
 use Rattle.spec.specs.Shapes.{faest128f, resolved, level, nodeBytes, leafCommitmentBytes, shapeOk, openingBytes, correctionsBytes}
 use Rattle.spec.specs.Calls.{rowOk}
 use Rattle.laws.proofs.Conjunctions.{both-true}
-use Rattle.planning_laws.proofs.ShapeFacts.{ShapeFacts, shape-facts}
+use Rattle.laws.proofs.Concat.{mul-limit}
+use Rattle.planning_laws.proofs.ShapeFacts.{ShapeFacts, shape-facts, widths}
+use Rattle.record.specs.Record.{headBytes}
+
+pub head-small : (version : ℕ) → headBytes version ≤ 10
+unfolding headBytes
+head-small version = go (eqb version 1) (eqb version 2)
+  where
+    go : (a b : Bool) → cond a 9 (cond b 10 0) ≤ 10
+    go true b = omega arith
+    go false true = omega arith
+    go false false = omega arith
+
+-- a head has nine bytes at least, and in a version other than 1 the level behind them
+pub head-nine : (version : ℕ) → 0 < headBytes version → 9 ≤ headBytes version
+unfolding headBytes
+head-nine version = go (eqb version 1) (eqb version 2)
+  where
+    go : (a b : Bool) → 0 < cond a 9 (cond b 10 0) → 9 ≤ cond a 9 (cond b 10 0)
+    go true b h = omega arith
+    go false true h = omega arith
+    go false false h = omega arith
+
+pub head-level : (version : ℕ) → (version ≡ 1 → ⊥) → 0 < headBytes version → 10 ≤ headBytes version
+unfolding headBytes
+head-level version n = rw (ne-eqb version 1 n) (go (eqb version 2))
+  where
+    go : (b : Bool) → 0 < cond b 10 0 → 10 ≤ cond b 10 0
+    go true h = omega arith
+    go false h = omega arith
 
 -- the numbers of a shape as given, which is resolved to an allowed one
 pub record Small (s : Shape) : Type 0 where
@@ -20,14 +49,17 @@ pub record Small (s : Shape) : Type 0 where
   pub k : s .k ≤ 12
   pub w : s .w ≤ 127
   pub t : s .t ≤ 512
+  pub level-max : s .level ≤ 256
+  pub level-eight : s .level ≡ 8 * (s .level / 8)
 
 pub given-small : (s : Shape) → shapeOk (resolved s) ≡ true → Small s
-unfolding resolved allZero
-given-small s ok = go (allZero (s .tau ∷ s .k ∷ s .w ∷ s .t ∷ [])) refl
+unfolding resolved allZero level nodeBytes
+given-small s ok = go (allZero (s .tau ∷ s .k ∷ s .w ∷ s .t ∷ []) && eqb (s .level) 128) refl
   where
-    go : (z : Bool) → allZero (s .tau ∷ s .k ∷ s .w ∷ s .t ∷ []) ≡ z → Small s
+    go : (z : Bool) → (allZero (s .tau ∷ s .k ∷ s .w ∷ s .t ∷ []) && eqb (s .level) 128) ≡ z → Small s
     go true e =
-        let a = both-true (eqb (s .tau) 0) _ e in
+        let z = both-true (allZero (s .tau ∷ s .k ∷ s .w ∷ s .t ∷ [])) (eqb (s .level) 128) e in
+        let a = both-true (eqb (s .tau) 0) _ (z .0) in
         let b = both-true (eqb (s .k) 0) _ (a .1) in
         let c = both-true (eqb (s .w) 0) _ (b .1) in
         let d = both-true (eqb (s .t) 0) true (c .1) in
@@ -35,11 +67,13 @@ given-small s ok = go (allZero (s .tau ∷ s .k ∷ s .w ∷ s .t ∷ [])) refl
         let q = eqb-true (s .k) 0 (b .0) in
         let r = eqb-true (s .w) 0 (c .0) in
         let t = eqb-true (s .t) 0 (d .0) in
-        record { tau = omega arith; k = omega arith; w = omega arith; t = omega arith }
+        let l = eqb-true (s .level) 128 (z .1) in
+        record { tau = omega arith; k = omega arith; w = omega arith; t = omega arith; level-max = omega arith; level-eight = omega arith }
     go false e =
         let same : resolved s ≡ s = ap (λ (z : Bool). cond z faest128f s) e in
         let f : ShapeFacts s = shape-facts s (rw same at ok) in
-        record { tau = f .tau-max; k = f .k-max; w = f .w-max; t = f .t-max }
+        let v = widths s f in
+        record { tau = f .tau-max; k = f .k-max; w = f .w-max; t = f .t-max; level-max = v .level-max; level-eight = v .node-bits }
 
 pub row-small : (n : ℕ) → rowOk n ≡ true → n ≤ 65536
 unfolding rowOk
@@ -52,6 +86,11 @@ corrections-small s b ok h =
     let l : s .tau - 1 ≤ 31 = omega arith in
     mul-le-mul h l
 
-pub opening-small : (s : Shape) → shapeOk s ≡ true → openingBytes s ≤ 9728
-unfolding level nodeBytes leafCommitmentBytes openingBytes
-opening-small s ok = (let f = shape-facts s ok in omega arith)
+pub opening-small : (s : Shape) → shapeOk s ≡ true → openingBytes s ≤ 19456
+unfolding openingBytes
+opening-small s ok =
+    let f = shape-facts s ok in
+    let v = widths s f in
+    let a = mul-limit (leafCommitmentBytes s) (s .tau) 96 32 (v .commitment-max) (f .tau-max) in
+    let b = mul-limit (nodeBytes s) (s .t) 32 512 (v .node-max) (f .t-max) in
+    omega arith

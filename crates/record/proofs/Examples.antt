@@ -1,4 +1,4 @@
--- A small record, computed: what reading gives of it, of its beginnings and of wrong bytes in it.
+-- A small record, computed in each version: what reading gives of it, of its beginnings and of wrong bytes in it.
 use Prim.Native.Nat.{ℕ}
 use mathlib.Core.Path.{_≡_, refl}
 use mathlib.Core.List.{List, [], _∷_, _++_}
@@ -7,50 +7,100 @@ use Rattle.spec.specs.Bytes.{tabulate, zeros, allZero, number, digits}
 use Rattle.spec.specs.Shapes.{resolved, faest128f, level, deeper, depthOf, nodeBytes, challengeBytes, leafCommitmentBytes, hashBytes, shapeOk, openingBytes, correctionsBytes}
 use Rattle.spec.specs.Calls.{rowOk}
 use Rattle.record.specs.Fields.{bigEndian, bigEndianBytes, fieldOk, fieldOf}
-use Rattle.record.specs.Record.{versionOk, shapeIn, rowIn, correctionsPlace, openingPlace, commitmentPlace, recordBytes, restOk, contentsOf, readNumber, headFor, recordOf}
+use Rattle.record.specs.Record.{headBytes, versionOk, shapeIn, rowIn, correctionsPlace, openingPlace, commitmentPlace, recordEnd, restOk, Contents, contentsOf, readNumber, headNumber, versionFor, headFor, recordOf, headOfVersion1, recordOfVersion1}
 
 -- one vector of two entries, rows of eight bits: the corrections have no bytes
-small : List ℕ
-small =
-    recordOf
-    (record {
-      shape = record { tau = 1; k = 1; w = 127; t = 1 };
+said : Contents
+said =
+    record {
+      shape = record { tau = 1; k = 1; w = 127; t = 1; level = 128 };
       row = 8;
       iv = zeros 16;
       challenge = zeros 16;
       corrections = [];
       opening = zeros 64;
       commitment = zeros 32;
-    })
+    }
 
--- its front, byte by byte, and its length
-front : take 18 small ≡ 1 ∷ 0 ∷ 0 ∷ 0 ∷ 9 ∷ 1 ∷ 1 ∷ 127 ∷ 0 ∷ 1 ∷ 0 ∷ 0 ∷ 0 ∷ 8 ∷ 0 ∷ 0 ∷ 0 ∷ 16 ∷ []
-unfolding small tabulate zeros digits bigEndianBytes fieldOf headFor recordOf
+small : List ℕ
+small = recordOf said
+
+first : List ℕ
+first = recordOfVersion1 said
+
+-- its front, byte by byte, and its length: version 2 has the level, in bytes, behind the row length
+front : take 19 small ≡ 2 ∷ 0 ∷ 0 ∷ 0 ∷ 10 ∷ 1 ∷ 1 ∷ 127 ∷ 0 ∷ 1 ∷ 0 ∷ 0 ∷ 0 ∷ 8 ∷ 16 ∷ 0 ∷ 0 ∷ 0 ∷ 16 ∷ []
+unfolding said small tabulate zeros digits bigEndianBytes fieldOf versionFor headFor recordOf
 front = refl
 
-long : length small ≡ 162
-unfolding small tabulate zeros digits bigEndianBytes fieldOf headFor recordOf
+long : length small ≡ 163
+unfolding said small tabulate zeros digits bigEndianBytes fieldOf versionFor headFor recordOf
 long = refl
 
--- whole; no byte; the version alone; another version; a length of the head that is not 9; tau 0; a row of 12 bits; a byte missing; a byte left over
+first-front : take 18 first ≡ 1 ∷ 0 ∷ 0 ∷ 0 ∷ 9 ∷ 1 ∷ 1 ∷ 127 ∷ 0 ∷ 1 ∷ 0 ∷ 0 ∷ 0 ∷ 8 ∷ 0 ∷ 0 ∷ 0 ∷ 16 ∷ []
+unfolding said first tabulate zeros digits bigEndianBytes fieldOf headOfVersion1 recordOfVersion1
+first-front = refl
+
+first-long : length first ≡ 162
+unfolding said first tabulate zeros digits bigEndianBytes fieldOf headOfVersion1 recordOfVersion1
+first-long = refl
+
+-- whole; no byte; the version alone; another version; the version of the shorter head; a length of the head that is not 10; tau 0; a row of 12 bits; a byte missing; a byte left over
 reads :
     (readNumber small ≡ 0)
     × (readNumber [] ≡ 9)
-    × (readNumber (1 ∷ []) ≡ 10)
-    × (readNumber (set small 0 2) ≡ 9)
-    × (readNumber (set small 4 10) ≡ 10)
+    × (readNumber (2 ∷ []) ≡ 10)
+    × (readNumber (set small 0 3) ≡ 9)
+    × (readNumber (set small 0 1) ≡ 10)
+    × (readNumber (set small 4 9) ≡ 10)
     × (readNumber (set small 5 0) ≡ 1)
     × (readNumber (set small 13 12) ≡ 2)
-    × (readNumber (take 161 small) ≡ 10)
+    × (readNumber (take 162 small) ≡ 10)
     × (readNumber (small ++ (0 ∷ [])) ≡ 10)
-unfolding small tabulate zeros allZero number digits resolved faest128f level deeper depthOf nodeBytes challengeBytes leafCommitmentBytes hashBytes shapeOk openingBytes correctionsBytes rowOk bigEndian bigEndianBytes fieldOk fieldOf versionOk shapeIn rowIn correctionsPlace openingPlace commitmentPlace recordBytes restOk contentsOf readNumber headFor recordOf
-reads = (refl, refl, refl, refl, refl, refl, refl, refl, refl)
+unfolding said small tabulate zeros allZero number digits resolved faest128f level deeper depthOf nodeBytes challengeBytes leafCommitmentBytes hashBytes shapeOk openingBytes correctionsBytes rowOk bigEndian bigEndianBytes fieldOk fieldOf headBytes versionOk shapeIn rowIn correctionsPlace openingPlace commitmentPlace recordEnd restOk contentsOf readNumber versionFor headFor recordOf
+reads = (refl, refl, refl, refl, refl, refl, refl, refl, refl, refl)
+
+-- of version 1: whole, and the same contents; the version of the longer head; another length of the head; tau 0; a byte left over
+first-reads :
+    (readNumber first ≡ 0)
+    × (contentsOf first ≡ contentsOf small)
+    × (readNumber (set first 0 2) ≡ 10)
+    × (readNumber (set first 4 10) ≡ 10)
+    × (readNumber (set first 5 0) ≡ 1)
+    × (readNumber (first ++ (0 ∷ [])) ≡ 10)
+unfolding said first headOfVersion1 recordOfVersion1 small tabulate zeros allZero number digits resolved faest128f level deeper depthOf nodeBytes challengeBytes leafCommitmentBytes hashBytes shapeOk openingBytes correctionsBytes rowOk bigEndian bigEndianBytes fieldOk fieldOf headBytes versionOk shapeIn rowIn correctionsPlace openingPlace commitmentPlace recordEnd restOk contentsOf readNumber versionFor headFor recordOf
+first-reads = (refl, refl, refl, refl, refl, refl)
+
+-- a level that is none is a wrong shape; so is another level, which the shape does not fill
+levels :
+    (readNumber (set small 14 0) ≡ 1)
+    × (readNumber (set small 14 15) ≡ 1)
+    × (readNumber (set small 14 17) ≡ 1)
+    × (readNumber (set small 14 33) ≡ 1)
+    × (readNumber (set small 14 128) ≡ 1)
+    × (readNumber (set small 14 24) ≡ 1)
+unfolding said small tabulate zeros allZero number digits resolved faest128f level deeper depthOf nodeBytes challengeBytes leafCommitmentBytes hashBytes shapeOk openingBytes correctionsBytes rowOk bigEndian bigEndianBytes fieldOk fieldOf headBytes versionOk shapeIn rowIn correctionsPlace openingPlace commitmentPlace recordEnd restOk contentsOf readNumber versionFor headFor recordOf
+levels = (refl, refl, refl, refl, refl, refl)
+
+-- four zeros are the default at level 128, in either version, and refused at another
+zero-shape : List ℕ → List ℕ
+zero-shape x = set (set (set (set x 5 0) 6 0) 7 0) 9 0
+
+zeros-read :
+    (headNumber (zero-shape small) ≡ 0)
+    × (resolved (contentsOf (zero-shape small) .shape) ≡ faest128f)
+    × (headNumber (set (zero-shape small) 14 24) ≡ 1)
+    × (headNumber (set (zero-shape small) 14 32) ≡ 1)
+    × (headNumber (zero-shape first) ≡ 0)
+    × (resolved (contentsOf (zero-shape first) .shape) ≡ faest128f)
+unfolding said first zero-shape headOfVersion1 recordOfVersion1 headNumber small tabulate zeros allZero number digits resolved faest128f level deeper depthOf nodeBytes challengeBytes leafCommitmentBytes hashBytes shapeOk openingBytes correctionsBytes rowOk bigEndian bigEndianBytes fieldOk fieldOf headBytes versionOk shapeIn rowIn correctionsPlace openingPlace commitmentPlace recordEnd restOk contentsOf readNumber versionFor headFor recordOf
+zeros-read = (refl, refl, refl, refl, refl, refl)
 
 -- the order: version before the head's length, that before the shape, that before the row length, that before the other fields
 order :
-    (readNumber (set (set small 0 2) 4 10) ≡ 9)
-    × (readNumber (set (set small 4 10) 5 0) ≡ 10)
+    (readNumber (set (set small 0 3) 4 9) ≡ 9)
+    × (readNumber (set (set small 4 9) 5 0) ≡ 10)
     × (readNumber (set (set small 5 0) 13 12) ≡ 1)
-    × (readNumber (take 161 (set small 13 12)) ≡ 2)
-unfolding small tabulate zeros allZero number digits resolved faest128f level deeper depthOf nodeBytes challengeBytes leafCommitmentBytes hashBytes shapeOk openingBytes correctionsBytes rowOk bigEndian bigEndianBytes fieldOk fieldOf versionOk shapeIn rowIn correctionsPlace openingPlace commitmentPlace recordBytes restOk contentsOf readNumber headFor recordOf
+    × (readNumber (take 162 (set small 13 12)) ≡ 2)
+unfolding said small tabulate zeros allZero number digits resolved faest128f level deeper depthOf nodeBytes challengeBytes leafCommitmentBytes hashBytes shapeOk openingBytes correctionsBytes rowOk bigEndian bigEndianBytes fieldOk fieldOf headBytes versionOk shapeIn rowIn correctionsPlace openingPlace commitmentPlace recordEnd restOk contentsOf readNumber versionFor headFor recordOf
 order = (refl, refl, refl, refl)

@@ -16,7 +16,6 @@ use Rattle.spec.specs.Verifier.{slotsOk}
 use Rattle.spec.specs.Calls.{firstRefusal, fits, rowOk, nodesOk, countWith, written, Reconstructed, reconstructLengths, reconstructNumber, Reconstruct}
 use Rattle.laws.specs.Lengths.{Sized}
 use Rattle.laws.proofs.Lengths.{fits-sized}
-use Rattle.laws.proofs.Lists.{length-zeros}
 use Rattle.laws.proofs.Refusals.{Numbered, none-failed, then}
 use Rattle.record.specs.Record.{Contents, contentsOf, headTests, restTests, readNumber}
 use Rattle.record.specs.RecordCalls.{Work, workLengths, workOf, Reconstructs, made, sameBytes, workTests, recordNumber}
@@ -177,12 +176,3 @@ module _ (P : Primitives) (rec : List ℕ) where
           ≡ firstRefusal ((eqb (readNumber rec) 0, readNumber rec) ∷ (eqb (fieldsNumber c x) 0, fieldsNumber c x) ∷ Last)
       go true t = (let ok = eqb-true (readNumber rec) 0 t in number-read (workLengths (resolved (c .shape)) (c .row / 8) (workOf x)) ok ∙ sym (rw (t, open-decide rec x ok e) refl))
       go false t = number-refused (workLengths (resolved (c .shape)) (c .row / 8) (workOf x)) (eqb-false (readNumber rec) 0 t) ∙ sym (rw t refl)
-
-  pub lent-steps : (x : Work)
-      → recordNumber P rec (workLengths (resolved (contentsOf rec .shape)) (contentsOf rec .row / 8) x)
-      ≡ firstRefusal
-      ((eqb (readNumber rec) 0, readNumber rec)
-      ∷ (eqb (fieldsNumber (contentsOf rec) (lent (contentsOf rec) x)) 0, fieldsNumber (contentsOf rec) (lent (contentsOf rec) x))
-      ∷ (sameBytes (made P (contentsOf rec) .commitment) (contentsOf rec .commitment), 11)
-      ∷ [])
-  lent-steps x = number-steps (lent c x) (length-zeros (hashBytes (resolved (c .shape))))

@@ -1,8 +1,8 @@
--- Document 02, E6: a signing record is a version byte, 1, and six fields: shape and row length (the head), IV, challenge, corrections, opening, commitment.
-use Prim.Native.Nat.{ℕ, _/_}
-use mathlib.Core.Bool.{Bool, _&&_}
+-- Document 02, E6 and E7: a signing record is a version byte and six fields: shape and row length (the head), IV, challenge, corrections, opening, commitment.
+use Prim.Native.Nat.{ℕ, _*_, _/_}
+use mathlib.Core.Bool.{Bool, _&&_, cond}
 use mathlib.Core.List.{List, [], _∷_, _++_}
-use lib.Dec.{eqb}
+use lib.Dec.{ltb, eqb}
 use lib.ListN.{length, getD}
 use Rattle.spec.specs.declared.Shape.{Shape}
 use Rattle.spec.specs.Bytes.{part}
@@ -12,47 +12,58 @@ use Rattle.record.specs.Fields.{bigEndian, bigEndianBytes, fieldOk, fiel
 
 -- ---- the front: version byte and head. A missing version byte reads as 0
 
-unfoldable pub versionOk : List ℕ → Bool
-versionOk rec = eqb (getD rec 0 0) 1
+abbrev pub versionOf : List ℕ → ℕ
+versionOf rec = getD rec 0 0
 
--- tau, k and w in one byte each, T in two, the row length in four
-abbrev pub headBytes : ℕ
-headBytes = 9
+-- the bytes of a head by its version: tau, k and w in one byte each, T in two, the row length in four; in version 2 the level / 8 in one more. 0 for any other version
+unfoldable pub headBytes : ℕ → ℕ
+headBytes version = cond (eqb version 1) 9 (cond (eqb version 2) 10 0)
+
+unfoldable pub versionOk : List ℕ → Bool
+versionOk rec = ltb 0 (headBytes (versionOf rec))
 
 abbrev pub headOf : List ℕ → List ℕ
-headOf rec = fieldAt rec 1 headBytes
+headOf rec = fieldAt rec 1 (headBytes (versionOf rec))
 
-unfoldable pub shapeIn : List ℕ → Shape
-shapeIn head = record { tau = getD head 0 0; k = getD head 1 0; w = getD head 2 0; t = bigEndian (part head 3 2) }
+-- version 1 means level 128
+unfoldable pub shapeIn : ℕ → List ℕ → Shape
+shapeIn version head =
+    record {
+      tau = getD head 0 0;
+      k = getD head 1 0;
+      w = getD head 2 0;
+      t = bigEndian (part head 3 2);
+      level = cond (eqb version 1) 128 (8 * getD head 9 0);
+    }
 
 unfoldable pub rowIn : List ℕ → ℕ
 rowIn head = bigEndian (part head 5 4)
 
--- ---- fields two to six of a record of the resolved shape s with rows of b bytes: where each begins; the sixth ends the record
+-- ---- fields two to six of a record with a head of h bytes, of the resolved shape s with rows of b bytes: where each begins, and where the sixth ends
 
-abbrev pub ivPlace : ℕ
-ivPlace = behind 1 headBytes
+abbrev pub ivPlace : ℕ → ℕ
+ivPlace h = behind 1 h
 
-abbrev pub challengePlace : ℕ
-challengePlace = behind ivPlace ivBytes
+abbrev pub challengePlace : ℕ → ℕ
+challengePlace h = behind (ivPlace h) ivBytes
 
-unfoldable pub correctionsPlace : Shape → ℕ
-correctionsPlace s = behind challengePlace (challengeBytes s)
+unfoldable pub correctionsPlace : ℕ → Shape → ℕ
+correctionsPlace h s = behind (challengePlace h) (challengeBytes s)
 
-unfoldable pub openingPlace : Shape → ℕ → ℕ
-openingPlace s b = behind (correctionsPlace s) (correctionsBytes s b)
+unfoldable pub openingPlace : ℕ → Shape → ℕ → ℕ
+openingPlace h s b = behind (correctionsPlace h s) (correctionsBytes s b)
 
-unfoldable pub commitmentPlace : Shape → ℕ → ℕ
-commitmentPlace s b = behind (openingPlace s b) (openingBytes s)
+unfoldable pub commitmentPlace : ℕ → Shape → ℕ → ℕ
+commitmentPlace h s b = behind (openingPlace h s b) (openingBytes s)
 
-unfoldable pub recordBytes : Shape → ℕ → ℕ
-recordBytes s b = behind (commitmentPlace s b) (hashBytes s)
+unfoldable pub recordEnd : ℕ → Shape → ℕ → ℕ
+recordEnd h s b = behind (commitmentPlace h s b) (hashBytes s)
 
-unfoldable pub restOk : Shape → ℕ → List ℕ → Bool
-restOk s b rec =
-    fieldOk rec ivPlace ivBytes && fieldOk rec challengePlace (challengeBytes s) && fieldOk rec (correctionsPlace s) (correctionsBytes s b)
-    && fieldOk rec (openingPlace s b) (openingBytes s)
-    && fieldOk rec (commitmentPlace s b) (hashBytes s)
+unfoldable pub restOk : ℕ → Shape → ℕ → List ℕ → Bool
+restOk h s b rec =
+    fieldOk rec (ivPlace h) ivBytes && fieldOk rec (challengePlace h) (challengeBytes s) && fieldOk rec (correctionsPlace h s) (correctionsBytes s b)
+    && fieldOk rec (openingPlace h s b) (openingBytes s)
+    && fieldOk rec (commitmentPlace h s b) (hashBytes s)
 
 -- ---- what a record says: the shape as the head writes it, the row length in bits, and the bytes of the other fields
 
@@ -67,16 +78,17 @@ pub record Contents : Type 0 where
 
 unfoldable pub contentsOf : List ℕ → Contents
 contentsOf rec =
-    let s = resolved (shapeIn (headOf rec)) in
+    let h = headBytes (versionOf rec) in
+    let s = resolved (shapeIn (versionOf rec) (headOf rec)) in
     let b = rowIn (headOf rec) / 8 in
     record {
-      shape = shapeIn (headOf rec);
+      shape = shapeIn (versionOf rec) (headOf rec);
       row = rowIn (headOf rec);
-      iv = fieldAt rec ivPlace ivBytes;
-      challenge = fieldAt rec challengePlace (challengeBytes s);
-      corrections = fieldAt rec (correctionsPlace s) (correctionsBytes s b);
-      opening = fieldAt rec (openingPlace s b) (openingBytes s);
-      commitment = fieldAt rec (commitmentPlace s b) (hashBytes s);
+      iv = fieldAt rec (ivPlace h) ivBytes;
+      challenge = fieldAt rec (challengePlace h) (challengeBytes s);
+      corrections = fieldAt rec (correctionsPlace h s) (correctionsBytes s b);
+      opening = fieldAt rec (openingPlace h s b) (openingBytes s);
+      commitment = fieldAt rec (commitmentPlace h s b) (hashBytes s);
     }
 
 -- ---- reading: the tests of the front, then those of the rest, and that the record ends
@@ -84,16 +96,17 @@ contentsOf rec =
 abbrev pub headTests : List ℕ → List (Bool × ℕ)
 headTests rec =
     (versionOk rec, 9)
-    ∷ (fieldOk rec 1 headBytes, 10)
+    ∷ (fieldOk rec 1 (headBytes (versionOf rec)), 10)
     ∷ (shapeOk (resolved (contentsOf rec .shape)), 1)
     ∷ (rowOk (contentsOf rec .row), 2)
     ∷ []
 
 abbrev pub restTests : List ℕ → List (Bool × ℕ)
 restTests rec =
+    let h = headBytes (versionOf rec) in
     let s = resolved (contentsOf rec .shape) in
     let b = contentsOf rec .row / 8 in
-    (restOk s b rec, 10) ∷ (eqb (length rec) (recordBytes s b), 10) ∷ []
+    (restOk h s b rec, 10) ∷ (eqb (length rec) (recordEnd h s b), 10) ∷ []
 
 unfoldable pub headNumber : List ℕ → ℕ
 headNumber rec = firstRefusal (headTests rec)
@@ -101,13 +114,29 @@ headNumber rec = firstRefusal (headTests rec)
 unfoldable pub readNumber : List ℕ → ℕ
 readNumber rec = firstRefusal (headTests rec ++ restTests rec)
 
--- ---- the record of a shape, as given, a row length and the other fields
+-- ---- the record of a shape, as given, a row length and the other fields; and its length, of a resolved shape
+
+-- the version that is written for a shape
+unfoldable pub versionFor : Shape → ℕ
+versionFor s = 2
 
 unfoldable pub headFor : Shape → ℕ → List ℕ
-headFor s n = (s .tau ∷ s .k ∷ s .w ∷ bigEndianBytes 2 (s .t)) ++ bigEndianBytes 4 n
+headFor s n = (s .tau ∷ s .k ∷ s .w ∷ bigEndianBytes 2 (s .t)) ++ (bigEndianBytes 4 n ++ ((s .level / 8) ∷ []))
+
+-- fields two to six
+abbrev pub restOf : Contents → List ℕ
+restOf c = fieldOf (c .iv) ++ (fieldOf (c .challenge) ++ (fieldOf (c .corrections) ++ (fieldOf (c .opening) ++ fieldOf (c .commitment))))
 
 unfoldable pub recordOf : Contents → List ℕ
-recordOf c =
-    1
-    ∷ (fieldOf (headFor (c .shape) (c .row))
-    ++ (fieldOf (c .iv) ++ (fieldOf (c .challenge) ++ (fieldOf (c .corrections) ++ (fieldOf (c .opening) ++ fieldOf (c .commitment))))))
+recordOf c = versionFor (c .shape) ∷ (fieldOf (headFor (c .shape) (c .row)) ++ restOf c)
+
+unfoldable pub recordBytes : Shape → ℕ → ℕ
+recordBytes s b = recordEnd (headBytes (versionFor s)) s b
+
+-- ---- the record of version 1, which is read and not written: its head has no level
+
+unfoldable pub headOfVersion1 : Shape → ℕ → List ℕ
+headOfVersion1 s n = (s .tau ∷ s .k ∷ s .w ∷ bigEndianBytes 2 (s .t)) ++ bigEndianBytes 4 n
+
+unfoldable pub recordOfVersion1 : Contents → List ℕ
+recordOfVersion1 c = 1 ∷ (fieldOf (headOfVersion1 (c .shape) (c .row)) ++ restOf c)

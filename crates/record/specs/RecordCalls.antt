@@ -35,7 +35,7 @@ pub record WorkLengths (rec : List ℕ) (r : Lengths) : Type 0 where
   pub tree : r .tree ≡ written (r .number) (treeBytes (resolved (contentsOf rec .shape))) 0
   pub leafCommitments : r .«leaf_commitments» ≡ written (r .number) (leafCommitmentsBytes (resolved (contentsOf rec .shape))) 0
   pub q : r .q ≡ written (r .number) (matrixBytes (resolved (contentsOf rec .shape)) (contentsOf rec .row / 8)) 0
-  pub most : (r .tree ≤ 1310704) × (r .«leaf_commitments» ≤ 1966080) × (r .q ≤ 1048576)
+  pub most : (r .tree ≤ 5504992) × (r .«leaf_commitments» ≤ 8257536) × (r .q ≤ 2097152)
 
 -- ---- check_record
 
@@ -88,7 +88,7 @@ lengthNumber s n = firstRefusal ((shapeOk (resolved s), 1) ∷ (rowOk n, 2) ∷ 
 pub record LengthOf (s : Shape) (n : ℕ) (r : RecordLength) : Type 0 where
   pub number : r .number ≡ lengthNumber s n
   pub bytes : r .bytes ≡ written (r .number) (recordBytes (resolved s) (n / 8)) 0
-  pub most : r .bytes ≤ 263778
+  pub most : r .bytes ≤ 273555
 
 -- ---- write_record
 

@@ -27,7 +27,7 @@ fn verdict(record: &[u8], l: Lengths) {
 }
 
 // The first 512 bytes of a buffer.
-pub fn small(bytes: &[u8; 272000]) -> [u8; 512] {
+pub fn small(bytes: &[u8; 273600]) -> [u8; 512] {
     let mut out = [0u8; 512];
     let mut i = 0;
     while i < 512 {
@@ -94,8 +94,8 @@ fn place(edit: usize, n: usize) -> usize
         1 => 4,
         2 => 5,
         3 => 13,
-        4 => 17,
-        9 => 53,
+        4 => 18,
+        9 => 54,
         10 => back(end, 37),
         _ => back(end, 32),
     }
@@ -115,7 +115,7 @@ fn back(end: usize, n: usize) -> usize
 // What it is xored with: 0 where the edit changes no byte.
 fn change(edit: usize) -> u8 {
     match edit {
-        0 => 3,
+        0 => 4,
         1 => 1,
         2 => 0x20,
         3 => 4,

@@ -8,7 +8,9 @@ mod whole;
 
 use spec::Shape;
 use test_support::lengths::at_most;
+use test_support::parts::both;
 use test_support::parts::words;
+use vectors_calls::at_128;
 use vectors_calls::print_answer;
 
 // What is done with the record.
@@ -34,12 +36,40 @@ fn change(record: [u8; 512], n: usize, form: usize)
     }
 }
 
-// A case. Where a call before the check is refused, and the whole record is meant, its answer is printed.
-fn run_case(s: Shape, row_bits: usize, known: usize, challenge: [u8; 16], form: usize) {
+// The bytes of a version 1 record in the place of those of version 2: the first field has no level, and what is behind it stands a byte before.
+fn to_version_1(bytes: &mut [u8; 273600]) {
+    bytes[0] = 1;
+    bytes[4] = 9;
+    let mut i = 14;
+    while i + 1 < 273600 {
+        bytes[i] = bytes[i + 1];
+        i += 1;
+    }
+}
+
+// The length of a record that is written, or of the same in version 1.
+fn length_of(n: usize, first: bool) -> usize {
+    if first {
+        if 1 <= n {
+            return n - 1;
+        }
+    }
+    n
+}
+
+// A case, of version 1 where `first` is true. Where a call before the check is refused, and the whole record is meant, its answer is printed.
+fn run_case(
+    s: Shape,
+    row_bits: usize,
+    known: usize,
+    challenge: [u8; 32],
+    form: usize,
+    first: bool,
+) {
     let mut tree = [0xa5u8; 1310704];
     let mut leaf_commitments = [0xa5u8; 1966080];
     let mut v = [0xa5u8; 1048576];
-    let mut bytes = [0u8; 272000];
+    let mut bytes = [0u8; 273600];
     let r = made::make(
         s,
         row_bits,
@@ -50,16 +80,24 @@ fn run_case(s: Shape, row_bits: usize, known: usize, challenge: [u8; 16], form: 
         &mut v,
         &mut bytes,
     );
-    let n = record_writer::record_length(s, row_bits);
+    let n = length_of(record_writer::record_length(s, row_bits).bytes, first);
+    if first {
+        to_version_1(&mut bytes);
+    }
     if form != WHOLE {
-        change(edits::small(&bytes), at_most(n.bytes, 511), form);
+        change(edits::small(&bytes), at_most(n, 511), form);
         return;
     }
     if r.number != 0 {
         print_answer(r);
         return;
     }
-    whole::check(&bytes, n.bytes, &mut tree, &mut leaf_commitments, &mut v);
+    whole::check(&bytes, n, &mut tree, &mut leaf_commitments, &mut v);
+}
+
+// A challenge of two words, with zeros behind it that level 128 does not take.
+fn narrow(c0: u64, c1: u64) -> [u8; 32] {
+    both(words(c0, c1), words(0, 0))
 }
 
 // The record is written and checked: its bytes, and the work buffers.
@@ -74,11 +112,12 @@ pub fn record(
     c1: u64,
 ) {
     run_case(
-        Shape { tau, k, w, t },
+        at_128(tau, k, w, t),
         row_bits,
         known,
-        words(c0, c1),
+        narrow(c0, c1),
         WHOLE,
+        false,
     );
 }
 
@@ -94,11 +133,12 @@ pub fn prefixes(
     c1: u64,
 ) {
     run_case(
-        Shape { tau, k, w, t },
+        at_128(tau, k, w, t),
         row_bits,
         known,
-        words(c0, c1),
+        narrow(c0, c1),
         PREFIXES,
+        false,
     );
 }
 
@@ -114,11 +154,12 @@ pub fn flips(
     c1: u64,
 ) {
     run_case(
-        Shape { tau, k, w, t },
+        at_128(tau, k, w, t),
         row_bits,
         known,
-        words(c0, c1),
+        narrow(c0, c1),
         FLIPS,
+        false,
     );
 }
 
@@ -134,10 +175,104 @@ pub fn pairs(
     c1: u64,
 ) {
     run_case(
-        Shape { tau, k, w, t },
+        at_128(tau, k, w, t),
         row_bits,
         known,
-        words(c0, c1),
+        narrow(c0, c1),
         PAIRS,
+        false,
+    );
+}
+
+// The first three of the same contents in version 1.
+pub fn record_version_1(
+    tau: usize,
+    k: usize,
+    w: usize,
+    t: usize,
+    row_bits: usize,
+    known: usize,
+    c0: u64,
+    c1: u64,
+) {
+    run_case(
+        at_128(tau, k, w, t),
+        row_bits,
+        known,
+        narrow(c0, c1),
+        WHOLE,
+        true,
+    );
+}
+
+// Every prefix.
+pub fn prefixes_version_1(
+    tau: usize,
+    k: usize,
+    w: usize,
+    t: usize,
+    row_bits: usize,
+    known: usize,
+    c0: u64,
+    c1: u64,
+) {
+    run_case(
+        at_128(tau, k, w, t),
+        row_bits,
+        known,
+        narrow(c0, c1),
+        PREFIXES,
+        true,
+    );
+}
+
+// Each bit flipped.
+pub fn flips_version_1(
+    tau: usize,
+    k: usize,
+    w: usize,
+    t: usize,
+    row_bits: usize,
+    known: usize,
+    c0: u64,
+    c1: u64,
+) {
+    run_case(
+        at_128(tau, k, w, t),
+        row_bits,
+        known,
+        narrow(c0, c1),
+        FLIPS,
+        true,
+    );
+}
+
+// The record at any level: the challenge is four words, of which the level takes the first.
+pub fn record_at_level(
+    level: usize,
+    tau: usize,
+    k: usize,
+    w: usize,
+    t: usize,
+    row_bits: usize,
+    known: usize,
+    c0: u64,
+    c1: u64,
+    c2: u64,
+    c3: u64,
+) {
+    run_case(
+        Shape {
+            tau,
+            k,
+            w,
+            t,
+            level,
+        },
+        row_bits,
+        known,
+        both(words(c0, c1), words(c2, c3)),
+        WHOLE,
+        false,
     );
 }

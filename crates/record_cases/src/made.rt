@@ -6,25 +6,27 @@ use test_support::lengths::whole;
 use test_support::parts::front;
 use test_support::parts::front_mut;
 use vectors_calls::numbered;
+use vectors_calls::root;
 
 fn commit_made(
     s: Shape,
     row_bits: usize,
     l: Lengths,
-    root: &[u8; 16],
+    root: &[u8; 32],
     iv: &[u8; 16],
-    commitment: &mut [u8; 32],
+    commitment: &mut [u8; 64],
     tree: &mut [u8; 1310704],
     leaf_commitments: &mut [u8; 1966080],
     u: &mut [u8; 8192],
     v: &mut [u8; 1048576],
     corrections: &mut [u8; 253952],
 ) -> Answer {
+    let n = test_support::lengths::challenge(s);
     vectors_calls::call_commit(
         s,
         whole(row_bits),
         l,
-        root,
+        front(root, n),
         iv,
         commitment,
         tree,
@@ -38,12 +40,13 @@ fn commit_made(
 fn open_made(
     s: Shape,
     l: Lengths,
-    challenge: &[u8; 16],
+    challenge: &[u8; 32],
     tree: &[u8; 1310704],
     leaf_commitments: &[u8; 1966080],
-    opening: &mut [u8; 9728],
+    opening: &mut [u8; 19456],
 ) -> Answer {
-    vectors_calls::call_open(s, l, challenge, tree, leaf_commitments, opening)
+    let n = test_support::lengths::challenge(s);
+    vectors_calls::call_open(s, l, front(challenge, n), tree, leaf_commitments, opening)
 }
 
 fn write_made(
@@ -51,21 +54,22 @@ fn write_made(
     row_bits: usize,
     l: Lengths,
     iv: &[u8; 16],
-    challenge: &[u8; 16],
+    challenge: &[u8; 32],
     corrections: &[u8; 253952],
-    opening: &[u8; 9728],
-    commitment: &[u8; 32],
+    opening: &[u8; 19456],
+    commitment: &[u8; 64],
     out: &mut [u8],
 ) -> Answer {
     let n = record_writer::record_length(s, row_bits);
+    let c = test_support::lengths::challenge(s);
     record_writer::write_record(
         s,
         row_bits,
         iv,
-        challenge,
+        front(challenge, c),
         front(corrections, l.corrections),
         front(opening, l.opening),
-        commitment,
+        front(commitment, l.commitment),
         front_mut(out, n.bytes),
     )
 }
@@ -76,24 +80,24 @@ pub fn make(
     s: Shape,
     row_bits: usize,
     known: usize,
-    challenge: &[u8; 16],
+    challenge: &[u8; 32],
     tree: &mut [u8; 1310704],
     leaf_commitments: &mut [u8; 1966080],
     v: &mut [u8; 1048576],
-    out: &mut [u8; 272000],
+    out: &mut [u8; 273600],
 ) -> Answer {
-    let root = numbered(known / 10);
+    let key = root(known / 10);
     let iv = numbered(known % 10);
     let l = test_support::lengths::of(s, whole(row_bits));
-    let mut commitment = [0u8; 32];
+    let mut commitment = [0u8; 64];
     let mut u = [0u8; 8192];
     let mut corrections = [0u8; 253952];
-    let mut opening = [0u8; 9728];
+    let mut opening = [0u8; 19456];
     let made = commit_made(
         s,
         row_bits,
         l,
-        &root,
+        &key,
         &iv,
         &mut commitment,
         tree,

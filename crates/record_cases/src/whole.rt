@@ -24,7 +24,7 @@ pub fn call_check(
 
 // Checks the first n bytes, and prints them with the work buffers where they are accepted.
 pub fn check(
-    bytes: &[u8; 272000],
+    bytes: &[u8; 273600],
     n: usize,
     tree: &mut [u8; 1310704],
     leaf_commitments: &mut [u8; 1966080],

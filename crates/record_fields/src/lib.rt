@@ -1,13 +1,13 @@
-// Fields of a record, on a slice and a place in it: tested, and handed out; the version byte and the head's numbers; the lengths and places of the fields of a shape;
-// strings compared.
+// Fields of a record, on a slice and a place in it: tested, and handed out; the version and the head's length and numbers, by the version; the places of the fields
+// behind a head; strings compared.
 ghost use mathlib.Core.Path.{_≡_};
 ghost use mathlib.Core.Bool.{true};
 ghost use Prim.Native.Nat.{_+_, _<_, _≤_};
 ghost use lib.ListN.{length};
 ghost use Rattle.spec.specs.Bytes.{part};
-ghost use Rattle.spec.specs.Shapes.{shapeOk, openingBytes, correctionsBytes};
+ghost use Rattle.spec.specs.Shapes.{challengeBytes, shapeOk};
 ghost use Rattle.record.specs.Fields.{bigEndian, fieldOk, fieldAt};
-ghost use Rattle.record.specs.Record.{versionOk, shapeIn, rowIn, openingPlace, commitmentPlace, recordBytes};
+ghost use Rattle.record.specs.Record.{versionOf, headBytes, versionOk, shapeIn, rowIn, ivPlace, challengePlace, correctionsPlace, openingPlace, commitmentPlace, recordEnd, versionFor, recordBytes};
 ghost use Rattle.record.specs.RecordCalls.{sameBytes};
 use spec::Shape;
 
@@ -62,72 +62,145 @@ pub fn field_at(bytes: &[u8], at: usize, n: usize) -> &[u8]
     &bytes[start..end]
 }
 
-// Whether the first byte is there and is the version.
+// ---- versions
+
+// The bytes of the head of a version, 0 where the version is not known.
+fn head_length(version: u8) -> usize
+    ensures { λ r. ⌜ (r ≡ headBytes version) × (r ≤ 10) ⌝ }
+{
+    if version == 1 {
+        return 9;
+    }
+    if version == 2 {
+        return 10;
+    }
+    0
+}
+
+// The version byte, 0 where it is missing.
+pub fn version_of(bytes: &[u8]) -> u8
+    ensures { λ r. ⌜ r ≡ versionOf (now (bytes .entry)) ⌝ }
+{
+    if bytes.len() < 1 {
+        return 0;
+    }
+    bytes[0]
+}
+
+// The bytes of the head of a record.
+pub fn head_bytes(bytes: &[u8]) -> usize
+    ensures { λ r. ⌜ (r ≡ headBytes (versionOf (now (bytes .entry)))) × (r ≤ 10) ⌝ }
+{
+    head_length(version_of(bytes))
+}
+
+// Whether the version is known.
 pub fn version_ok(bytes: &[u8]) -> bool
     ensures { λ r. ⌜ r ≡ versionOk (now (bytes .entry)) ⌝ }
 {
-    if bytes.len() < 1 {
-        return false;
-    }
-    bytes[0] == 1
+    0 < head_bytes(bytes)
 }
 
-// The shape in a head.
-pub fn shape_in(head: &[u8]) -> Shape
-    requires { ⌜ length (now head) ≡ 9 ⌝ }
-    ensures { λ r. ⌜ r ≡ shapeIn (now (head .entry)) ⌝ }
+// The level in the head of a version, in bits.
+fn level_in(version: u8, head: &[u8]) -> usize
+    requires { ⌜ (0 < headBytes version) × (length (now head) ≡ headBytes version) ⌝ }
+    ensures { λ r. ⌜ r ≡ shapeIn version (now (head .entry)) .level ⌝ }
+{
+    if version == 1 {
+        return 128;
+    }
+    8 * wide(head[9])
+}
+
+// The shape in the head of a version.
+pub fn shape_in(version: u8, head: &[u8]) -> Shape
+    requires { ⌜ (0 < headBytes version) × (length (now head) ≡ headBytes version) ⌝ }
+    ensures { λ r. ⌜ r ≡ shapeIn version (now (head .entry)) ⌝ }
 {
     Shape {
         tau: wide(head[0]),
         k: wide(head[1]),
         w: wide(head[2]),
         t: number2(head, 3),
+        level: level_in(version, head),
     }
 }
 
 // The row length in a head.
 pub fn row_in(head: &[u8]) -> usize
-    requires { ⌜ length (now head) ≡ 9 ⌝ }
+    requires { ⌜ 9 ≤ length (now head) ⌝ }
     ensures { λ r. ⌜ r ≡ rowIn (now (head .entry)) ⌝ }
 {
     number4(head, 5)
 }
 
-// The lengths of the corrections and of the opening.
-pub fn corrections_length(s: Shape, b: usize) -> usize
-    requires { ⌜ (shapeOk s ≡ true) × (b ≤ 8192) ⌝ }
-    ensures { λ r. ⌜ (r ≡ correctionsBytes s b) × (r ≤ 253952) ⌝ }
+// The version that is written for a shape.
+pub fn version_for(s: Shape) -> u8
+    ensures { λ r. ⌜ r ≡ versionFor s ⌝ }
 {
-    b * (s.tau - 1)
+    2
 }
 
-pub fn opening_length(s: Shape) -> usize
+// ---- places of the fields behind a head of h bytes, of a resolved shape with rows of b bytes
+
+// The bytes of a challenge.
+pub fn challenge_length(s: Shape) -> usize
     requires { ⌜ shapeOk s ≡ true ⌝ }
-    ensures { λ r. ⌜ (r ≡ openingBytes s) × (r ≤ 9728) ⌝ }
+    ensures { λ r. ⌜ (r ≡ challengeBytes s) × (r ≤ 32) ⌝ }
 {
-    48 * s.tau + 16 * s.t
+    rules::node_bytes(s)
 }
 
-// Where the opening and the commitment begin, and where the record ends.
-pub fn opening_place(s: Shape, b: usize) -> usize
-    requires { ⌜ (shapeOk s ≡ true) × (b ≤ 8192) ⌝ }
-    ensures { λ r. ⌜ (r ≡ openingPlace s b) × (r ≤ 254010) ⌝ }
+pub fn iv_place(h: usize) -> usize
+    requires { ⌜ h ≤ 255 ⌝ }
+    ensures { λ r. ⌜ r ≡ ivPlace h ⌝ }
 {
-    58 + corrections_length(s, b)
+    h + 5
 }
 
-pub fn commitment_place(s: Shape, b: usize) -> usize
-    requires { ⌜ (shapeOk s ≡ true) × (b ≤ 8192) ⌝ }
-    ensures { λ r. ⌜ (r ≡ commitmentPlace s b) × (r ≤ 263742) ⌝ }
+pub fn challenge_place(h: usize) -> usize
+    requires { ⌜ h ≤ 255 ⌝ }
+    ensures { λ r. ⌜ r ≡ challengePlace h ⌝ }
 {
-    opening_place(s, b) + 4 + opening_length(s)
+    h + 25
 }
 
+pub fn corrections_place(h: usize, s: Shape) -> usize
+    requires { ⌜ (h ≤ 255) × (shapeOk s ≡ true) ⌝ }
+    ensures { λ r. ⌜ (r ≡ correctionsPlace h s) × (r ≤ h + 61) ⌝ }
+{
+    challenge_place(h) + 4 + challenge_length(s)
+}
+
+pub fn opening_place(h: usize, s: Shape, b: usize) -> usize
+    requires { ⌜ (h ≤ 255) × (shapeOk s ≡ true) × (b ≤ 8192) ⌝ }
+    ensures { λ r. ⌜ (r ≡ openingPlace h s b) × (r ≤ h + 254017) ⌝ }
+{
+    corrections_place(h, s) + 4 + lengths::corrections_bytes(s, b)
+}
+
+pub fn commitment_place(h: usize, s: Shape, b: usize) -> usize
+    requires { ⌜ (h ≤ 255) × (shapeOk s ≡ true) × (b ≤ 8192) ⌝ }
+    ensures { λ r. ⌜ (r ≡ commitmentPlace h s b) × (r ≤ h + 273477) ⌝ }
+{
+    opening_place(h, s, b) + 4 + lengths::opening_bytes(s)
+}
+
+// Where the record ends.
+pub fn record_end(h: usize, s: Shape, b: usize) -> usize
+    requires { ⌜ (h ≤ 255) × (shapeOk s ≡ true) × (b ≤ 8192) ⌝ }
+    ensures { λ r. ⌜ (r ≡ recordEnd h s b) × (r ≤ h + 273545) ⌝ }
+{
+    commitment_place(h, s, b) + 4 + rules::hash_bytes(s)
+}
+
+// The length of the record that is written for a shape.
 pub fn record_length(s: Shape, b: usize) -> usize
     requires { ⌜ (shapeOk s ≡ true) × (b ≤ 8192) ⌝ }
-    ensures { λ r. ⌜ (r ≡ recordBytes s b) × (r ≤ 263778) ⌝ }
+    ensures { λ r. ⌜ (r ≡ recordBytes s b) × (r ≤ 273555) ⌝ }
 {
-    commitment_place(s, b) + 36
+    let h = head_length(version_for(s));
+    record_end(h, s, b)
 }
 
 // Whether two strings are the same.

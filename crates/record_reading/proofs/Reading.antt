@@ -1,19 +1,33 @@
 -- What the number of a record's front says, and with it the number of reading: by the tests of each.
-use Prim.Native.Nat.{ℕ, _/_, _≤_}
+use Prim.Native.Nat.{ℕ, _/_, _≤_, _<_}
 use mathlib.Core.Path.{_≡_, refl, ap, _∙_}
 use mathlib.Core.Bool.{Bool, true, false, cond}
 use mathlib.Core.List.{List}
 use lib.Dec.{eqb}
 use lib.ListN.{length}
-use borrow.Author.Tests.{eq-eqb, ne-eqb}
+use borrow.Author.Tests.{eq-eqb, ne-eqb, ltb-true}
 use Rattle.spec.specs.declared.Shape.{Shape}
 use Rattle.spec.specs.Shapes.{resolved, shapeOk}
 use Rattle.spec.specs.Calls.{firstRefusal}
 use Rattle.rules.proofs.RowLength.{row-max}
 use Rattle.record.specs.Fields.{fieldOk}
-use Rattle.record.specs.Record.{recordBytes, restOk, contentsOf, headTests, restTests, headNumber, readNumber}
+use Rattle.record.specs.Record.{versionOf, headBytes, versionOk, headOf, recordEnd, restOk, contentsOf, headTests, restTests, headNumber, readNumber}
 use Rattle.laws.proofs.Refusals.{Numbered, Passed, none-failed, all-passed, then}
+use Rattle.record.proofs.Bounds.{head-nine}
+use Rattle.record.proofs.Fields.{field-length}
 use Rattle.record.proofs.ReadBack.{read-version, read-head, read-shape, read-row}
+
+-- the version is known and the head is there
+module _ (rec : List ℕ) (known : versionOk rec ≡ true) (there : fieldOk rec 1 (headBytes (versionOf rec)) ≡ true) where
+  pub head-bytes : 0 < headBytes (versionOf rec)
+  unfolding versionOk
+  head-bytes = ltb-true 0 (headBytes (versionOf rec)) known
+
+  pub head-long : length (headOf rec) ≡ headBytes (versionOf rec)
+  head-long = field-length rec 1 (headBytes (versionOf rec)) there
+
+  pub head-numbers : 9 ≤ length (headOf rec)
+  head-numbers = rw head-long (head-nine (versionOf rec) head-bytes)
 
 module _ (rec : List ℕ) where
   numbered : Numbered (headTests rec)
@@ -25,7 +39,10 @@ module _ (rec : List ℕ) where
     unfolding headNumber
     tests = none-failed (headTests rec) numbered ok
 
-    pub front-head : fieldOk rec 1 9 ≡ true
+    pub front-version : versionOk rec ≡ true
+    front-version = tests .0
+
+    pub front-head : fieldOk rec 1 (headBytes (versionOf rec)) ≡ true
     front-head = tests .1 .0
 
     pub front-shape : shapeOk (resolved (contentsOf rec .shape)) ≡ true
@@ -50,13 +67,13 @@ module _ (rec : List ℕ) where
   unfolding headNumber
   read-front ok = all-passed (headTests rec) (read-version rec ok, (read-head rec ok, (read-shape rec ok, (read-row rec ok, tt))))
 
--- its front is read; s and b are the resolved shape and the bytes of a row
-module _ (rec : List ℕ) (s : Shape) (b : ℕ) (ok : headNumber rec ≡ 0) (e : s ≡ resolved (contentsOf rec .shape)) (g : b ≡ contentsOf rec .row / 8) where
-  pub read-missing : restOk s b rec ≡ false → readNumber rec ≡ 10
-  read-missing f = rest-decides rec ok ∙ rw (rw (e, g) at f) refl
+-- its front is read; h, s and b are the bytes of the head, the resolved shape and the bytes of a row
+module _ (rec : List ℕ) (h : ℕ) (s : Shape) (b : ℕ) (ok : headNumber rec ≡ 0) (e : h ≡ headBytes (versionOf rec)) (f : s ≡ resolved (contentsOf rec .shape)) (g : b ≡ contentsOf rec .row / 8) where
+  pub read-missing : restOk h s b rec ≡ false → readNumber rec ≡ 10
+  read-missing m = rest-decides rec ok ∙ rw (rw (e, f, g) at m) refl
 
-  pub read-left-over : restOk s b rec ≡ true → (length rec ≡ recordBytes s b → ⊥) → readNumber rec ≡ 10
-  read-left-over f n = rest-decides rec ok ∙ rw (rw (e, g) at f, ne-eqb _ _ (rw (e, g) at n)) refl
+  pub read-left-over : restOk h s b rec ≡ true → (length rec ≡ recordEnd h s b → ⊥) → readNumber rec ≡ 10
+  read-left-over m n = rest-decides rec ok ∙ rw (rw (e, f, g) at m, ne-eqb _ _ (rw (e, f, g) at n)) refl
 
-  pub read-whole : restOk s b rec ≡ true → length rec ≡ recordBytes s b → readNumber rec ≡ 0
-  read-whole f n = rest-decides rec ok ∙ rw (rw (e, g) at f, eq-eqb _ _ (rw (e, g) at n)) refl
+  pub read-whole : restOk h s b rec ≡ true → length rec ≡ recordEnd h s b → readNumber rec ≡ 0
+  read-whole m n = rest-decides rec ok ∙ rw (rw (e, f, g) at m, eq-eqb _ _ (rw (e, f, g) at n)) refl

@@ -4,23 +4,32 @@ ghost use mathlib.Core.Bool.{true};
 ghost use Prim.Native.Nat.{_/_, _≤_};
 ghost use Rattle.spec.specs.Shapes.{resolved, shapeOk};
 ghost use Rattle.record.specs.Fields.{fieldOk};
-ghost use Rattle.record.specs.Record.{contentsOf, headNumber, readNumber, restOk};
+ghost use Rattle.record.specs.Record.{versionOf, headBytes, versionOk, headOf, contentsOf, headNumber, readNumber, restOk};
 use spec::Shape;
+
+// The head, by the version.
+fn head_of(bytes: &[u8]) -> &[u8]
+    requires { ⌜ fieldOk (now bytes) 1 (headBytes (versionOf (now bytes))) ≡ true ⌝ }
+    ensures { λ f. ⌜ now f ≡ headOf (now (bytes .entry)) ⌝ }
+{
+    record_reader::field_of(bytes, 1, record_fields::head_bytes(bytes))
+}
 
 // The shape, as the head writes it.
 pub fn shape_of(bytes: &[u8]) -> Shape
-    requires { ⌜ fieldOk (now bytes) 1 9 ≡ true ⌝ }
+    requires { ⌜ (versionOk (now bytes) ≡ true) × (fieldOk (now bytes) 1 (headBytes (versionOf (now bytes))) ≡ true) ⌝ }
     ensures { λ r. ⌜ r ≡ contentsOf (now (bytes .entry)) .shape ⌝ }
 {
-    record_fields::shape_in(record_reader::field_of(bytes, 1, 9))
+    let version = record_fields::version_of(bytes);
+    record_fields::shape_in(version, head_of(bytes))
 }
 
 // The row length in bits.
 pub fn row_of(bytes: &[u8]) -> usize
-    requires { ⌜ fieldOk (now bytes) 1 9 ≡ true ⌝ }
+    requires { ⌜ (versionOk (now bytes) ≡ true) × (fieldOk (now bytes) 1 (headBytes (versionOf (now bytes))) ≡ true) ⌝ }
     ensures { λ r. ⌜ r ≡ contentsOf (now (bytes .entry)) .row ⌝ }
 {
-    record_fields::row_in(record_reader::field_of(bytes, 1, 9))
+    record_fields::row_in(head_of(bytes))
 }
 
 // The front: 9, 10, 1 or 2, or 0.
@@ -30,7 +39,7 @@ pub fn head_number(bytes: &[u8]) -> usize
     if !record_fields::version_ok(bytes) {
         return 9;
     }
-    if !record_fields::field_fits(bytes, 1, 9) {
+    if !record_fields::field_fits(bytes, 1, record_fields::head_bytes(bytes)) {
         return 10;
     }
     if !rules::is_shape(rules::resolve(shape_of(bytes))) {
@@ -57,18 +66,32 @@ pub fn row_bytes(bytes: &[u8]) -> usize
     row_of(bytes) / 8
 }
 
-// Whether fields two to six are there.
-fn rest_ok(bytes: &[u8], s: Shape, b: usize) -> bool
-    requires { ⌜ (shapeOk s ≡ true) × (b ≤ 8192) ⌝ }
-    ensures { λ r. ⌜ r ≡ restOk s b (now (bytes .entry)) ⌝ }
+// Whether fields two to six are there, behind a head of h bytes.
+fn rest_ok(bytes: &[u8], h: usize, s: Shape, b: usize) -> bool
+    requires { ⌜ (h ≤ 255) × (shapeOk s ≡ true) × (b ≤ 8192) ⌝ }
+    ensures { λ r. ⌜ r ≡ restOk h s b (now (bytes .entry)) ⌝ }
 {
-    let corrections = record_fields::corrections_length(s, b);
-    let opening = record_fields::opening_length(s);
-    record_fields::field_fits(bytes, 14, 16)
-        & record_fields::field_fits(bytes, 34, 16)
-        & record_fields::field_fits(bytes, 54, corrections)
-        & record_fields::field_fits(bytes, record_fields::opening_place(s, b), opening)
-        & record_fields::field_fits(bytes, record_fields::commitment_place(s, b), 32)
+    record_fields::field_fits(bytes, record_fields::iv_place(h), 16)
+        & record_fields::field_fits(
+            bytes,
+            record_fields::challenge_place(h),
+            record_fields::challenge_length(s),
+        )
+        & record_fields::field_fits(
+            bytes,
+            record_fields::corrections_place(h, s),
+            lengths::corrections_bytes(s, b),
+        )
+        & record_fields::field_fits(
+            bytes,
+            record_fields::opening_place(h, s, b),
+            lengths::opening_bytes(s),
+        )
+        & record_fields::field_fits(
+            bytes,
+            record_fields::commitment_place(h, s, b),
+            rules::hash_bytes(s),
+        )
 }
 
 // The front, then 10 for the rest and for bytes left over, or 0: the record is read.
@@ -79,12 +102,13 @@ pub fn read_number(bytes: &[u8]) -> usize
     if number != 0 {
         return number;
     }
+    let h = record_fields::head_bytes(bytes);
     let s = resolved_shape(bytes);
     let b = row_bytes(bytes);
-    if !rest_ok(bytes, s, b) {
+    if !rest_ok(bytes, h, s, b) {
         return 10;
     }
-    if bytes.len() != record_fields::record_length(s, b) {
+    if bytes.len() != record_fields::record_end(h, s, b) {
         return 10;
     }
     0
@@ -96,40 +120,49 @@ pub fn iv_of(bytes: &[u8]) -> &[u8]
     requires { ⌜ readNumber (now bytes) ≡ 0 ⌝ }
     ensures { λ f. ⌜ now f ≡ contentsOf (now (bytes .entry)) .iv ⌝ }
 {
-    record_reader::field_of(bytes, 14, 16)
+    let h = record_fields::head_bytes(bytes);
+    record_reader::field_of(bytes, record_fields::iv_place(h), 16)
 }
 
 pub fn challenge_of(bytes: &[u8]) -> &[u8]
     requires { ⌜ readNumber (now bytes) ≡ 0 ⌝ }
     ensures { λ f. ⌜ now f ≡ contentsOf (now (bytes .entry)) .challenge ⌝ }
 {
-    record_reader::field_of(bytes, 34, 16)
+    let h = record_fields::head_bytes(bytes);
+    let s = resolved_shape(bytes);
+    let at = record_fields::challenge_place(h);
+    record_reader::field_of(bytes, at, record_fields::challenge_length(s))
 }
 
 pub fn corrections_of(bytes: &[u8]) -> &[u8]
     requires { ⌜ readNumber (now bytes) ≡ 0 ⌝ }
     ensures { λ f. ⌜ now f ≡ contentsOf (now (bytes .entry)) .corrections ⌝ }
 {
+    let h = record_fields::head_bytes(bytes);
     let s = resolved_shape(bytes);
     let b = row_bytes(bytes);
-    record_reader::field_of(bytes, 54, record_fields::corrections_length(s, b))
+    let at = record_fields::corrections_place(h, s);
+    record_reader::field_of(bytes, at, lengths::corrections_bytes(s, b))
 }
 
 pub fn opening_of(bytes: &[u8]) -> &[u8]
     requires { ⌜ readNumber (now bytes) ≡ 0 ⌝ }
     ensures { λ f. ⌜ now f ≡ contentsOf (now (bytes .entry)) .opening ⌝ }
 {
+    let h = record_fields::head_bytes(bytes);
     let s = resolved_shape(bytes);
     let b = row_bytes(bytes);
-    let at = record_fields::opening_place(s, b);
-    record_reader::field_of(bytes, at, record_fields::opening_length(s))
+    let at = record_fields::opening_place(h, s, b);
+    record_reader::field_of(bytes, at, lengths::opening_bytes(s))
 }
 
 pub fn commitment_of(bytes: &[u8]) -> &[u8]
     requires { ⌜ readNumber (now bytes) ≡ 0 ⌝ }
     ensures { λ f. ⌜ now f ≡ contentsOf (now (bytes .entry)) .commitment ⌝ }
 {
+    let h = record_fields::head_bytes(bytes);
     let s = resolved_shape(bytes);
     let b = row_bytes(bytes);
-    record_reader::field_of(bytes, record_fields::commitment_place(s, b), 32)
+    let at = record_fields::commitment_place(h, s, b);
+    record_reader::field_of(bytes, at, rules::hash_bytes(s))
 }

@@ -22,15 +22,15 @@ use Rattle.laws.specs.Lengths.{Sized}
 use Rattle.laws.proofs.Lengths.{sized-fits, fits-sized}
 use Rattle.laws.proofs.Lists.{length-tabulate, length-zeros}
 use Rattle.theorems.proofs.Demand3.{demand3}
-use Rattle.record.specs.Record.{recordBytes, Contents, contentsOf, headNumber, readNumber, recordOf}
+use Rattle.record.specs.Record.{versionOf, Contents, contentsOf, headNumber, readNumber, recordOf, recordBytes, recordOfVersion1}
 use Rattle.record.specs.RecordCalls.{Work, workLengths, workOf, made, sameBytes, recordNumber, answered, CheckRecord, lengthNumber, writeNumber, WriteRecord}
 use Rattle.record.specs.HostRecordCalls.{HostCheckRecord, workWords}
 use Rattle.laws.proofs.Words.{count-slice}
 use Rattle.laws.proofs.Refusals.{none-failed, all-passed}
 use Rattle.record.proofs.SameBytes.{same-refl, same-equal}
-use Rattle.record.proofs.ReadBack.{Lengths, contents-back, reads-back, read-only}
+use Rattle.record.proofs.ReadBack.{Lengths, contents-back, reads-back, first-contents, first-reads, read-only}
 use Rattle.record.proofs.Reconstructing.{lent, fieldsNumber, ran-number, ran-made, reconstructs, fields-fit, number-steps}
-use Rattle.record_theorems.specs.Claims.{ReadBack, Ran, Steps, Accepts, AcceptedMeans, Honest, HonestAccepted, Exported}
+use Rattle.record_theorems.specs.Claims.{ReadBack, Version1Read, Ran, Steps, Accepts, AcceptedMeans, Honest, HonestAccepted, Exported}
 
 -- ---- reading back
 
@@ -45,20 +45,36 @@ sized-front : (ps qs : List (ℕ × ℕ)) → Sized (ps ++ qs) → Sized ps
 sized-front [] qs h = tt
 sized-front (p ∷ ps) qs h = (h .0, sized-front ps qs (h .1))
 
-back : (c : Contents) (before after : List ℕ) (r : Answer) → WriteRecord c before after r → r .number ≡ 0 → (readNumber after ≡ 0) × (contentsOf after ≡ c)
+-- it answered 0: the shape and the row length are allowed, and the fields have their lengths
+wrote : (c : Contents) (before after : List ℕ) (r : Answer) → WriteRecord c before after r → r .number ≡ 0
+    → (shapeOk (resolved (c .shape)) ≡ true) × (rowOk (c .row) ≡ true) × Sized (Lengths c)
 unfolding writeNumber
-back c before after r w z =
+wrote c before after r w z =
     let t = none-failed (WriteTests c before) (refl, (refl, (refl, tt))) (sym (w .number) ∙ z) in
-    let sized = sized-front (Lengths c) (Buffer c before) (fits-sized (Lengths c ++ Buffer c before) (t .1 .1 .0)) in
+    (t .0, t .1 .0, sized-front (Lengths c) (Buffer c before) (fits-sized (Lengths c ++ Buffer c before) (t .1 .1 .0)))
+
+back : (c : Contents) (before after : List ℕ) (r : Answer) → WriteRecord c before after r → r .number ≡ 0 → (readNumber after ≡ 0) × (contentsOf after ≡ c)
+back c before after r w z =
+    let t = wrote c before after r w z in
     let is : after ≡ recordOf c = w .rec ∙ rw z refl in
-    (ap readNumber is ∙ reads-back c (t .0) (t .1 .0) sized, ap contentsOf is ∙ contents-back c (t .0) (t .1 .0) sized)
+    (ap readNumber is ∙ reads-back c (t .0) (t .1) (t .2), ap contentsOf is ∙ contents-back c (t .0) (t .1) (t .2))
 
 write-zero : (c : Contents) (x : List ℕ) → shapeOk (resolved (c .shape)) ≡ true → rowOk (c .row) ≡ true → Sized (Lengths c ++ Buffer c x) → writeNumber c x ≡ 0
 unfolding writeNumber
 write-zero c x a b d = all-passed (WriteTests c x) (a, (b, (sized-fits (Lengths c ++ Buffer c x) d, tt)))
 
 pub read-back : ReadBack
-read-back = record { back = back; only = λ rec c bytes ok e. read-only rec ok bytes ∙ ap recordOf e }
+read-back =
+    record {
+      back = back;
+      only = λ rec c bytes ok e. read-only rec ok bytes ∙ ap (λ (x : Contents). cond (eqb (versionOf rec) 1) (recordOfVersion1 x) (recordOf x)) e;
+    }
+
+pub version-1-read : Version1Read
+version-1-read =
+    record {
+      back = λ c before after r w z e. let t = wrote c before after r w z in (first-reads c (t .0) (t .1) (t .2) e, first-contents c (t .0) (t .1) (t .2) e);
+    }
 
 -- ---- the steps of check_record
 

@@ -1,7 +1,7 @@
 -- Document 02, E6, over the contracts of write_record and check_record, alone and with those of commit, open and reconstruct. ../proofs/Claims.antt proves all.
 use Prim.Native.Nat.{ℕ, _/_, _≤_}
 use mathlib.Core.Path.{_≡_}
-use mathlib.Core.Bool.{true}
+use mathlib.Core.Bool.{true, cond}
 use mathlib.Core.List.{List, [], _∷_}
 use lib.Dec.{eqb}
 use lib.ListN.{length}
@@ -15,14 +15,28 @@ use Rattle.laws.specs.Lengths.{Sized}
 use Rattle.laws.proofs.Numbers.{Digits}
 use Rattle.record.specs.declared.Lengths.{Lengths}
 use Rattle.record.specs.declared.RecordLength.{RecordLength}
-use Rattle.record.specs.Record.{recordBytes, Contents, contentsOf, readNumber, recordOf}
+use Rattle.record.specs.Record.{versionOf, Contents, contentsOf, readNumber, recordOf, recordBytes, recordOfVersion1}
 use Rattle.record.specs.RecordCalls.{Work, workLengths, WorkLengths, Reconstructs, sameBytes, answered, CheckRecord, LengthOf, WriteRecord}
 use Rattle.record.specs.HostRecordCalls.{HostCheckRecord, HostWorkLengths, HostRecordLength}
 
--- a written record is read back as the same fields, and no other string of bytes is read so
+-- a written record is read back as the same fields, and no other string of bytes is read so but the record of version 1
 pub record ReadBack : Type 0 where
   pub back : (c : Contents) (before after : List ℕ) (r : Answer) → WriteRecord c before after r → r .number ≡ 0 → (readNumber after ≡ 0) × (contentsOf after ≡ c)
-  pub only : (rec : List ℕ) (c : Contents) → Digits 8 rec → readNumber rec ≡ 0 → contentsOf rec ≡ c → rec ≡ recordOf c
+  pub only :
+      (rec : List ℕ) (c : Contents)
+      → Digits 8 rec
+      → readNumber rec ≡ 0
+      → contentsOf rec ≡ c
+      → rec ≡ cond (eqb (versionOf rec) 1) (recordOfVersion1 c) (recordOf c)
+
+-- what is written at level 128 is read, as the same fields, from its record of version 1 too
+pub record Version1Read : Type 0 where
+  pub back :
+      (c : Contents) (before after : List ℕ) (r : Answer)
+      → WriteRecord c before after r
+      → r .number ≡ 0
+      → c .shape .level ≡ 128
+      → (readNumber (recordOfVersion1 c) ≡ 0) × (contentsOf (recordOfVersion1 c) ≡ c)
 
 -- reconstruct on the fields of a record, with the lent work buffers and any buffer for the commitment that has its length
 abbrev pub Ran : Primitives → List ℕ → Work → List ℕ → Reconstructed → Answer → Type 0

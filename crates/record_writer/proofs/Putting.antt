@@ -1,5 +1,5 @@
 -- Strings put one behind another, and the numbers and parts of a record put so. By the laws of `take` and `++`.
-use Prim.Native.Nat.{ℕ, suc, _+_, _/_, _%_, _≤_, _<_}
+use Prim.Native.Nat.{ℕ, _+_, _/_, _%_, _≤_, _<_}
 use mathlib.Core.Path.{_≡_, refl, sym, ap, _∙_}
 use mathlib.Core.Bool.{true}
 use mathlib.Core.List.{List, [], _∷_, _++_, append-assoc}
@@ -13,10 +13,9 @@ use Rattle.spec.specs.Shapes.{resolved, shapeOk}
 use Rattle.laws.proofs.Concat.{part-whole}
 use Rattle.laws.proofs.Putting.{put-take}
 use Rattle.record.specs.Fields.{bigEndianBytes, fieldOf}
-use Rattle.record.specs.Record.{Contents, headFor, recordOf}
+use Rattle.record.specs.Record.{Contents, versionFor, headFor, recordOf}
 use Rattle.record.proofs.Fields.{length-field}
 use Rattle.record.proofs.Bounds.{given-small}
-use Rattle.record.proofs.ReadBack.{head-length}
 use Rattle.record_writer.specs.Put.{Put}
 
 pub put-first : (x : List ℕ) (b : ℕ) → 0 < length x → Put (b ∷ []) 0 x (set x 0 b)
@@ -64,33 +63,35 @@ unfolding bigEndianBytes digits tabulate
 four-of n = ap (λ (m : ℕ). n / 16777216 % 256 ∷ n / 65536 % 256 ∷ n / 256 % 256 ∷ m % 256 ∷ []) (div-one n)
 
 -- the head's bytes: its numbers fit them
-pub head-bytes : (s : Shape) (n a b d hi lo : ℕ) (row : List ℕ) → shapeOk (resolved s) ≡ true → a ≡ s .tau % 256 → b ≡ s .k % 256 → d ≡ s .w % 256 → hi ≡ s .t / 256 % 256
-    → lo ≡ s .t % 256 → row ≡ bigEndianBytes 4 n
-    → _≡_ {A = List ℕ} (a ∷ b ∷ d ∷ hi ∷ lo ∷ getD row 0 0 ∷ getD row 1 0 ∷ getD row 2 0 ∷ getD row 3 0 ∷ []) (headFor s n)
+pub head-bytes : (s : Shape) (n a b d hi lo l : ℕ) (row : List ℕ) → shapeOk (resolved s) ≡ true → a ≡ s .tau % 256 → b ≡ s .k % 256 → d ≡ s .w % 256 → hi ≡ s .t / 256 % 256
+    → lo ≡ s .t % 256 → l ≡ s .level / 8 % 256 → row ≡ bigEndianBytes 4 n
+    → _≡_ {A = List ℕ} (a ∷ b ∷ d ∷ hi ∷ lo ∷ getD row 0 0 ∷ getD row 1 0 ∷ getD row 2 0 ∷ getD row 3 0 ∷ l ∷ []) (headFor s n)
 unfolding headFor
-head-bytes s n a b d hi lo row ok e₁ e₂ e₃ e₄ e₅ e₆ =
+head-bytes s n a b d hi lo l row ok e₁ e₂ e₃ e₄ e₅ e₆ e₇ =
     let f = given-small s ok in
     let g₁ : a ≡ s .tau = omega arith in
     let g₂ : b ≡ s .k = omega arith in
     let g₃ : d ≡ s .w = omega arith in
-    rw (g₁, g₂, g₃, e₄, e₅, e₆, two-of (s .t), four-of n) refl
+    let g₄ : l ≡ s .level / 8 = omega arith in
+    rw (g₁, g₂, g₃, e₄, e₅, g₄, e₇, two-of (s .t), four-of n) refl
 
 -- ---- the whole
 
--- a₂, .., a₅ are the places behind fields two to five
-pub put-record : (c : Contents) (a₂ a₃ a₄ a₅ : ℕ) {x x₁ x₂ x₃ x₄ x₅ y : List ℕ} → a₂ ≡ 14 + 4 + length (c .iv) → a₃ ≡ a₂ + 4 + length (c .challenge)
-    → a₄ ≡ a₃ + 4 + length (c .corrections) → a₅ ≡ a₄ + 4 + length (c .opening) → Put (1 ∷ fieldOf (headFor (c .shape) (c .row))) 0 x x₁ → Put (fieldOf (c .iv)) 14 x₁ x₂
-    → Put (fieldOf (c .challenge)) a₂ x₂ x₃ → Put (fieldOf (c .corrections)) a₃ x₃ x₄ → Put (fieldOf (c .opening)) a₄ x₄ x₅ → Put (fieldOf (c .commitment)) a₅ x₅ y
-    → Put (recordOf c) 0 x y
+-- a₁, .., a₅ are the places behind fields one to five
+pub put-record : (c : Contents) (a₁ a₂ a₃ a₄ a₅ : ℕ) {x x₁ x₂ x₃ x₄ x₅ y : List ℕ} → a₁ ≡ 5 + length (headFor (c .shape) (c .row)) → a₂ ≡ a₁ + 4 + length (c .iv)
+    → a₃ ≡ a₂ + 4 + length (c .challenge) → a₄ ≡ a₃ + 4 + length (c .corrections) → a₅ ≡ a₄ + 4 + length (c .opening)
+    → Put (versionFor (c .shape) ∷ fieldOf (headFor (c .shape) (c .row))) 0 x x₁ → Put (fieldOf (c .iv)) a₁ x₁ x₂ → Put (fieldOf (c .challenge)) a₂ x₂ x₃
+    → Put (fieldOf (c .corrections)) a₃ x₃ x₄ → Put (fieldOf (c .opening)) a₄ x₄ x₅ → Put (fieldOf (c .commitment)) a₅ x₅ y → Put (recordOf c) 0 x y
 unfolding recordOf
-put-record c a₂ a₃ a₄ a₅ e₂ e₃ e₄ e₅ p₀ p₁ p₂ p₃ p₄ p₅ =
-    put-then 14 (ap suc (length-field (headFor (c .shape) (c .row)) ∙ ap (λ (m : ℕ). 4 + m) (head-length (c .shape) (c .row)))) p₀
-    (put-next (c .iv) e₂ p₁ (put-next (c .challenge) e₃ p₂ (put-next (c .corrections) e₄ p₃ (put-next (c .opening) e₅ p₄ p₅))))
+put-record c a₁ a₂ a₃ a₄ a₅ e₁ e₂ e₃ e₄ e₅ p₀ p₁ p₂ p₃ p₄ p₅ =
+    let l = length-field (headFor (c .shape) (c .row)) in
+    let z : a₁ ≡ 0 + a₁ = omega arith in
+    put-then a₁ (omega arith) p₀
+    (rw z at (put-next (c .iv) e₂ p₁ (put-next (c .challenge) e₃ p₂ (put-next (c .corrections) e₄ p₃ (put-next (c .opening) e₅ p₄ p₅)))))
 
 -- its length, by the lengths of the fields
 pub length-record : (c : Contents)
-    → length (recordOf c) ≡ 34 + length (c .iv) + length (c .challenge) + length (c .corrections) + length (c .opening) + length (c .commitment)
+    → length (recordOf c)
+    ≡ 25 + length (headFor (c .shape) (c .row)) + length (c .iv) + length (c .challenge) + length (c .corrections) + length (c .opening) + length (c .commitment)
 unfolding recordOf
-length-record c =
-    let a = head-length (c .shape) (c .row) in
-    simp (length-append, length-field) (omega arith)
+length-record c = simp (length-append, length-field) (omega arith)

@@ -4,10 +4,10 @@ ghost use mathlib.Core.Bool.{true};
 ghost use mathlib.Core.List.{[], _∷_};
 ghost use Prim.Native.Nat.{_+_, _%_, _<_, _≤_};
 ghost use lib.ListN.{length};
-ghost use Rattle.spec.specs.Shapes.{resolved, shapeOk, openingBytes, correctionsBytes};
+ghost use Rattle.spec.specs.Shapes.{resolved, challengeBytes, hashBytes, shapeOk, openingBytes, correctionsBytes};
 ghost use Rattle.spec.specs.Calls.{fits};
 ghost use Rattle.record.specs.Fields.{bigEndianBytes, fieldOf};
-ghost use Rattle.record.specs.Record.{recordBytes, headFor, recordOf};
+ghost use Rattle.record.specs.Record.{versionFor, headFor, recordOf, recordBytes};
 ghost use Rattle.record.specs.RecordCalls.{LengthOf, WriteRecord};
 ghost use Rattle.record_writer.specs.Put.{Put};
 use record::RecordLength;
@@ -32,8 +32,8 @@ fn four_bytes(n: usize) -> [u8; 4]
     ]
 }
 
-// The head: the shape as given, and the row length.
-fn head_of(s: Shape, n: usize) -> [u8; 9]
+// The head: the shape as given, the row length, and the level in bytes.
+fn head_of(s: Shape, n: usize) -> [u8; 10]
     requires { ⌜ shapeOk (resolved s) ≡ true ⌝ }
     ensures { λ r. ⌜ r ≡ headFor s n ⌝ }
 {
@@ -48,6 +48,7 @@ fn head_of(s: Shape, n: usize) -> [u8; 9]
         row[1],
         row[2],
         row[3],
+        low_byte(s.level / 8),
     ]
 }
 
@@ -63,21 +64,21 @@ fn put_field(out: &mut [u8], at: usize, bytes: &[u8]) -> usize
 }
 
 // The version byte.
-fn put_version(out: &mut [u8])
+fn put_version(out: &mut [u8], version: u8)
     requires { ⌜ 0 < length (now out) ⌝ }
-    ensures { λ _. ⌜ Put (1 ∷ []) 0 (now (out .entry)) (now (out .exit)) ⌝ }
+    ensures { λ _. ⌜ Put (version ∷ []) 0 (now (out .entry)) (now (out .exit)) ⌝ }
 {
-    out[0] = 1;
+    out[0] = version;
 }
 
-// The version byte and the head.
-fn put_front(out: &mut [u8], s: Shape, n: usize)
-    requires { ⌜ (shapeOk (resolved s) ≡ true) × (14 ≤ length (now out)) ⌝ }
-    ensures { λ _. ⌜ Put (1 ∷ fieldOf (headFor s n)) 0 (now (out .entry)) (now (out .exit)) ⌝ }
+// The version byte and the head; answers the place behind them.
+fn put_front(out: &mut [u8], s: Shape, n: usize) -> usize
+    requires { ⌜ (shapeOk (resolved s) ≡ true) × (5 + length (headFor s n) ≤ length (now out)) ⌝ }
+    ensures { λ r. ⌜ (r ≡ 5 + length (headFor s n)) × Put (versionFor s ∷ fieldOf (headFor s n)) 0 (now (out .entry)) (now (out .exit)) ⌝ }
 {
     let head = head_of(s, n);
-    put_version(out);
-    put_field(out, 1, &head);
+    put_version(out, record_fields::version_for(s));
+    put_field(out, 1, &head)
 }
 
 // The record, part by part.
@@ -91,12 +92,12 @@ fn write_fields(
     commitment: &[u8],
     record: &mut [u8],
 )
-    requires { ⌜ (shapeOk (resolved shape) ≡ true) × (length (now «record») ≡ 34 + length (now iv) + length (now challenge) + length (now corrections) + length (now opening) + length (now commitment)) ⌝ }
+    requires { ⌜ (shapeOk (resolved shape) ≡ true) × (length (now «record») ≡ 25 + length (headFor shape «row_bits») + length (now iv) + length (now challenge) + length (now corrections) + length (now opening) + length (now commitment)) ⌝ }
     ensures { λ _. ⌜ now («record» .exit) ≡ recordOf
         (record { shape = shape; row = «row_bits»; iv = now (iv .entry); challenge = now (challenge .entry); corrections = now (corrections .entry); opening = now (opening .entry); commitment = now (commitment .entry) }) ⌝ }
 {
-    put_front(record, shape, row_bits);
-    let three = put_field(record, 14, iv);
+    let two = put_front(record, shape, row_bits);
+    let three = put_field(record, two, iv);
     let four = put_field(record, three, challenge);
     let five = put_field(record, four, corrections);
     let six = put_field(record, five, opening);
@@ -115,15 +116,17 @@ fn write_lengths(
     record: usize,
 ) -> bool
     requires { ⌜ (shapeOk s ≡ true) × (b ≤ 8192) ⌝ }
-    ensures { λ r. ⌜ r ≡ fits ((iv, 16) ∷ (challenge, 16) ∷ (corrections, correctionsBytes s b) ∷ (opening, openingBytes s) ∷ (commitment, 32) ∷ («record», recordBytes s b) ∷ []) ⌝ }
+    ensures { λ r. ⌜ r ≡ fits ((iv, 16) ∷ (challenge, challengeBytes s) ∷ (corrections, correctionsBytes s b) ∷ (opening, openingBytes s) ∷ (commitment, hashBytes s) ∷ («record», recordBytes s b) ∷ []) ⌝ }
 {
-    let c = record_fields::corrections_length(s, b);
-    let o = record_fields::opening_length(s);
+    let a = record_fields::challenge_length(s);
+    let c = lengths::corrections_bytes(s, b);
+    let o = lengths::opening_bytes(s);
+    let m = rules::hash_bytes(s);
     let n = record_fields::record_length(s, b);
     (iv == 16)
-        & ((challenge == 16)
+        & ((challenge == a)
             & ((corrections == c)
-                & ((opening == o) & ((commitment == 32) & ((record == n) & true)))))
+                & ((opening == o) & ((commitment == m) & ((record == n) & true)))))
 }
 
 // RECORD LENGTH: how many bytes a record has, or the number with which its shape or its row length is refused.

@@ -2,7 +2,7 @@
 ghost use mathlib.Core.Path.{_≡_};
 ghost use mathlib.Core.Bool.{true};
 ghost use Prim.Native.Nat.{_+_, _-_, _*_, _^_, _<_, _≤_};
-ghost use Rattle.spec.specs.Shapes.{resolved, level, nodeBytes, leafCommitmentBytes, hashBytes, rate, shapeOk, deeper, depthOf, entriesOf, firstBit, firstEntry, leaves, leafOf};
+ghost use Rattle.spec.specs.Shapes.{resolved, level, nodeBytes, leafCommitmentBytes, hashBytes, rate, levelOk, shapeOk, deeper, depthOf, entriesOf, firstBit, firstEntry, leaves, leafOf};
 ghost use mathlib.Core.List.{[], _∷_};
 ghost use Rattle.spec.specs.Calls.{rowOk, stretchOk, fits};
 use spec::Answer;
@@ -16,7 +16,7 @@ pub fn answer(number: usize, count: usize) -> Answer
     Answer { number, count }
 }
 
-// Four zeros stand for the default, FAEST-128f.
+// Four zeros at level 128 stand for the default, FAEST-128f.
 pub fn resolve(s: Shape) -> Shape
     ensures { λ r. ⌜ r ≡ resolved s ⌝ }
 {
@@ -32,18 +32,33 @@ pub fn resolve(s: Shape) -> Shape
     if s.t != 0 {
         return s;
     }
+    if s.level != 128 {
+        return s;
+    }
     Shape {
         tau: 16,
         k: 7,
         w: 8,
         t: 110,
+        level: 128,
     }
+}
+
+// Whether n is a level.
+fn is_level(n: usize) -> bool
+    ensures { λ r. ⌜ r ≡ levelOk n ⌝ }
+{
+    (n == 128) | ((n == 192) | (n == 256))
 }
 
 // Whether the shape rules hold. The limits come first, so that the sum cannot overflow.
 pub fn is_shape(s: Shape) -> bool
     ensures { λ r. ⌜ r ≡ shapeOk s ⌝ }
 {
+    let n = s.level;
+    if !is_level(n) {
+        return false;
+    }
     if s.tau < 1 {
         return false;
     }
@@ -66,10 +81,10 @@ pub fn is_shape(s: Shape) -> bool
         return false;
     }
     let used = s.tau * s.k + s.w;
-    if 128 < used {
+    if n < used {
         return false;
     }
-    let r = 128 - used;
+    let r = n - used;
     if s.tau <= r {
         return false;
     }
@@ -149,7 +164,7 @@ pub fn level_bits(s: Shape) -> usize
     requires { ⌜ shapeOk s ≡ true ⌝ }
     ensures { λ r. ⌜ (r ≡ level s) × (r ≤ 256) ⌝ }
 {
-    128
+    s.level
 }
 
 // The bytes of a node, of a seed and of a challenge.
@@ -181,7 +196,7 @@ pub fn rate_bytes(s: Shape) -> usize
     requires { ⌜ shapeOk s ≡ true ⌝ }
     ensures { λ r. ⌜ (r ≡ rate s) × (0 < r) × (r ≤ 168) ⌝ }
 {
-    168
+    if s.level == 128 { 168 } else { 136 }
 }
 
 // How many vectors are deeper than the others: r, the first r.
@@ -219,7 +234,7 @@ pub fn first_bit(s: Shape, i: usize) -> usize
 // The place of the first entry of vector i among the entries of all vectors, one vector after another.
 pub fn first_entry(s: Shape, i: usize) -> usize
     requires { ⌜ (shapeOk s ≡ true) × (i ≤ s .tau) ⌝ }
-    ensures { λ r. ⌜ (r ≡ firstEntry s i) × (r ≤ leaves s) × (r ≤ 40960) ⌝ }
+    ensures { λ r. ⌜ (r ≡ firstEntry s i) × (r ≤ leaves s) × (r ≤ 86016) ⌝ }
 {
     let k = s.k;
     (i + numbers::min(i, deeper_count(s))) << k
@@ -228,7 +243,7 @@ pub fn first_entry(s: Shape, i: usize) -> usize
 // L, the number of leaves.
 pub fn leaf_count(s: Shape) -> usize
     requires { ⌜ shapeOk s ≡ true ⌝ }
-    ensures { λ r. ⌜ (r ≡ leaves s) × (1 ≤ r) × (r ≤ 40960) ⌝ }
+    ensures { λ r. ⌜ (r ≡ leaves s) × (1 ≤ r) × (r ≤ 86016) ⌝ }
 {
     let n = s.tau;
     first_entry(s, n)
@@ -237,7 +252,7 @@ pub fn leaf_count(s: Shape) -> usize
 // The place of entry j of vector i among the leaves of the tree: the entries below 2^k of all vectors are interleaved, and behind them those of the deeper vectors.
 fn leaf_place(s: Shape, i: usize, j: usize) -> usize
     requires { ⌜ (shapeOk s ≡ true) × (i < s .tau) × (j < entriesOf s i) ⌝ }
-    ensures { λ r. ⌜ (leafOf s i j ≡ leaves s - 1 + r) × (r < leaves s) × (r < 40960) ⌝ }
+    ensures { λ r. ⌜ (leafOf s i j ≡ leaves s - 1 + r) × (r < leaves s) × (r < 86016) ⌝ }
 {
     let near = power(s.k);
     if j < near {
@@ -249,7 +264,7 @@ fn leaf_place(s: Shape, i: usize, j: usize) -> usize
 // The node of entry j of vector i.
 pub fn leaf_of(s: Shape, i: usize, j: usize) -> usize
     requires { ⌜ (shapeOk s ≡ true) × (i < s .tau) × (j < entriesOf s i) ⌝ }
-    ensures { λ r. ⌜ (r ≡ leafOf s i j) × (leaves s ≤ r + 1) × (r + 1 < 2 * leaves s) × (r < 81920) ⌝ }
+    ensures { λ r. ⌜ (r ≡ leafOf s i j) × (leaves s ≤ r + 1) × (r + 1 < 2 * leaves s) × (r < 172032) ⌝ }
 {
     leaf_count(s) - 1 + leaf_place(s, i, j)
 }
@@ -257,7 +272,7 @@ pub fn leaf_of(s: Shape, i: usize, j: usize) -> usize
 // The place of entry j of vector i among the entries of all vectors, one vector after another.
 pub fn entry_of(s: Shape, i: usize, j: usize) -> usize
     requires { ⌜ (shapeOk s ≡ true) × (i < s .tau) × (j < entriesOf s i) ⌝ }
-    ensures { λ r. ⌜ (r ≡ firstEntry s i + j) × (r < leaves s) × (r < 40960) ⌝ }
+    ensures { λ r. ⌜ (r ≡ firstEntry s i + j) × (r < leaves s) × (r < 86016) ⌝ }
 {
     first_entry(s, i) + j
 }

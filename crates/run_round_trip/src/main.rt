@@ -7,7 +7,17 @@ use test_support::parts::words;
 
 // The round trip of a shape, a row length and a challenge, of which the first word has the first eight bytes, the least byte first.
 fn run(tau: usize, k: usize, w: usize, t: usize, row_bits: usize, c0: u64, c1: u64) {
-    round_trip_report::run(Shape { tau, k, w, t }, whole(row_bits), words(c0, c1));
+    round_trip_report::run(
+        Shape {
+            tau,
+            k,
+            w,
+            t,
+            level: 128,
+        },
+        whole(row_bits),
+        words(c0, c1),
+    );
 }
 
 // The same with `width` bytes of every row, from byte `first` on.
@@ -23,7 +33,17 @@ fn run_stretch(
     c1: u64,
 ) {
     let rows = part(row_bits, first, width);
-    round_trip_report::run(Shape { tau, k, w, t }, rows, words(c0, c1));
+    round_trip_report::run(
+        Shape {
+            tau,
+            k,
+            w,
+            t,
+            level: 128,
+        },
+        rows,
+        words(c0, c1),
+    );
 }
 
 fn main() {

@@ -46,14 +46,27 @@ pub extern "C" fn rachnoel_decode(
     k: usize,
     w: usize,
     t: usize,
+    level: usize,
     challenge: &[u8],
     indices: &mut [u8],
     count: &mut [u8],
 ) -> usize
-    ensures { λ r. ⌜ HostDecode (record { tau = tau; k = k; w = w; t = t }) (now (challenge .entry)) (now (indices .entry)) (now (indices .exit)) (now (count .entry)) (now (count .exit)) r ⌝ }
+    ensures { λ r. ⌜ HostDecode (record { tau = tau; k = k; w = w; t = t; level = level }) (now (challenge .entry)) (now (indices .entry)) (now (indices .exit)) (now (count .entry)) (now (count .exit)) r ⌝ }
 {
     let mut list = [0u32; 33];
-    decode_by(Shape { tau, k, w, t }, challenge, &mut list, indices, count)
+    decode_by(
+        Shape {
+            tau,
+            k,
+            w,
+            t,
+            level,
+        },
+        challenge,
+        &mut list,
+        indices,
+        count,
+    )
 }
 
 // PLAN.
@@ -63,12 +76,25 @@ pub extern "C" fn rachnoel_plan(
     k: usize,
     w: usize,
     t: usize,
+    level: usize,
     challenge: &[u8],
     nodes: &mut [u8],
     count: &mut [u8],
 ) -> usize
-    ensures { λ r. ⌜ HostPlan (record { tau = tau; k = k; w = w; t = t }) (now (challenge .entry)) (now (nodes .entry)) (now (nodes .exit)) (now (count .entry)) (now (count .exit)) r ⌝ }
+    ensures { λ r. ⌜ HostPlan (record { tau = tau; k = k; w = w; t = t; level = level }) (now (challenge .entry)) (now (nodes .entry)) (now (nodes .exit)) (now (count .entry)) (now (count .exit)) r ⌝ }
 {
     let mut list = [0u32; 513];
-    plan_by(Shape { tau, k, w, t }, challenge, &mut list, nodes, count)
+    plan_by(
+        Shape {
+            tau,
+            k,
+            w,
+            t,
+            level,
+        },
+        challenge,
+        &mut list,
+        nodes,
+        count,
+    )
 }

@@ -1,4 +1,5 @@
 -- Laws that the proofs of this crate cite.
+pub mod NotEmpty
 pub mod Commit
 pub mod Open
 pub mod CommitStretch

@@ -11,6 +11,7 @@ pub extern "C" fn rachnoel_commit(
     k: usize,
     w: usize,
     t: usize,
+    level: usize,
     row_bits: usize,
     root: &[u8],
     iv: &[u8],
@@ -22,14 +23,20 @@ pub extern "C" fn rachnoel_commit(
     corrections: &mut [u8],
     count: &mut [u8],
 ) -> usize
-    ensures { λ r. ⌜ HostCommit faest (record { tau = tau; k = k; w = w; t = t }) «row_bits» (now (root .entry)) (now (iv .entry))
+    ensures { λ r. ⌜ HostCommit faest (record { tau = tau; k = k; w = w; t = t; level = level }) «row_bits» (now (root .entry)) (now (iv .entry))
         (record { commitment = now (commitment .entry); tree = now (tree .entry); leafCommitments = now («leaf_commitments» .entry); u = now (u .entry); v = now (v .entry); corrections = now (corrections .entry) })
         (record { commitment = now (commitment .exit); tree = now (tree .exit); leafCommitments = now («leaf_commitments» .exit); u = now (u .exit); v = now (v .exit); corrections = now (corrections .exit) })
         (now (count .entry)) (now (count .exit)) r ⌝ }
 {
     let n = host_words::passed_on(root.len(), count.len());
     let a = signer::commit(
-        Shape { tau, k, w, t },
+        Shape {
+            tau,
+            k,
+            w,
+            t,
+            level,
+        },
         row_bits,
         &root[..n],
         iv,
@@ -50,6 +57,7 @@ pub extern "C" fn rachnoel_commit_stretch(
     k: usize,
     w: usize,
     t: usize,
+    level: usize,
     row_bits: usize,
     first: usize,
     width: usize,
@@ -63,14 +71,20 @@ pub extern "C" fn rachnoel_commit_stretch(
     corrections: &mut [u8],
     count: &mut [u8],
 ) -> usize
-    ensures { λ r. ⌜ HostCommitStretch faest (record { tau = tau; k = k; w = w; t = t }) «row_bits» (record { first = first; width = width }) (now (root .entry)) (now (iv .entry))
+    ensures { λ r. ⌜ HostCommitStretch faest (record { tau = tau; k = k; w = w; t = t; level = level }) «row_bits» (record { first = first; width = width }) (now (root .entry)) (now (iv .entry))
         (record { commitment = now (commitment .entry); tree = now (tree .entry); leafCommitments = now («leaf_commitments» .entry); u = now (u .entry); v = now (v .entry); corrections = now (corrections .entry) })
         (record { commitment = now (commitment .exit); tree = now (tree .exit); leafCommitments = now («leaf_commitments» .exit); u = now (u .exit); v = now (v .exit); corrections = now (corrections .exit) })
         (now (count .entry)) (now (count .exit)) r ⌝ }
 {
     let n = host_words::passed_on(root.len(), count.len());
     let a = signer::commit_stretch(
-        Shape { tau, k, w, t },
+        Shape {
+            tau,
+            k,
+            w,
+            t,
+            level,
+        },
         row_bits,
         Stretch { first, width },
         &root[..n],
@@ -92,18 +106,25 @@ pub extern "C" fn rachnoel_open(
     k: usize,
     w: usize,
     t: usize,
+    level: usize,
     challenge: &[u8],
     tree: &[u8],
     leaf_commitments: &[u8],
     opening: &mut [u8],
     count: &mut [u8],
 ) -> usize
-    ensures { λ r. ⌜ HostOpen (record { tau = tau; k = k; w = w; t = t }) (now (challenge .entry)) (now (tree .entry)) (now («leaf_commitments» .entry))
+    ensures { λ r. ⌜ HostOpen (record { tau = tau; k = k; w = w; t = t; level = level }) (now (challenge .entry)) (now (tree .entry)) (now («leaf_commitments» .entry))
         (now (opening .entry)) (now (opening .exit)) (now (count .entry)) (now (count .exit)) r ⌝ }
 {
     let n = host_words::passed_on(challenge.len(), count.len());
     let a = signer::open(
-        Shape { tau, k, w, t },
+        Shape {
+            tau,
+            k,
+            w,
+            t,
+            level,
+        },
         &challenge[..n],
         tree,
         leaf_commitments,

@@ -1,9 +1,10 @@
 -- The rules of the primitives at a few values each, with the cipher and the permutation left as they are: which block the cipher is given, which blocks the
--- permutation and which message the sponge, and what alpha^384 is. By computing; crates/standards computes the primitives themselves.
+-- permutation and which message the sponge, and what alpha^384, alpha^576 and alpha^768 are. By computing; crates/standards computes the primitives themselves.
 use mathlib.Core.Path.{_≡_, refl}
 use mathlib.Core.List.{List, [], _∷_, _++_}
-use Prim.Native.Nat.{ℕ, _+_, _%_, _^_}
+use Prim.Native.Nat.{ℕ, _+_, _/_, _%_, _^_}
 use lib.ListN.{getD}
+use Rattle.spec.specs.declared.Shape.{Shape}
 use Rattle.spec.specs.Bytes.{part, tabulate, number, digits, zeros, xorBytes}
 use Rattle.spec.specs.Polynomials.{product, remainder, fieldProduct}
 use Rattle.spec.specs.Aes.{bytesOf, cipher, keyExpansion}
@@ -88,5 +89,17 @@ h1-input r n = refl
 
 -- section 3.2: alpha^383 times alpha is alpha^12 + alpha^3 + alpha^2 + 1
 pub alpha-384 : fieldProduct (fieldWidth faest128s) (fieldPolynomial faest128s) 8 (2 ^ 383) 2 ≡ 2 ^ 12 + 2 ^ 3 + 2 ^ 2 + 1
-unfolding product remainder fieldProduct level fieldWidth fieldPolynomial
+unfolding product remainder fieldProduct level fieldWidth fieldPolynomial faest128s
 alpha-384 = refl
+
+-- the same of alpha^575 and alpha^767 at levels 192 and 256
+abbrev pub levelOnly : ℕ → Shape
+levelOnly n = record { tau = 32; k = n / 32; w = 0; t = 1; level = n }
+
+pub alpha-576 : fieldProduct (fieldWidth (levelOnly 192)) (fieldPolynomial (levelOnly 192)) 8 (2 ^ 575) 2 ≡ 2 ^ 13 + 2 ^ 4 + 2 ^ 3 + 1
+unfolding product remainder fieldProduct level fieldWidth fieldPolynomial
+alpha-576 = refl
+
+pub alpha-768 : fieldProduct (fieldWidth (levelOnly 256)) (fieldPolynomial (levelOnly 256)) 8 (2 ^ 767) 2 ≡ 2 ^ 19 + 2 ^ 17 + 2 ^ 4 + 1
+unfolding product remainder fieldProduct level fieldWidth fieldPolynomial
+alpha-768 = refl

@@ -11,12 +11,12 @@ use Rattle.spec.specs.declared.Stretch.{Stretch}
 use Rattle.spec.specs.Bytes.{tabulate, zeros, allZero, number}
 use Rattle.spec.specs.Tree.{parent, isAncestorWithin, isAncestor, some, covered, siblingToReveal, revealedFrom, revealed, nodeCount}
 use Rattle.spec.specs.Challenge.{bitAt, bitsAt, indexAt, clearAt}
-use Rattle.spec.specs.Shapes.{faest128s, faest128f, resolved, level, nodeBytes, challengeBytes, leafCommitmentBytes, hashBytes, deeper, depthOf, firstBit, leaves, leafOf, shapeOk, hiddenIndex, hiddenLeaf, hiddenLeaves, grindingOk, planned, plannedCount, treeBytes, leafCommitmentsBytes, openingBytes, matrixBytes, correctionsBytes}
+use Rattle.spec.specs.Shapes.{faest128s, faest128f, resolved, level, nodeBytes, challengeBytes, leafCommitmentBytes, hashBytes, rate, deeper, depthOf, firstBit, leaves, leafOf, shapeOk, hiddenIndex, hiddenLeaf, hiddenLeaves, grindingOk, planned, plannedCount, treeBytes, leafCommitmentsBytes, openingBytes, matrixBytes, correctionsBytes}
 use Rattle.spec.specs.Verifier.{slotsOk}
 use Rattle.spec.specs.Calls.{rowOk, stretchOk, nodesOk, countWith, decodeLengths, decodeNumber, planLengths, planNumber, Committed, commitLengths, commitNumber, commitStretchNumber, openLengths, Reconstructed, reconstructLengths, reconstructNumber, reconstructStretchNumber}
 
 abbrev pub shape : ℕ → ℕ → ℕ → ℕ → Shape
-shape tau k w t = record { tau = tau; k = k; w = w; t = t }
+shape tau k w t = record { tau = tau; k = k; w = w; t = t; level = 128 }
 
 -- ---- limits
 
@@ -44,7 +44,60 @@ pub limits : Limits
 unfolding faest128s level nodeBytes leafCommitmentBytes shapeOk openingBytes rowOk deeper depthOf
 limits = (refl, refl, refl, refl, refl, refl, refl, refl, refl, refl, refl, refl, refl, refl, refl, refl, refl)
 
--- four zeros are the default; three are not, wherever the fourth number stands
+-- ---- levels (document 02, E7)
+
+abbrev pub at : ℕ → ℕ → ℕ → ℕ → ℕ → Shape
+at level tau k w t = record { tau = tau; k = k; w = w; t = t; level = level }
+
+-- depths and w add up to the level, and there are three levels
+abbrev pub Levels : Type 0
+Levels =
+    (shapeOk (at 192 16 12 0 512) ≡ true)
+    × (shapeOk (at 192 32 2 127 1) ≡ true)
+    × (shapeOk (at 192 32 4 0 512) ≡ false)
+    × (shapeOk (at 192 16 12 1 512) ≡ false)
+    × (shapeOk (at 192 15 12 11 512) ≡ false)
+    × (shapeOk (at 256 32 8 0 512) ≡ true)
+    × (shapeOk (at 256 21 12 4 512) ≡ true)
+    × (shapeOk (at 256 32 4 127 1) ≡ true)
+    × (shapeOk (at 256 22 12 0 512) ≡ false)
+    × (shapeOk (at 128 16 12 0 512) ≡ false)
+    × (shapeOk (at 0 1 1 127 1) ≡ false)
+    × (shapeOk (at 127 32 3 31 512) ≡ false)
+    × (shapeOk (at 160 32 5 0 512) ≡ false)
+    × (shapeOk (at 384 32 12 0 512) ≡ false)
+
+pub levels : Levels
+unfolding level shapeOk deeper depthOf
+levels = (refl, refl, refl, refl, refl, refl, refl, refl, refl, refl, refl, refl, refl, refl)
+
+-- the other sets of document 000, section 3.1, with kind 0: allowed, their leaves, and the bytes of an opening
+abbrev pub Sets : Type 0
+Sets =
+    let s = at 192 16 11 12 162 in
+    let f = at 192 24 7 8 163 in
+    let s256 = at 256 22 11 6 245 in
+    let f256 = at 256 32 7 8 246 in
+    ((shapeOk s ≡ true) × (leaves s ≡ 40960) × (openingBytes s ≡ 5040))
+    × ((shapeOk f ≡ true) × (leaves f ≡ 5120) × (openingBytes f ≡ 5640))
+    × ((shapeOk s256 ≡ true) × (leaves s256 ≡ 61440) × (openingBytes s256 ≡ 9952))
+    × ((shapeOk f256 ≡ true) × (leaves f256 ≡ 7168) × (openingBytes f256 ≡ 10944))
+
+pub sets : Sets
+unfolding level nodeBytes leafCommitmentBytes shapeOk openingBytes deeper depthOf leaves
+sets = ((refl, refl, refl), (refl, refl, refl), (refl, refl, refl), (refl, refl, refl))
+
+-- bytes of a node, a challenge, a leaf commitment, a commitment, and of Q for rows of one byte
+abbrev pub WidthsAt : ℕ → ℕ → ℕ → ℕ → ℕ → Shape → Type 0
+WidthsAt node leaf hash columns blocks s =
+    (nodeBytes s ≡ node) × (challengeBytes s ≡ node) × (leafCommitmentBytes s ≡ leaf) × (hashBytes s ≡ hash) × (matrixBytes s 1 ≡ columns) × (rate s ≡ blocks)
+
+pub level-widths :
+    WidthsAt 16 48 32 128 168 (at 128 32 4 0 1) × WidthsAt 24 72 48 192 136 (at 192 32 6 0 1) × WidthsAt 32 96 64 256 136 (at 256 32 8 0 1)
+unfolding level nodeBytes challengeBytes leafCommitmentBytes hashBytes matrixBytes rate
+level-widths = ((refl, refl, refl, refl, refl, refl), (refl, refl, refl, refl, refl, refl), (refl, refl, refl, refl, refl, refl))
+
+-- four zeros are the default, at level 128; three are not, wherever the fourth number stands
 abbrev pub Defaults : Type 0
 Defaults =
     (resolved (shape 0 0 0 0) ≡ shape 16 7 8 110)
@@ -53,10 +106,15 @@ Defaults =
     × (resolved (shape 0 0 7 0) ≡ shape 0 0 7 0)
     × (resolved (shape 0 0 0 102) ≡ shape 0 0 0 102)
     × (shapeOk (shape 0 0 0 102) ≡ false)
+    × (resolved (at 192 0 0 0 0) ≡ at 192 0 0 0 0)
+    × (resolved (at 0 0 0 0 0) ≡ at 0 0 0 0 0)
+    × (shapeOk (at 192 0 0 0 0) ≡ false)
+    × (shapeOk (at 256 0 0 0 0) ≡ false)
+    × (shapeOk (at 0 0 0 0 0) ≡ false)
 
 pub defaults : Defaults
 unfolding allZero faest128f resolved shapeOk deeper level depthOf
-defaults = (refl, refl, refl, refl, refl, refl)
+defaults = (refl, refl, refl, refl, refl, refl, refl, refl, refl, refl, refl)
 
 -- ---- grinding bits
 

@@ -8,7 +8,7 @@ use Rattle.spec.specs.Generator.{generatorByte}
 use Rattle.spec.specs.Hashes.{hash0, hash1}
 use Rattle.spec.specs.LeafHash.{leafHashByte}
 
--- each takes the shape, since a shape may come to say the level
+-- each takes the shape, which says the level
 pub record Primitives : Type 0 where
   -- key, IV, tweak, p: byte p of the generator's output
   pub prgByte : Shape → List ℕ → List ℕ → ℕ → ℕ → ℕ

@@ -1,9 +1,9 @@
--- Document 01, "The shape and the tree", and document 02, E2: shapes, the numbers and widths that a shape gives, and what it makes of a challenge. Behind `resolved`, s is a
--- resolved shape. What a level changes of FAEST's definitions stands in this file: all others use its names.
+-- Document 01, "The shape and the tree", and document 02, E2 and E7: shapes, the numbers and widths that a shape gives, and what it makes of a challenge. Behind `resolved`,
+-- s is a resolved shape. What a level changes of FAEST's definitions stands in this file: all others use its names.
 use Prim.Native.Nat.{ℕ, _+_, _-_, _*_, _/_, _^_, min}
-use mathlib.Core.Bool.{Bool, _&&_, cond}
+use mathlib.Core.Bool.{Bool, _&&_, _||_, cond}
 use mathlib.Core.List.{List, [], _∷_}
-use lib.Dec.{leb, ltb}
+use lib.Dec.{leb, ltb, eqb}
 use Rattle.spec.specs.declared.Shape.{Shape}
 use Rattle.spec.specs.Bytes.{tabulate, allZero}
 use Rattle.spec.specs.Challenge.{indexAt, clearAt}
@@ -11,20 +11,20 @@ use Rattle.spec.specs.Tree.{revealed, nodeCount}
 
 -- FAEST-128s and FAEST-128f (document 000, tables 3.2 and 5.1, whose k is k + 1 here)
 unfoldable pub faest128s : Shape
-faest128s = record { tau = 11; k = 11; w = 7; t = 102 }
+faest128s = record { tau = 11; k = 11; w = 7; t = 102; level = 128 }
 
 unfoldable pub faest128f : Shape
-faest128f = record { tau = 16; k = 7; w = 8; t = 110 }
+faest128f = record { tau = 16; k = 7; w = 8; t = 110; level = 128 }
 
--- four zeros stand for the default, FAEST-128f (document 02, E3)
+-- four zeros stand for the default, FAEST-128f (document 02, E3), at level 128 only (E7)
 unfoldable pub resolved : Shape → Shape
-resolved s = cond (allZero (s .tau ∷ s .k ∷ s .w ∷ s .t ∷ [])) faest128f s
+resolved s = cond (allZero (s .tau ∷ s .k ∷ s .w ∷ s .t ∷ []) && eqb (s .level) 128) faest128f s
 
 -- ---- widths
 
 -- the security level in bits: document 000's lambda
 unfoldable pub level : Shape → ℕ
-level s = 128
+level s = s .level
 
 -- bytes of a node, a seed and a generator key
 unfoldable pub nodeBytes : Shape → ℕ
@@ -49,15 +49,18 @@ ivBytes = 16
 unfoldable pub keyWords : Shape → ℕ
 keyWords s = level s / 32
 
+-- SHAKE128 at level 128, SHAKE256 at the others (section 3.3)
 unfoldable pub rate : Shape → ℕ
-rate s = 168
+rate s = cond (eqb (level s) 128) 168 136
 
 unfoldable pub fieldWidth : Shape → ℕ
 fieldWidth s = 3 * level s
 
--- document 000, section 3.2: P384
+-- document 000, section 3.2: P384, P576, P768
 unfoldable pub fieldPolynomial : Shape → ℕ
-fieldPolynomial s = 2 ^ 384 + 2 ^ 12 + 2 ^ 3 + 2 ^ 2 + 1
+fieldPolynomial s =
+    cond (eqb (level s) 128) (2 ^ 384 + 2 ^ 12 + 2 ^ 3 + 2 ^ 2 + 1)
+    (cond (eqb (level s) 192) (2 ^ 576 + 2 ^ 13 + 2 ^ 4 + 2 ^ 3 + 1) (2 ^ 768 + 2 ^ 19 + 2 ^ 17 + 2 ^ 4 + 1))
 
 -- ---- vectors: the first r have depth k + 1, the others depth k
 
@@ -91,11 +94,14 @@ leafOf s i j = leaves s - 1 + cond (ltb j (2 ^ s .k)) (s .tau * j) (s .tau * 2 ^
 
 -- ---- the shape rules, refusal 1
 
+abbrev pub levelOk : ℕ → Bool
+levelOk n = eqb n 128 || (eqb n 192 || eqb n 256)
+
 -- k + 1 counts where a vector has that depth; vector 0 is as deep as any
 unfoldable pub shapeOk : Shape → Bool
 shapeOk s =
     leb 1 (s .tau) && leb (s .tau) 32 && leb 1 (s .k) && leb (depthOf s 0) 12 && leb (s .w) 127 && leb 1 (s .t) && leb (s .t) 512
-    && leb (s .tau * s .k + s .w) (level s) && ltb (deeper s) (s .tau)
+    && leb (s .tau * s .k + s .w) (level s) && ltb (deeper s) (s .tau) && levelOk (s .level)
 
 -- ---- what a challenge hides
 

@@ -1,12 +1,13 @@
 // The types that every public contract shares. The definitions stand in ../specs, in the order of specs/Lib.antt.
 
-// A shape: tau vectors, the first 128 - w - tau k of depth k + 1 and the others of depth k, w grinding bits, and an opening of at most t nodes (document 01, "The
-// shape and the tree"; document 02, E2).
+// A shape: tau vectors, the first level - w - tau k of depth k + 1 and the others of depth k, w grinding bits, an opening of at most t nodes, and the security level in
+// bits, 128, 192 or 256 (document 01, "The shape and the tree"; document 02, E2 and E7).
 pub struct Shape {
     pub tau: usize,
     pub k: usize,
     pub w: usize,
     pub t: usize,
+    pub level: usize,
 }
 
 // A stretch of every row: `width` bytes from byte `first` on (document 02, E1: g and f). The whole row of b bytes is the stretch 0, b.

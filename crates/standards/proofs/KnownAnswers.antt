@@ -96,7 +96,7 @@ pub leaf-hash :
     leafHash (fieldWidth faest128s) (fieldPolynomial faest128s) u x₀ x₁
     ≡ number 8
     (131 ∷ 184 ∷ 15 ∷ 7 ∷ 190 ∷ 1 ∷ 89 ∷ 91 ∷ 95 ∷ 247 ∷ 201 ∷ 86 ∷ 213 ∷ 39 ∷ 248 ∷ 90 ∷ 81 ∷ 208 ∷ 240 ∷ 212 ∷ 113 ∷ 5 ∷ 122 ∷ 232 ∷ 63 ∷ 220 ∷ 120 ∷ 110 ∷ 0 ∷ 223 ∷ 230 ∷ 1 ∷ 201 ∷ 50 ∷ 236 ∷ 32 ∷ 18 ∷ 78 ∷ 86 ∷ 39 ∷ 79 ∷ 133 ∷ 49 ∷ 164 ∷ 144 ∷ 21 ∷ 153 ∷ 187 ∷ [])
-unfolding number product remainder fieldProduct leafHash level fieldWidth fieldPolynomial
+unfolding number product remainder fieldProduct leafHash level fieldWidth fieldPolynomial faest128s
 leaf-hash = refl
 
 -- its last byte

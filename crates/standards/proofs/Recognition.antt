@@ -2,7 +2,7 @@
 -- byte, byte i standing in block i / r; the count by the law of covered nodes.
 use Prim.Native.Nat.{ℕ, zero, suc, _+_, _-_, _*_, _/_, _%_, _^_, _≤_, _<_}
 use mathlib.Core.Path.{_≡_, refl, sym, ap, _∙_}
-use mathlib.Core.Bool.{Bool}
+use mathlib.Core.Bool.{Bool, cond}
 use mathlib.Core.List.{List, _++_, append-nil, append-assoc}
 use native.Mathlib.Nat.{mod-lt, mul-comm, div-add-mod', div-lt-iff-lt-mul, lt-of-lt-of-le}
 use native.Mathlib.Omega.{arith}
@@ -22,6 +22,7 @@ use Rattle.laws.proofs.Tables.{at-below}
 use Rattle.laws.proofs.Polynomials.{product-lt, remainder-lt, remainder-multiple, remainder-unique}
 use Rattle.planning_laws.proofs.Count.{count-covered}
 use Rattle.planning_laws.proofs.HiddenLeaves.{hidden-count, hidden-leaves, hidden-distinct}
+use Rattle.planning_laws.proofs.ShapeFacts.{shape-facts, by-level}
 use Rattle.planning_laws.proofs.ShapeLaws.{shape-laws}
 use Rattle.standards.specs.Recognition.{SboxInverse, FieldProduct, Gf256Product, LeafHashProduct, squeezed, SpongeBlocks, CountOfCovered, PlannedCount}
 
@@ -58,7 +59,13 @@ gf256-product = field-product 8 0x11b (lit≤ tt) (lit< tt)
 
 pub leaf-hash-product : LeafHashProduct
 unfolding level fieldWidth fieldPolynomial
-leaf-hash-product s = field-product 384 (2 ^ 384 + 2 ^ 12 + 2 ^ 3 + 2 ^ 2 + 1) (lit≤ tt) (lit< tt)
+leaf-hash-product s ok =
+    by-level
+    (λ n. FieldProduct (3 * n) (cond (eqb n 128) (2 ^ 384 + 2 ^ 12 + 2 ^ 3 + 2 ^ 2 + 1) (cond (eqb n 192) (2 ^ 576 + 2 ^ 13 + 2 ^ 4 + 2 ^ 3 + 1) (2 ^ 768 + 2 ^ 19 + 2 ^ 17 + 2 ^ 4 + 1))))
+    (field-product 384 (2 ^ 384 + 2 ^ 12 + 2 ^ 3 + 2 ^ 2 + 1) (lit≤ tt) (lit< tt))
+    (field-product 576 (2 ^ 576 + 2 ^ 13 + 2 ^ 4 + 2 ^ 3 + 1) (lit≤ tt) (lit< tt))
+    (field-product 768 (2 ^ 768 + 2 ^ 19 + 2 ^ 17 + 2 ^ 4 + 1) (lit≤ tt) (lit< tt))
+    (s .level) (shape-facts s ok .level-is)
 
 -- ---- the sponge
 

@@ -31,7 +31,7 @@ abbrev pub Gf256Product : Type 0
 Gf256Product = FieldProduct 8 0x11b
 
 abbrev pub LeafHashProduct : Type 0
-LeafHashProduct = (s : Shape) → FieldProduct (fieldWidth s) (fieldPolynomial s)
+LeafHashProduct = (s : Shape) → shapeOk s ≡ true → FieldProduct (fieldWidth s) (fieldPolynomial s)
 
 -- FIPS 202, Algorithm 8, steps 7 to 10, without the cut: the first r bytes of the state s, then those of the permuted state, and so on for n blocks
 unfoldable pub squeezed : ℕ → ℕ → List ℕ → List ℕ

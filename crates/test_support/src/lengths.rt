@@ -55,7 +55,7 @@ pub fn at_most(n: usize, limit: usize) -> usize
 
 // The leaves of a shape.
 fn leaves(s: Shape) -> usize
-    ensures { λ r. ⌜ (1 ≤ r) × (r ≤ 40960) ⌝ }
+    ensures { λ r. ⌜ (1 ≤ r) × (r ≤ 86016) ⌝ }
 {
     if rules::is_shape(s) {
         return rules::leaf_count(s);
@@ -63,9 +63,38 @@ fn leaves(s: Shape) -> usize
     1
 }
 
-// The product of a number of vectors and a number of bytes or bits.
-pub fn product(a: usize, b: usize) -> usize {
-    at_most(a, 32) * at_most(b, 8192)
+// The bytes of a node and of a challenge of a shape.
+fn node(s: Shape) -> usize
+    ensures { λ r. ⌜ r ≤ 32 ⌝ }
+{
+    if rules::is_shape(s) {
+        return rules::node_bytes(s);
+    }
+    16
+}
+
+// The bytes of a leaf commitment of a shape.
+fn leaf_commitment(s: Shape) -> usize
+    ensures { λ r. ⌜ r ≤ 96 ⌝ }
+{
+    if rules::is_shape(s) {
+        return rules::commitment_bytes(s);
+    }
+    48
+}
+
+// The bytes of a root and of a challenge of a shape as it is given.
+pub fn challenge(shape: Shape) -> usize
+    ensures { λ r. ⌜ r ≤ 32 ⌝ }
+{
+    node(rules::resolve(shape))
+}
+
+// The product of a width or a number of vectors, and a number of nodes, bytes or bits.
+pub fn product(a: usize, b: usize) -> usize
+    ensures { λ r. ⌜ r ≤ 44040192 ⌝ }
+{
+    at_most(a, 256) * at_most(b, 172032)
 }
 
 // The corrections of a shape, for rows of b bytes.
@@ -78,7 +107,7 @@ fn corrections(s: Shape, b: usize) -> usize {
 
 // The opening of a shape.
 fn opening(s: Shape) -> usize {
-    48 * at_most(s.tau, 32) + 16 * at_most(s.t, 512)
+    product(leaf_commitment(s), s.tau) + product(node(s), s.t)
 }
 
 // The lengths for a shape and rows.
@@ -86,12 +115,13 @@ pub fn of(shape: Shape, rows: Rows) -> Lengths {
     let s = rules::resolve(shape);
     let b = at_most(rows.stretch.width, 8192);
     let n = leaves(s);
+    let w = node(s);
     Lengths {
-        commitment: 32,
-        tree: 16 * (2 * n - 1),
-        leaf_commitments: 48 * n,
+        commitment: 2 * w,
+        tree: product(w, 2 * n - 1),
+        leaf_commitments: product(leaf_commitment(s), n),
         u: b,
-        v: 128 * b,
+        v: product(8 * w, b),
         corrections: corrections(s, b),
         opening: opening(s),
     }

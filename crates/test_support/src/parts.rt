@@ -1,4 +1,4 @@
-// The front of a buffer, and strings of 16 bytes.
+// The front of a buffer, and strings of 16 and 32 bytes.
 use crate::lengths::at_most;
 
 // The first n bytes, or all where there are fewer.
@@ -37,4 +37,14 @@ pub fn words(x: u64, y: u64) -> [u8; 16] {
         byte(y >> 48),
         byte(y >> 56),
     ]
+}
+
+// 16 bytes, and 16 bytes behind them.
+pub fn both(a: [u8; 16], b: [u8; 16]) -> [u8; 32] {
+    let mut r = [0u8; 32];
+    for i in 0..16 {
+        r[i] = a[i];
+        r[i + 16] = b[i];
+    }
+    r
 }

@@ -153,7 +153,7 @@ revealed-few c (suc n) = go (c (2 * n + 1)) (c (2 * n + 2)) (revealed-few c n)
     go true false ih = omega arith
     go false true ih = omega arith
 
-read : (xs : List ℕ) (i : ℕ) → i < length xs → getD xs i 0 < 81920 → number 8 (part (wordBytes xs) (4 * i) 4) ≡ getD xs i 0
+read : (xs : List ℕ) (i : ℕ) → i < length xs → getD xs i 0 < 172032 → number 8 (part (wordBytes xs) (4 * i) 4) ≡ getD xs i 0
 read xs i h l = ap (number 8) (words-part xs i h) ∙ number-digits 8 4 (getD xs i 0) (omega arith)
 
 pub every-readable : EveryReadable
@@ -164,6 +164,6 @@ every-readable s ch e =
       indices = λ i h.
           let at = getD-tabulate (resolved s .tau) (hiddenIndex (resolved s) ch) i 0 h in
           read (hiddenIndices (resolved s) ch) i (rw length-tabulate h) (rw at (omega (arith, hidden-index-lt (resolved s) ch i, entries-small (resolved s) i f))) ∙ at;
-      nodes = λ i h. read (planned (resolved s) ch) i h (revealed-below _ _ 81920 (omega (arith, leaves-max (resolved s) f)) i);
+      nodes = λ i h. read (planned (resolved s) ch) i h (revealed-below _ _ 172032 (omega (arith, leaves-max (resolved s) f)) i);
       count = number-digits 8 4 (plannedCount (resolved s) ch) (omega (arith, revealed-few (covered (hiddenLeaves (resolved s) ch)) (leaves (resolved s) - 1), leaves-max (resolved s) f));
     }

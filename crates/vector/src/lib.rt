@@ -37,7 +37,7 @@ pub fn columns_from(s: Shape, i: usize, b: usize) -> usize
 // Entry e of vector i, with room for its seed lent: writes its leaf commitment, and adds the stretch of its row to the sum.
 fn add_leaf(
     t: &[u8; 256],
-    m: &[[u64; 6]; 16],
+    m: &[[u64; 12]; 16],
     s: Shape,
     i: usize,
     e: usize,
@@ -65,7 +65,7 @@ fn add_leaf(
 // Entry e of vector i: writes its leaf commitment, and adds the stretch of its row to the sum.
 fn add_entry(
     t: &[u8; 256],
-    m: &[[u64; 6]; 16],
+    m: &[[u64; 12]; 16],
     s: Shape,
     i: usize,
     e: usize,
@@ -91,7 +91,7 @@ fn add_entry(
 // h + 1 columns; w is the length of a leaf commitment.
 fn add_run(
     t: &[u8; 256],
-    m: &[[u64; 6]; 16],
+    m: &[[u64; 12]; 16],
     s: Shape,
     w: usize,
     i: usize,
@@ -136,7 +136,7 @@ fn add_run(
 // `total`, which has one column, or where `first` is 1 none.
 pub fn add_entries(
     t: &[u8; 256],
-    m: &[[u64; 6]; 16],
+    m: &[[u64; 12]; 16],
     s: Shape,
     i: usize,
     first: usize,

@@ -5,11 +5,14 @@
 //     refused_shape(TAU, K, W, T, ROWBITS)                      the same with any W, with 13 for ROOTIV and a challenge of zeros
 //     flipped(TAU, K, T, ROWBITS, FLIP)                         the same with 13 and zeros, and the byte FLIP of the opening flipped before reconstruct
 //     probe_commit(..), probe_open(..), probe_reconstruct(..)   one call, on buffers of which one may have a wrong length
+//     at_level(LEVEL, TAU, K, W, T, ROWBITS, ROOTIV, C0, C1, C2, C3)  the three calls at a level: the challenge is the four words, of which the level takes the first bytes, and
+//                                                               so it does of the root, whose 16 bytes stand there twice
 //     decode(TAU, K, W, T, CHALLENGE, CHALLENGE)                decode; plan(..) in the same way
 //     probe_decode(..), probe_plan(..)                          these, on a list or a challenge that may have a wrong length
 //
 // ROOTIV has a digit for the root and one for the IV: 0 zeros, 1 the bytes 00 to 0f, 2 mixed bytes, 3 the bytes 10 to 1f, 4 words that wrap at the first sum, 5 words
 // that wrap later, 9 ones.
+use vectors_calls::at_level;
 use vectors_calls::case;
 use vectors_calls::decode;
 use vectors_calls::flipped;
@@ -353,6 +356,88 @@ fn probes_of_plan() {
     probe_plan(2, 2, 124, 4, 0x0c, 2, 0);
 }
 
+// FAEST-192f and FAEST-256f.
+fn fast_sets() {
+    at_level(
+        192,
+        24,
+        7,
+        8,
+        163,
+        3088,
+        13,
+        0xf2a74de452e6b438,
+        0x6513270e269e0d37,
+        0xc5c7fa6a3a450,
+        0,
+    );
+    at_level(192, 24, 7, 8, 163, 3088, 24, 0, 0, 0, 0);
+    at_level(
+        256,
+        32,
+        7,
+        8,
+        246,
+        3888,
+        13,
+        0xd23f0824128b2f33,
+        0x1818e811892f902b,
+        0x9531985d5d9dc9f8,
+        0xe8e25d0ed90475,
+    );
+    at_level(256, 32, 7, 8, 246, 3888, 25, 0, 0, 0, 0x80000000000000);
+}
+
+// The smallest trees of the levels, with one deeper vector; rows that end inside a block; challenges with all indices the last, a grinding bit, and too many nodes.
+fn small_trees_at_levels() {
+    at_level(192, 32, 2, 127, 70, 136, 24, 0x36f675cc81e74ef5, 0, 0, 0);
+    at_level(192, 32, 2, 127, 70, 8, 95, 0xffffffffffffffff, 1, 0, 0);
+    at_level(192, 32, 2, 127, 70, 128, 13, 0, 2, 0, 0);
+    at_level(192, 32, 2, 127, 30, 128, 13, 0x536ed7b9a7eb2d45, 0, 0, 0);
+    at_level(
+        256,
+        32,
+        4,
+        127,
+        140,
+        136,
+        24,
+        0x6f03675a1600a35a,
+        0x11e20b8f6b0d549b,
+        0,
+        0,
+    );
+    at_level(
+        256,
+        32,
+        4,
+        127,
+        140,
+        8,
+        95,
+        0xffffffffffffffff,
+        0xffffffffffffffff,
+        1,
+        0,
+    );
+    at_level(256, 32, 4, 127, 140, 128, 13, 0, 0, 0, 0x8000000000000000);
+    at_level(128, 2, 2, 124, 4, 16, 13, 0xc, 0, 0, 0);
+}
+
+// Refused levels: some with numbers that add up to them, and four zeros where they are no default.
+fn refused_levels() {
+    at_level(0, 0, 0, 0, 0, 8, 13, 0, 0, 0, 0);
+    at_level(192, 0, 0, 0, 0, 8, 13, 0, 0, 0, 0);
+    at_level(256, 0, 0, 0, 0, 8, 13, 0, 0, 0, 0);
+    at_level(127, 1, 3, 124, 3, 8, 13, 0, 0, 0, 0);
+    at_level(129, 1, 5, 124, 5, 8, 13, 0, 0, 0, 0);
+    at_level(160, 4, 9, 124, 36, 8, 13, 0, 0, 0, 0);
+    at_level(384, 32, 12, 0, 512, 8, 13, 0, 0, 0, 0);
+    at_level(192, 2, 2, 124, 4, 8, 13, 0, 0, 0, 0);
+    at_level(128, 32, 2, 127, 70, 8, 13, 0, 0, 0, 0);
+    at_level(128, 0, 0, 0, 0, 8, 13, 0, 0, 0, 0);
+}
+
 fn main() {
     worked_examples();
     faest_128s();
@@ -373,4 +458,7 @@ fn main() {
     planned_challenges();
     probes_of_decode();
     probes_of_plan();
+    fast_sets();
+    small_trees_at_levels();
+    refused_levels();
 }

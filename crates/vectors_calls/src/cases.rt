@@ -3,12 +3,14 @@ use crate::calls::call_commit;
 use crate::calls::call_open;
 use crate::calls::call_reconstruct;
 use crate::inputs::numbered;
+use crate::inputs::root;
 use crate::print::print_answer;
 use crate::print::print_buffer;
 use spec::Answer;
 use spec::Shape;
 use test_support::lengths::Lengths;
 use test_support::lengths::Rows;
+use test_support::parts::front;
 
 // What both halves write of the tree.
 fn print_leaves(l: Lengths, commitment: &[u8], tree: &[u8], leaf_commitments: &[u8]) {
@@ -29,20 +31,21 @@ fn commit_case(
     s: Shape,
     rows: Rows,
     l: Lengths,
-    root: &[u8; 16],
+    root: &[u8; 32],
     iv: &[u8; 16],
-    commitment: &mut [u8; 32],
+    commitment: &mut [u8; 64],
     tree: &mut [u8; 1310704],
     leaf_commitments: &mut [u8; 1966080],
     u: &mut [u8; 8192],
     v: &mut [u8; 1048576],
     corrections: &mut [u8; 253952],
 ) -> Answer {
+    let n = test_support::lengths::challenge(s);
     let r = call_commit(
         s,
         rows,
         l,
-        root,
+        front(root, n),
         iv,
         commitment,
         tree,
@@ -63,18 +66,19 @@ fn commit_case(
 fn open_case(
     s: Shape,
     l: Lengths,
-    challenge: &[u8; 16],
+    challenge: &[u8; 32],
     tree: &[u8; 1310704],
     leaf_commitments: &[u8; 1966080],
-    opening: &mut [u8; 9728],
+    opening: &mut [u8; 19456],
     at: usize,
 ) -> Answer {
-    let r = call_open(s, l, challenge, tree, leaf_commitments, opening);
+    let n = test_support::lengths::challenge(s);
+    let r = call_open(s, l, front(challenge, n), tree, leaf_commitments, opening);
     print_answer(r);
     if r.number == 0 {
         print_buffer(b"opening ", opening, l.opening);
     }
-    if at < 9728 {
+    if at < 19456 {
         opening[at] = opening[at] ^ 1;
     }
     r
@@ -86,20 +90,21 @@ fn reconstruct_case(
     rows: Rows,
     l: Lengths,
     iv: &[u8; 16],
-    challenge: &[u8; 16],
+    challenge: &[u8; 32],
     corrections: &[u8; 253952],
-    opening: &[u8; 9728],
-    commitment: &mut [u8; 32],
+    opening: &[u8; 19456],
+    commitment: &mut [u8; 64],
     tree: &mut [u8; 1310704],
     leaf_commitments: &mut [u8; 1966080],
     q: &mut [u8; 1048576],
 ) {
+    let n = test_support::lengths::challenge(s);
     let r = call_reconstruct(
         s,
         rows,
         l,
         iv,
-        challenge,
+        front(challenge, n),
         corrections,
         opening,
         commitment,
@@ -116,22 +121,22 @@ fn reconstruct_case(
 
 // The three calls, with the byte `at` of the opening flipped before reconstruct. Where one is refused its answer stands for those after it. The buffers hold
 // 0xa5 at first, so that a byte that is not written shows.
-pub fn run_case(s: Shape, rows: Rows, known: usize, challenge: [u8; 16], at: usize) {
-    let root = numbered(known / 10);
+pub fn run_case(s: Shape, rows: Rows, known: usize, challenge: [u8; 32], at: usize) {
+    let key = root(known / 10);
     let iv = numbered(known % 10);
     let l = test_support::lengths::of(s, rows);
-    let mut commitment = [0xa5u8; 32];
+    let mut commitment = [0xa5u8; 64];
     let mut tree = [0xa5u8; 1310704];
     let mut leaf_commitments = [0xa5u8; 1966080];
     let mut u = [0xa5u8; 8192];
     let mut v = [0xa5u8; 1048576];
     let mut corrections = [0xa5u8; 253952];
-    let mut opening = [0xa5u8; 9728];
+    let mut opening = [0xa5u8; 19456];
     let made = commit_case(
         s,
         rows,
         l,
-        &root,
+        &key,
         &iv,
         &mut commitment,
         &mut tree,

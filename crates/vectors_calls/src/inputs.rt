@@ -2,7 +2,19 @@
 use spec::Shape;
 use test_support::lengths::at_most;
 use test_support::lengths::product;
+use test_support::parts::both;
 use test_support::parts::words;
+
+// A shape at level 128.
+pub fn at_128(tau: usize, k: usize, w: usize, t: usize) -> Shape {
+    Shape {
+        tau,
+        k,
+        w,
+        t,
+        level: 128,
+    }
+}
 
 // A shape with the grinding bits that the vectors leave of 128 bits, or 0 where tau is 0: four zeros stand for the default.
 pub fn shape_of(tau: usize, k: usize, t: usize) -> Shape {
@@ -11,7 +23,12 @@ pub fn shape_of(tau: usize, k: usize, t: usize) -> Shape {
     } else {
         128 - at_most(product(tau, k), 128)
     };
-    Shape { tau, k, w, t }
+    at_128(tau, k, w, t)
+}
+
+// A root by its digit: the bytes below, twice. Of these a level takes the first.
+pub fn root(n: usize) -> [u8; 32] {
+    both(numbered(n), numbered(n))
 }
 
 // The roots and IVs by their digit: bytes that count up and mixed ones; of IVs also those whose first and last word of 32 bits wrap at the first

@@ -10,7 +10,9 @@ pub use calls::call_commit;
 pub use calls::call_open;
 pub use calls::call_reconstruct;
 use cases::run_case;
+pub use inputs::at_128;
 pub use inputs::numbered;
+pub use inputs::root;
 use inputs::shape_of;
 pub use lists::call_decode;
 pub use lists::call_plan;
@@ -23,6 +25,7 @@ pub use print::print_buffer;
 use spec::Shape;
 use test_support::lengths::part;
 use test_support::lengths::whole;
+use test_support::parts::both;
 use test_support::parts::words;
 
 // Root and IV with bytes that count up.
@@ -31,13 +34,18 @@ const COUNTING: usize = 13;
 // No byte of an opening.
 const NONE: usize = 0xffff;
 
+// A challenge of two words, with zeros behind it that level 128 does not take.
+fn narrow(c0: u64, c1: u64) -> [u8; 32] {
+    both(words(c0, c1), words(0, 0))
+}
+
 // A case; the challenge is two words, the least byte first.
 pub fn case(tau: usize, k: usize, t: usize, row_bits: usize, known: usize, c0: u64, c1: u64) {
     run_case(
         shape_of(tau, k, t),
         whole(row_bits),
         known,
-        words(c0, c1),
+        narrow(c0, c1),
         NONE,
     );
 }
@@ -54,10 +62,10 @@ pub fn uneven(
     c1: u64,
 ) {
     run_case(
-        Shape { tau, k, w, t },
+        at_128(tau, k, w, t),
         whole(row_bits),
         known,
-        words(c0, c1),
+        narrow(c0, c1),
         NONE,
     );
 }
@@ -76,10 +84,70 @@ pub fn stretch(
     c1: u64,
 ) {
     run_case(
-        Shape { tau, k, w, t },
+        at_128(tau, k, w, t),
         part(row_bits, first, width),
         known,
-        words(c0, c1),
+        narrow(c0, c1),
+        NONE,
+    );
+}
+
+// A case at any level: the challenge is four words, of which the level takes the first, and those of a root likewise.
+pub fn at_level(
+    level: usize,
+    tau: usize,
+    k: usize,
+    w: usize,
+    t: usize,
+    row_bits: usize,
+    known: usize,
+    c0: u64,
+    c1: u64,
+    c2: u64,
+    c3: u64,
+) {
+    run_case(
+        Shape {
+            tau,
+            k,
+            w,
+            t,
+            level,
+        },
+        whole(row_bits),
+        known,
+        both(words(c0, c1), words(c2, c3)),
+        NONE,
+    );
+}
+
+// The same of a stretch of the rows.
+pub fn stretch_at_level(
+    level: usize,
+    tau: usize,
+    k: usize,
+    w: usize,
+    t: usize,
+    row_bits: usize,
+    first: usize,
+    width: usize,
+    known: usize,
+    c0: u64,
+    c1: u64,
+    c2: u64,
+    c3: u64,
+) {
+    run_case(
+        Shape {
+            tau,
+            k,
+            w,
+            t,
+            level,
+        },
+        part(row_bits, first, width),
+        known,
+        both(words(c0, c1), words(c2, c3)),
         NONE,
     );
 }
@@ -87,10 +155,10 @@ pub fn stretch(
 // A case with any four numbers for a shape, and a challenge of zeros.
 pub fn refused_shape(tau: usize, k: usize, w: usize, t: usize, row_bits: usize) {
     run_case(
-        Shape { tau, k, w, t },
+        at_128(tau, k, w, t),
         whole(row_bits),
         COUNTING,
-        words(0, 0),
+        narrow(0, 0),
         NONE,
     );
 }
@@ -101,17 +169,17 @@ pub fn flipped(tau: usize, k: usize, t: usize, row_bits: usize, at: usize) {
         shape_of(tau, k, t),
         whole(row_bits),
         COUNTING,
-        words(0, 0),
+        narrow(0, 0),
         at,
     );
 }
 
 // Decode with any four numbers for a shape.
 pub fn decode(tau: usize, k: usize, w: usize, t: usize, c0: u64, c1: u64) {
-    decode_case(Shape { tau, k, w, t }, words(c0, c1));
+    decode_case(at_128(tau, k, w, t), words(c0, c1));
 }
 
 // Plan, in the same way.
 pub fn plan(tau: usize, k: usize, w: usize, t: usize, c0: u64, c1: u64) {
-    plan_case(Shape { tau, k, w, t }, words(c0, c1));
+    plan_case(at_128(tau, k, w, t), words(c0, c1));
 }

@@ -8,6 +8,7 @@ use test_support::lengths::part;
 use test_support::lengths::whole;
 use test_support::parts::front;
 use test_support::print::text;
+use vectors_calls::at_128;
 use vectors_calls::call_decode;
 use vectors_calls::call_plan;
 use vectors_calls::index_count;
@@ -112,7 +113,7 @@ pub fn probe_commit(
     which: usize,
     more: usize,
 ) {
-    commit_on(Shape { tau, k, w, t }, whole(row_bits), which, more);
+    commit_on(at_128(tau, k, w, t), whole(row_bits), which, more);
 }
 
 // The same with a stretch of the rows.
@@ -128,7 +129,7 @@ pub fn probe_commit_stretch(
     more: usize,
 ) {
     commit_on(
-        Shape { tau, k, w, t },
+        at_128(tau, k, w, t),
         part(row_bits, first, width),
         which,
         more,
@@ -137,7 +138,7 @@ pub fn probe_commit_stretch(
 
 // The first byte of the challenge is c.
 pub fn probe_open(tau: usize, k: usize, w: usize, t: usize, c: u8, which: usize, more: usize) {
-    let s = Shape { tau, k, w, t };
+    let s = at_128(tau, k, w, t);
     let places = Lengths {
         commitment: NONE,
         tree: 1,
@@ -214,7 +215,7 @@ pub fn probe_reconstruct(
     more: usize,
     set: usize,
 ) {
-    let s = Shape { tau, k, w, t };
+    let s = at_128(tau, k, w, t);
     reconstruct_on(s, whole(row_bits), c, which, more, set);
 }
 
@@ -232,7 +233,7 @@ pub fn probe_reconstruct_stretch(
     more: usize,
     set: usize,
 ) {
-    let s = Shape { tau, k, w, t };
+    let s = at_128(tau, k, w, t);
     reconstruct_on(s, part(row_bits, first, width), c, which, more, set);
 }
 
@@ -250,7 +251,7 @@ fn is_list_kept(a: &[u32; 512]) -> bool {
 
 // The first byte of the challenge is c. `which` is 2 where the challenge and the list have their lengths.
 pub fn probe_decode(tau: usize, k: usize, w: usize, t: usize, c: u8, which: usize, more: usize) {
-    let s = Shape { tau, k, w, t };
+    let s = at_128(tau, k, w, t);
     let mut challenge = [0u8; 512];
     challenge[0] = c;
     let mut list = [0xa5a5a5a5u32; 512];
@@ -266,7 +267,7 @@ pub fn probe_decode(tau: usize, k: usize, w: usize, t: usize, c: u8, which: usiz
 
 // The same of plan.
 pub fn probe_plan(tau: usize, k: usize, w: usize, t: usize, c: u8, which: usize, more: usize) {
-    let s = Shape { tau, k, w, t };
+    let s = at_128(tau, k, w, t);
     let mut challenge = [0u8; 512];
     challenge[0] = c;
     let mut list = [0xa5a5a5a5u32; 512];

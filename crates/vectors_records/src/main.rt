@@ -6,11 +6,18 @@
 //     flips(..)                                                      each bit of the record is flipped, and the record checked
 //     pairs(..)                                                      each of twelve edits is made, and every two of them, and the record checked
 //
+//     record_version_1(..), prefixes_version_1(..), flips_version_1(..)  the same of a record of version 1
+//     record_at_level(LEVEL, TAU, K, W, T, ROWBITS, ROOTIV, C0, C1, C2, C3)  the record at a level; the challenge is four words, of which the level takes the first bytes
+//
 // ROOTIV is that of crates/vectors; the challenge is two words, the least byte first.
 use record_cases::flips;
+use record_cases::flips_version_1;
 use record_cases::pairs;
 use record_cases::prefixes;
+use record_cases::prefixes_version_1;
 use record_cases::record;
+use record_cases::record_at_level;
+use record_cases::record_version_1;
 
 // One vector, so that the corrections have no bytes; two depths; the worked example of README.md.
 fn small_records() {
@@ -86,12 +93,71 @@ fn edited_records() {
     pairs(1, 1, 127, 1, 8, 13, 1, 0);
 }
 
+// The same contents in version 1.
+fn first_version() {
+    record_version_1(1, 1, 127, 1, 8, 13, 0, 0);
+    record_version_1(2, 2, 124, 4, 8, 13, 0xc, 0);
+    record_version_1(0, 0, 0, 0, 1680, 13, 0x512bd1311072231, 0x8ca59966ceab36);
+    record_version_1(2, 2, 124, 3, 8, 13, 0xc, 0);
+    prefixes_version_1(1, 1, 127, 1, 8, 13, 0, 0);
+    flips_version_1(1, 1, 127, 1, 8, 13, 0, 0);
+}
+
+// Levels 192 and 256: small trees, the fast sets, and refusals before there is a record.
+fn other_levels() {
+    record_at_level(192, 32, 2, 127, 70, 16, 13, 0x36f675cc81e74ef5, 0, 0, 0);
+    record_at_level(
+        256,
+        32,
+        4,
+        127,
+        140,
+        24,
+        24,
+        0x6f03675a1600a35a,
+        0x11e20b8f6b0d549b,
+        0,
+        0,
+    );
+    record_at_level(
+        192,
+        24,
+        7,
+        8,
+        163,
+        3088,
+        13,
+        0xf2a74de452e6b438,
+        0x6513270e269e0d37,
+        0xc5c7fa6a3a450,
+        0,
+    );
+    record_at_level(
+        256,
+        32,
+        7,
+        8,
+        246,
+        3888,
+        13,
+        0xd23f0824128b2f33,
+        0x1818e811892f902b,
+        0x9531985d5d9dc9f8,
+        0xe8e25d0ed90475,
+    );
+    record_at_level(192, 32, 2, 127, 70, 16, 13, 0, 2, 0, 0);
+    record_at_level(192, 0, 0, 0, 0, 8, 13, 0, 0, 0, 0);
+    record_at_level(160, 4, 9, 124, 36, 8, 13, 0, 0, 0, 0);
+}
+
 fn main() {
     small_records();
     named_sets();
     large_records();
     refused();
     edited_records();
+    first_version();
+    other_levels();
     prefixes(1, 1, 127, 1, 8, 13, 0, 0);
     prefixes(2, 2, 124, 4, 8, 13, 0, 0);
     flips(1, 1, 127, 1, 8, 13, 0, 0);

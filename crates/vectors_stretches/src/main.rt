@@ -2,10 +2,12 @@
 // each, which computes whole rows and cuts them: reference/derive_vectors.py derives it from the lines of this file.
 //
 //     stretch(TAU, K, W, T, ROWBITS, FIRST, WIDTH, ROOTIV, CHALLENGE, CHALLENGE)    the three calls, with the bytes FIRST to FIRST + WIDTH - 1 of every row
+//     stretch_at_level(LEVEL, TAU, K, W, T, ROWBITS, FIRST, WIDTH, ROOTIV, C0, C1, C2, C3)  the same at a level, as at_level of crates/vectors
 //     probe_commit_stretch(..), probe_reconstruct_stretch(..)                       one call, on buffers of which one may have a wrong length
 //
 // ROOTIV and the challenge are as in crates/vectors.
 use vectors_calls::stretch;
+use vectors_calls::stretch_at_level;
 use vectors_probes::probe_commit_stretch;
 use vectors_probes::probe_reconstruct_stretch;
 
@@ -219,6 +221,101 @@ fn order_of_reconstruct() {
     probe_reconstruct_stretch(2, 2, 124, 4, 24, 1, 2, 0, 8, 0, 128);
 }
 
+// Levels 192 and 256: the whole row, over the end of a block, the row's last byte, and no stretch.
+fn other_levels() {
+    stretch_at_level(
+        192,
+        32,
+        2,
+        127,
+        70,
+        136,
+        0,
+        17,
+        24,
+        0x36f675cc81e74ef5,
+        0,
+        0,
+        0,
+    );
+    stretch_at_level(
+        192,
+        32,
+        2,
+        127,
+        70,
+        512,
+        15,
+        20,
+        13,
+        0x36f675cc81e74ef5,
+        0,
+        0,
+        0,
+    );
+    stretch_at_level(
+        192,
+        24,
+        7,
+        8,
+        163,
+        3088,
+        100,
+        64,
+        13,
+        0xf2a74de452e6b438,
+        0x6513270e269e0d37,
+        0xc5c7fa6a3a450,
+        0,
+    );
+    stretch_at_level(
+        256,
+        32,
+        4,
+        127,
+        140,
+        512,
+        63,
+        1,
+        24,
+        0x6f03675a1600a35a,
+        0x11e20b8f6b0d549b,
+        0,
+        0,
+    );
+    stretch_at_level(
+        256,
+        32,
+        7,
+        8,
+        246,
+        3888,
+        470,
+        16,
+        25,
+        0xd23f0824128b2f33,
+        0x1818e811892f902b,
+        0x9531985d5d9dc9f8,
+        0xe8e25d0ed90475,
+    );
+    stretch_at_level(
+        256,
+        32,
+        4,
+        127,
+        140,
+        512,
+        63,
+        2,
+        24,
+        0x6f03675a1600a35a,
+        0x11e20b8f6b0d549b,
+        0,
+        0,
+    );
+    stretch_at_level(160, 4, 9, 124, 36, 512, 63, 2, 24, 0, 0, 0, 0);
+}
+
 fn main() {
     faest_128f();
     faest_128s();
@@ -231,4 +328,5 @@ fn main() {
     order_of_commit();
     lengths_of_reconstruct();
     order_of_reconstruct();
+    other_levels();
 }

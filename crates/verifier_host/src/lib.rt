@@ -11,6 +11,7 @@ pub extern "C" fn rachnoel_reconstruct(
     k: usize,
     w: usize,
     t: usize,
+    level: usize,
     row_bits: usize,
     iv: &[u8],
     challenge: &[u8],
@@ -22,14 +23,20 @@ pub extern "C" fn rachnoel_reconstruct(
     q: &mut [u8],
     count: &mut [u8],
 ) -> usize
-    ensures { λ r. ⌜ HostReconstruct faest (record { tau = tau; k = k; w = w; t = t }) «row_bits» (now (iv .entry)) (now (challenge .entry)) (now (corrections .entry)) (now (opening .entry))
+    ensures { λ r. ⌜ HostReconstruct faest (record { tau = tau; k = k; w = w; t = t; level = level }) «row_bits» (now (iv .entry)) (now (challenge .entry)) (now (corrections .entry)) (now (opening .entry))
         (record { commitment = now (commitment .entry); tree = now (tree .entry); leafCommitments = now («leaf_commitments» .entry); q = now (q .entry) })
         (record { commitment = now (commitment .exit); tree = now (tree .exit); leafCommitments = now («leaf_commitments» .exit); q = now (q .exit) })
         (now (count .entry)) (now (count .exit)) r ⌝ }
 {
     let n = host_words::passed_on(iv.len(), count.len());
     let a = verifier::reconstruct(
-        Shape { tau, k, w, t },
+        Shape {
+            tau,
+            k,
+            w,
+            t,
+            level,
+        },
         row_bits,
         &iv[..n],
         challenge,
@@ -50,6 +57,7 @@ pub extern "C" fn rachnoel_reconstruct_stretch(
     k: usize,
     w: usize,
     t: usize,
+    level: usize,
     row_bits: usize,
     first: usize,
     width: usize,
@@ -63,14 +71,20 @@ pub extern "C" fn rachnoel_reconstruct_stretch(
     q: &mut [u8],
     count: &mut [u8],
 ) -> usize
-    ensures { λ r. ⌜ HostReconstructStretch faest (record { tau = tau; k = k; w = w; t = t }) «row_bits» (record { first = first; width = width }) (now (iv .entry)) (now (challenge .entry)) (now (corrections .entry)) (now (opening .entry))
+    ensures { λ r. ⌜ HostReconstructStretch faest (record { tau = tau; k = k; w = w; t = t; level = level }) «row_bits» (record { first = first; width = width }) (now (iv .entry)) (now (challenge .entry)) (now (corrections .entry)) (now (opening .entry))
         (record { commitment = now (commitment .entry); tree = now (tree .entry); leafCommitments = now («leaf_commitments» .entry); q = now (q .entry) })
         (record { commitment = now (commitment .exit); tree = now (tree .exit); leafCommitments = now («leaf_commitments» .exit); q = now (q .exit) })
         (now (count .entry)) (now (count .exit)) r ⌝ }
 {
     let n = host_words::passed_on(iv.len(), count.len());
     let a = verifier::reconstruct_stretch(
-        Shape { tau, k, w, t },
+        Shape {
+            tau,
+            k,
+            w,
+            t,
+            level,
+        },
         row_bits,
         Stretch { first, width },
         &iv[..n],

@@ -35,7 +35,7 @@ fn hash_vector(w: usize, r: usize, lcs: &[u8], d: usize, hidden: &[u8], hash: &m
 // with d.
 fn add_visible(
     t: &[u8; 256],
-    m: &[[u64; 6]; 16],
+    m: &[[u64; 12]; 16],
     s: Shape,
     i: usize,
     d: usize,

@@ -10,12 +10,22 @@ pub extern "C" fn rachnoel_record_length(
     k: usize,
     w: usize,
     t: usize,
+    level: usize,
     row_bits: usize,
     length: &mut [u8],
 ) -> usize
-    ensures { λ r. ⌜ HostRecordLength (record { tau = tau; k = k; w = w; t = t }) «row_bits» (now (length .entry)) (now (length .exit)) r ⌝ }
+    ensures { λ r. ⌜ HostRecordLength (record { tau = tau; k = k; w = w; t = t; level = level }) «row_bits» (now (length .entry)) (now (length .exit)) r ⌝ }
 {
-    let n = record_writer::record_length(Shape { tau, k, w, t }, row_bits);
+    let n = record_writer::record_length(
+        Shape {
+            tau,
+            k,
+            w,
+            t,
+            level,
+        },
+        row_bits,
+    );
     if n.number != 0 {
         return n.number;
     }
@@ -34,6 +44,7 @@ pub extern "C" fn rachnoel_write_record(
     k: usize,
     w: usize,
     t: usize,
+    level: usize,
     row_bits: usize,
     iv: &[u8],
     challenge: &[u8],
@@ -43,11 +54,17 @@ pub extern "C" fn rachnoel_write_record(
     record: &mut [u8],
 ) -> usize
     ensures { λ r. ⌜ HostWriteRecord
-        (record { shape = record { tau = tau; k = k; w = w; t = t }; row = «row_bits»; iv = now (iv .entry); challenge = now (challenge .entry); corrections = now (corrections .entry); opening = now (opening .entry); commitment = now (commitment .entry) })
+        (record { shape = record { tau = tau; k = k; w = w; t = t; level = level }; row = «row_bits»; iv = now (iv .entry); challenge = now (challenge .entry); corrections = now (corrections .entry); opening = now (opening .entry); commitment = now (commitment .entry) })
         (now («record» .entry)) (now («record» .exit)) r ⌝ }
 {
     let a = record_writer::write_record(
-        Shape { tau, k, w, t },
+        Shape {
+            tau,
+            k,
+            w,
+            t,
+            level,
+        },
         row_bits,
         iv,
         challenge,

@@ -4,7 +4,7 @@
 //! A call returns 0, or the number of the first refusal that applies. With 0 the outputs and the count are written, and so they are with 11; with 5 and 6 the count
 //! alone; with any other number nothing.
 
-/// tau, k, w and t are no shape.
+/// tau, k, w, t and level are no shape.
 pub const SHAPE: usize = 1;
 /// The row length is no multiple of 8 from 8 to 65,536.
 pub const ROW: usize = 2;
@@ -25,10 +25,8 @@ pub const FIELD: usize = 10;
 /// The reconstructed commitment is not the record's.
 pub const MISMATCH: usize = 11;
 
-/// Bytes of a root, an IV, a challenge.
-pub const BLOCK: usize = 16;
-/// Bytes of a commitment.
-pub const COMMITMENT: usize = 32;
+/// Bytes of an IV.
+pub const IV: usize = 16;
 /// Bytes of a count.
 pub const COUNT: usize = 4;
 /// Bytes of the length of a record.
@@ -36,27 +34,36 @@ pub const RECORD_LENGTH: usize = 4;
 /// Bytes of the lengths of the work buffers.
 pub const WORK_LENGTHS: usize = 12;
 /// No record has more bytes.
-pub const RECORD_MOST: usize = 263_778;
+pub const RECORD_MOST: usize = 273_555;
 
 /// Bytes of stack for any call at any shape.
 pub const STACK: usize = 16 * 1024;
 
-/// A shape: tau vectors, the first 128 - w - tau k of depth k + 1 and the others of depth k, w grinding bits, at most t nodes.
+/// A shape: tau vectors, the first level - w - tau k of depth k + 1 and the others of depth k, w grinding bits, at most t nodes, and the security level in bits.
 #[derive(Clone, Copy, Debug, PartialEq, Eq)]
 pub struct Shape {
     pub tau: usize,
     pub k: usize,
     pub w: usize,
     pub t: usize,
+    pub level: usize,
 }
 
-/// Four zeros stand for FAEST-128f, which is 16, 7, 8, 110.
-pub const DEFAULT: Shape = Shape { tau: 0, k: 0, w: 0, t: 0 };
-pub const FAEST_128S: Shape = Shape { tau: 11, k: 11, w: 7, t: 102 };
+/// Four zeros at level 128 stand for FAEST-128f.
+pub const DEFAULT: Shape = Shape::new(0, 0, 0, 0, 128);
+pub const FAEST_128S: Shape = Shape::new(11, 11, 7, 102, 128);
+pub const FAEST_128F: Shape = Shape::new(16, 7, 8, 110, 128);
+pub const FAEST_192S: Shape = Shape::new(16, 11, 12, 162, 192);
+pub const FAEST_192F: Shape = Shape::new(24, 7, 8, 163, 192);
+pub const FAEST_256S: Shape = Shape::new(22, 11, 6, 245, 256);
+pub const FAEST_256F: Shape = Shape::new(32, 7, 8, 246, 256);
 
 /// The lengths of a shape's slices, in bytes.
 #[derive(Clone, Copy, Debug, PartialEq, Eq)]
 pub struct Lengths {
+    /// Of a root and of a challenge.
+    pub node: usize,
+    pub commitment: usize,
     pub indices: usize,
     pub nodes: usize,
     pub tree: usize,
@@ -69,26 +76,32 @@ pub struct Lengths {
 }
 
 impl Shape {
+    pub const fn new(tau: usize, k: usize, w: usize, t: usize, level: usize) -> Shape {
+        Shape { tau, k, w, t, level }
+    }
+
     /// The lengths with rows of so many bytes: row_bits / 8, or the width of a stretch. None where this is no shape.
     pub fn lengths(self, row_bytes: usize) -> Option<Lengths> {
-        let Shape { tau, k, w, t } = if self == DEFAULT { Shape { tau: 16, k: 7, w: 8, t: 110 } } else { self };
-        if !(1..=32).contains(&tau) || !(1..=12).contains(&k) || w > 127 || !(1..=512).contains(&t) {
+        let Shape { tau, k, w, t, level } = if self == DEFAULT { FAEST_128F } else { self };
+        if !(1..=32).contains(&tau) || !(1..=12).contains(&k) || w > 127 || !(1..=512).contains(&t) || ![128, 192, 256].contains(&level) {
             return None;
         }
-        let deeper = 128usize.checked_sub(w + tau * k)?;
+        let deeper = level.checked_sub(w + tau * k)?;
         if deeper >= tau || (deeper > 0 && k > 11) {
             return None;
         }
-        let leaves = (tau + deeper) << k;
+        let (leaves, node) = ((tau + deeper) << k, level / 8);
         Some(Lengths {
+            node,
+            commitment: 2 * node,
             indices: 4 * tau,
             nodes: 4 * t,
-            tree: 16 * (2 * leaves - 1),
-            leaf_commitments: 48 * leaves,
+            tree: node * (2 * leaves - 1),
+            leaf_commitments: 3 * node * leaves,
             u: row_bytes,
-            matrix: 128 * row_bytes,
+            matrix: level * row_bytes,
             corrections: (tau - 1) * row_bytes,
-            opening: 48 * tau + 16 * t,
+            opening: 3 * node * tau + node * t,
         })
     }
 }
@@ -111,6 +124,7 @@ macro_rules! call {
                     k: usize,
                     w: usize,
                     t: usize,
+                    level: usize,
                     $($number: usize,)*
                     $($read: *const u8, $read_len: usize,)*
                     $($write: *mut u8, $write_len: usize,)*
@@ -123,6 +137,7 @@ macro_rules! call {
                     shape.k,
                     shape.w,
                     shape.t,
+                    shape.level,
                     $($number,)*
                     $($read.as_ptr(), $read.len(),)*
                     $($write.as_mut_ptr(), $write.len(),)*

@@ -3,28 +3,34 @@
 use rachnoel::{number, Shape};
 use reference::record::{self, Record};
 
-const SHAPES: [(Shape, usize); 8] = [
-    (Shape { tau: 1, k: 1, w: 127, t: 1 }, 8),
-    (Shape { tau: 2, k: 2, w: 124, t: 4 }, 8),
-    (Shape { tau: 2, k: 1, w: 125, t: 300 }, 16),
-    (Shape { tau: 3, k: 1, w: 123, t: 6 }, 65_536),
-    (Shape { tau: 32, k: 4, w: 0, t: 512 }, 65_536),
-    (Shape { tau: 16, k: 7, w: 8, t: 110 }, 1_680),
+const SHAPES: [(Shape, usize); 14] = [
+    (Shape::new(1, 1, 127, 1, 128), 8),
+    (Shape::new(2, 2, 124, 4, 128), 8),
+    (Shape::new(2, 1, 125, 300, 128), 16),
+    (Shape::new(3, 1, 123, 6, 128), 65_536),
+    (Shape::new(32, 4, 0, 512, 128), 65_536),
+    (Shape::new(16, 7, 8, 110, 128), 1_680),
     (rachnoel::FAEST_128S, 1_680),
     (rachnoel::DEFAULT, 24),
+    (Shape::new(32, 2, 127, 70, 192), 16),
+    (Shape::new(32, 4, 127, 512, 256), 65_536),
+    (rachnoel::FAEST_192F, 3_088),
+    (rachnoel::FAEST_256F, 3_888),
+    (rachnoel::FAEST_192S, 3_088),
+    (rachnoel::FAEST_256S, 8),
 ];
 
 fn reference_shape(s: Shape) -> reference::shape::Shape {
-    reference::shape::Shape::new(s.tau, s.k, s.w, s.t)
+    reference::shape::Shape::at_level(s.tau, s.k, s.w, s.t, s.level)
 }
 
 #[test]
 fn written_and_checked() {
     for (shape, row_bits) in SHAPES {
         let n = shape.lengths(row_bits / 8).unwrap();
-        let [root, iv, challenge] = [3u8, 5, 0].map(|step| (0..16u8).map(|i| step * i).collect::<Vec<u8>>());
+        let [root, iv, challenge] = [(3u8, n.node as u8), (5, 16), (0, n.node as u8)].map(|(step, n)| (0..n).map(|i| step * i).collect::<Vec<u8>>());
         let [mut commitment, mut tree, mut coms, mut u, mut v, mut corrections, mut opening] =
-            [32, n.tree, n.leaf_commitments, n.u, n.matrix, n.corrections, n.opening].map(|n| vec![0u8; n]);
+            [n.commitment, n.tree, n.leaf_commitments, n.u, n.matrix, n.corrections, n.opening].map(|n| vec![0u8; n]);
         let mut count = [0xa5; 4];
         let made = rachnoel::commit(
             shape, row_bits, &root, &iv, &mut commitment, &mut tree, &mut coms, &mut u, &mut v, &mut corrections, &mut count,
@@ -70,14 +76,14 @@ fn written_and_checked() {
 /// Each refusal of the writer and of the lengths, in their order.
 #[test]
 fn refusals() {
-    let shape = Shape { tau: 2, k: 2, w: 124, t: 4 };
+    let shape = Shape::new(2, 2, 124, 4, 128);
     let none = Shape { t: 513, ..shape };
     for (s, row_bits, long, right) in [(none, 7, 3, 1), (shape, 7, 3, 2), (shape, 8, 3, 3), (shape, 8, 5, 3), (shape, 8, 0, 3), (shape, 8, 4, 0)] {
         let mut length = vec![0xa5; long];
         assert_eq!(rachnoel::record_length(s, row_bits, &mut length), right);
         assert_eq!(length.iter().all(|byte| *byte == 0xa5), right != 0);
     }
-    let long = 259;
+    let long = 260;
     let fields = [16, 16, 1, 160, 32];
     for (s, row_bits, wrong, right) in [(none, 7, 0, 1), (shape, 12, 0, 2), (shape, 8, 0, 3), (shape, 8, 1, 3), (shape, 8, 2, 3), (shape, 8, 3, 3), (shape, 8, 4, 3), (shape, 8, 5, 3), (shape, 8, 9, 0)] {
         let parts: Vec<Vec<u8>> = fields.iter().enumerate().map(|(i, n)| vec![7; n + usize::from(i == wrong)]).collect();
@@ -85,8 +91,11 @@ fn refusals() {
         let number = rachnoel::write_record(s, row_bits, &parts[0], &parts[1], &parts[2], &parts[3], &parts[4], &mut bytes);
         assert_eq!((number, bytes.iter().all(|byte| *byte == 0xa5)), (right, right != 0));
     }
-    let front = [1, 0, 0, 0, 9, 2, 2, 124, 0, 4, 0, 0, 0, 8];
-    for (n, change, long, right) in [(0, 0, 11, 9), (14, 0, 11, 9), (13, 14, 11, 10), (14, 5, 11, 1), (14, 13, 11, 2), (14, 14, 11, 3), (14, 14, 13, 3), (14, 14, 12, 0)] {
+    // the last byte of the front is the level's: 20 for 16 is another level
+    let front = [2, 0, 0, 0, 10, 2, 2, 124, 0, 4, 0, 0, 0, 8, 16];
+    for (n, change, long, right) in
+        [(0, 0, 11, 9), (15, 0, 11, 9), (14, 15, 11, 10), (15, 5, 11, 1), (15, 14, 11, 1), (15, 13, 11, 2), (15, 15, 11, 3), (15, 15, 13, 3), (15, 15, 12, 0)]
+    {
         let mut record = front[..n].to_vec();
         if let Some(byte) = record.get_mut(change) {
             *byte ^= 0x24;

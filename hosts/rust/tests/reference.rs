@@ -42,6 +42,9 @@ impl Dice {
 
     /// A shape of small depth, mostly allowed, half of them with two depths.
     fn shape(&mut self) -> Shape {
+        if self.one_in(5) {
+            return self.wide_shape();
+        }
         let k = 1 + self.below(6);
         let tau = 1 + self.below((128 / k).min(32));
         let left = 128 - tau * k;
@@ -49,23 +52,36 @@ impl Dice {
         let w = (left - deeper).min(127);
         let t = if self.one_in(4) { 1 + self.below(tau * k) } else { tau * k + 1 + self.below(8) };
         match self.below(60) {
-            0 => Shape { tau, k, w: w + 1, t },
-            1 => Shape { tau, k, w, t: 512 * self.below(3) },
+            0 => Shape::new(tau, k, w + 1, t, 128),
+            1 => Shape::new(tau, k, w, 512 * self.below(3), 128),
             2 => rachnoel::DEFAULT,
-            _ => Shape { tau, k, w, t },
+            3 => Shape::new(tau, k, w, t, 64 * self.below(8)),
+            4 => Shape { level: 64 * self.below(5), ..rachnoel::DEFAULT },
+            _ => Shape::new(tau, k, w, t, 128),
         }
+    }
+
+    /// A shape at level 192 or 256 with few leaves: the vectors share the bits that at most 127 grinding bits leave.
+    fn wide_shape(&mut self) -> Shape {
+        let level = if self.one_in(2) { 192 } else { 256 };
+        let bits = level - 127 + self.below(10);
+        let tau = 27 + self.below(6);
+        let k = bits / tau;
+        let t = if self.one_in(4) { 1 + self.below(tau * k) } else { tau * k + 1 + self.below(8) };
+        Shape::new(tau, k, level - bits, t, level)
     }
 
     /// A challenge whose grinding bits are mostly clear.
     fn challenge(&mut self, shape: Shape) -> Vec<u8> {
-        let mut challenge = self.bytes(16);
+        let mut challenge = self.bytes(node(shape));
         let w = if shape == rachnoel::DEFAULT { 8 } else { shape.w };
+        let bits = 8 * challenge.len();
         if !self.one_in(12) {
-            for n in 128 - w.min(128)..128 {
+            for n in bits - w.min(bits)..bits {
                 challenge[n / 8] &= !(1 << (n % 8));
             }
         }
-        let n = self.length(16);
+        let n = self.length(challenge.len());
         challenge.resize(n, 0);
         challenge
     }
@@ -95,7 +111,12 @@ impl Dice {
 // ---- what is compared
 
 fn theirs(s: Shape) -> reference::shape::Shape {
-    reference::shape::Shape { tau: s.tau, k: s.k, w: s.w, t: s.t }
+    reference::shape::Shape::at_level(s.tau, s.k, s.w, s.t, s.level)
+}
+
+/// The bytes of a root and of a challenge; of what is no shape any number will do.
+fn node(shape: Shape) -> usize {
+    shape.lengths(1).map_or(16, |n| n.node)
 }
 
 fn fresh(n: usize) -> Vec<u8> {
@@ -139,14 +160,15 @@ fn lengths() {
     for tau in 0..35 {
         for k in 0..15 {
             for w in 0..131 {
-                for t in [0, 1, 110, 512, 513] {
-                    let shape = Shape { tau, k, w, t };
+                for (t, level) in [0, 1, 110, 512, 513].into_iter().flat_map(|t| [128, 192, 256, 0, 160].map(|level| (t, level))) {
+                    let shape = Shape::new(tau, k, w, t, level);
                     let ours = shape.lengths(7);
                     let theirs = theirs(shape).resolve();
                     assert_eq!(ours.is_some(), theirs.is_some(), "{shape:?}");
                     let (Some(n), Some(s)) = (ours, theirs) else { continue };
+                    assert_eq!((n.node, n.commitment), (s.node_bytes(), s.commitment_bytes()));
                     assert_eq!((n.tree, n.leaf_commitments, n.opening), (s.tree_bytes(), s.leaf_commitments_bytes(), s.opening_bytes()));
-                    assert_eq!((n.indices, n.nodes, n.u, n.matrix, n.corrections), (4 * s.tau, 4 * s.t, 7, 896, 7 * s.tau - 7));
+                    assert_eq!((n.indices, n.nodes, n.u, n.matrix, n.corrections), (4 * s.tau, 4 * s.t, 7, 7 * s.level, 7 * s.tau - 7));
                     shapes += 1;
                 }
             }
@@ -199,12 +221,12 @@ fn halves() {
         let shape = dice.shape();
         let challenge = dice.challenge(shape);
         let bits = dice.row_bits();
-        let m = shape.lengths(bits / 8).unwrap_or(Shape { tau: 2, k: 2, w: 124, t: 4 }.lengths(bits / 8).unwrap());
-        let root = { let n = dice.length(16); dice.bytes(n) };
+        let m = shape.lengths(bits / 8).unwrap_or(Shape::new(2, 2, 124, 4, 128).lengths(bits / 8).unwrap());
+        let root = { let n = dice.length(m.node); dice.bytes(n) };
         let iv = { let n = dice.length(16); dice.bytes(n) };
 
         let n = dice.length(4);
-        let lens = [32, m.tree, m.leaf_commitments, m.u, m.matrix, m.corrections].map(|right| dice.length(right));
+        let lens = [m.commitment, m.tree, m.leaf_commitments, m.u, m.matrix, m.corrections].map(|right| dice.length(right));
         let (mut x, mut y, mut count) = (lens.map(fresh), lens.map(fresh), fresh(n));
         let [a0, a1, a2, a3, a4, a5] = &mut x;
         let number = rachnoel::commit(shape, bits, &root, &iv, a0, a1, a2, a3, a4, a5, &mut count);
@@ -227,7 +249,7 @@ fn halves() {
         if dice.one_in(10) {
             opening = dice.bytes(opening_len);
         }
-        let lens = [32, m.tree, m.leaf_commitments, m.matrix].map(|right| dice.length(right));
+        let lens = [m.commitment, m.tree, m.leaf_commitments, m.matrix].map(|right| dice.length(right));
         let (mut y, mut z, mut count) = (lens.map(fresh), lens.map(fresh), fresh(n));
         let [a0, a1, a2, a3] = &mut y;
         let number = rachnoel::reconstruct(shape, bits, &iv, &challenge, &x[5], &opening, a0, a1, a2, a3, &mut count);
@@ -263,19 +285,19 @@ fn stretches() {
         let b = bits / 8;
         let (first, width) = dice.stretch(b);
         let refusal = stretch_refusal(shape, bits, first, width);
-        let some = Shape { tau: 2, k: 2, w: 124, t: 4 };
+        let some = Shape::new(2, 2, 124, 4, 128);
         let whole = shape.lengths(b).unwrap_or(some.lengths(b).unwrap());
         let m = shape.lengths(width).unwrap_or(some.lengths(width).unwrap());
-        let (root, iv) = (dice.bytes(16), dice.bytes(16));
+        let (root, iv) = (dice.bytes(m.node), dice.bytes(16));
 
         // commit: whole rows by the second implementation, with inputs that it refuses where a length is wrong
         let n = dice.length(4);
-        let rights = [32, m.tree, m.leaf_commitments, m.u, m.matrix, m.corrections];
+        let rights = [m.commitment, m.tree, m.leaf_commitments, m.u, m.matrix, m.corrections];
         let lens = rights.map(|right| dice.length(right));
         let (mut x, mut count) = (lens.map(fresh), fresh(n));
         let [a0, a1, a2, a3, a4, a5] = &mut x;
         let number = rachnoel::commit_stretch(shape, bits, first, width, &root, &iv, a0, a1, a2, a3, a4, a5, &mut count);
-        let mut y = [32, whole.tree, whole.leaf_commitments, whole.u, whole.matrix, whole.corrections].map(fresh);
+        let mut y = [whole.commitment, whole.tree, whole.leaf_commitments, whole.u, whole.matrix, whole.corrections].map(fresh);
         let mut answer = Answer { number: refusal.unwrap_or(0), count: 0 };
         if refusal.is_none() {
             let [a0, a1, a2, a3, a4, a5] = &mut y;
@@ -302,12 +324,12 @@ fn stretches() {
         }
         let cut_corrections = if refusal.is_none() { cut(&y[5], b, first, width) } else { fresh(m.corrections.min(1 << 16)) };
         let n = dice.length(4);
-        let rights = [32, m.tree, m.leaf_commitments, m.matrix];
+        let rights = [m.commitment, m.tree, m.leaf_commitments, m.matrix];
         let lens = rights.map(|right| dice.length(right));
         let (mut x, mut count) = (lens.map(fresh), fresh(n));
         let [a0, a1, a2, a3] = &mut x;
         let number = rachnoel::reconstruct_stretch(shape, bits, first, width, &iv, &challenge, &cut_corrections, &opening, a0, a1, a2, a3, &mut count);
-        let mut z = [32, whole.tree, whole.leaf_commitments, whole.matrix].map(fresh);
+        let mut z = [whole.commitment, whole.tree, whole.leaf_commitments, whole.matrix].map(fresh);
         let mut answer = Answer { number: refusal.unwrap_or(0), count: 0 };
         if refusal.is_none() {
             let [a0, a1, a2, a3] = &mut z;
@@ -327,14 +349,22 @@ fn stretches() {
     seen[1].all(&[0, 1, 2, 3, 4, 5, 6, 8], 10);
 }
 
-/// The two sets of document 000 at their row length.
+/// The sets of document 000 with kind 0, at their row lengths.
 #[test]
 fn named_sets() {
     let mut dice = Dice(5);
-    for shape in [rachnoel::DEFAULT, rachnoel::FAEST_128S] {
-        let (bits, m) = (1680, shape.lengths(210).unwrap());
-        let (root, iv) = (dice.bytes(16), dice.bytes(16));
-        let lens = [32, m.tree, m.leaf_commitments, m.u, m.matrix, m.corrections];
+    let sets = [
+        (rachnoel::DEFAULT, 1680),
+        (rachnoel::FAEST_128S, 1680),
+        (rachnoel::FAEST_192S, 3088),
+        (rachnoel::FAEST_192F, 3088),
+        (rachnoel::FAEST_256S, 3888),
+        (rachnoel::FAEST_256F, 3888),
+    ];
+    for (shape, bits) in sets {
+        let m = shape.lengths(bits / 8).unwrap();
+        let (root, iv) = (dice.bytes(m.node), dice.bytes(16));
+        let lens = [m.commitment, m.tree, m.leaf_commitments, m.u, m.matrix, m.corrections];
         let (mut x, mut y, mut count) = (lens.map(fresh), lens.map(fresh), fresh(4));
         let [a0, a1, a2, a3, a4, a5] = &mut x;
         assert_eq!(rachnoel::commit(shape, bits, &root, &iv, a0, a1, a2, a3, a4, a5, &mut count), 0);
@@ -343,8 +373,9 @@ fn named_sets() {
         assert!(x == y, "commit {shape:?}");
         let mut opening = fresh(m.opening);
         let challenge = loop {
-            let mut challenge = dice.bytes(16);
-            challenge[15] = 0;
+            let mut challenge = dice.bytes(m.node);
+            let last = if shape.tau == 16 && shape.level == 192 { 2 } else { 1 };
+            challenge[m.node - last..].fill(0);
             if rachnoel::open(shape, &challenge, &x[1], &x[2], &mut opening, &mut count) == 0 {
                 break challenge;
             }
@@ -352,7 +383,7 @@ fn named_sets() {
         let mut expected = fresh(m.opening);
         assert_eq!(calls::open(theirs(shape), &challenge, &x[1], &x[2], &mut expected).number, 0);
         assert!(opening == expected, "open {shape:?}");
-        let lens = [32, m.tree, m.leaf_commitments, m.matrix];
+        let lens = [m.commitment, m.tree, m.leaf_commitments, m.matrix];
         let (mut y, mut z) = (lens.map(fresh), lens.map(fresh));
         let [a0, a1, a2, a3] = &mut y;
         assert_eq!(rachnoel::reconstruct(shape, bits, &iv, &challenge, &x[5], &opening, a0, a1, a2, a3, &mut count), 0);

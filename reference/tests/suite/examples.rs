@@ -2,7 +2,9 @@
 
 use reference::bavc::{node_count, pos_in_tree};
 use reference::calls::{decode, plan, Answer};
-use reference::shape::{Shape, DEFAULT, FAEST_128S};
+use reference::shape::{
+    Shape, DEFAULT, FAEST_128S, FAEST_192F, FAEST_192S, FAEST_256F, FAEST_256S,
+};
 
 use crate::support::{allowed, first_byte, indices, noise, revealed};
 
@@ -73,8 +75,26 @@ fn indices_are_bits_least_first() {
     assert_eq!(list, [6, 6, 6, 0, 0]);
 }
 
+/// Table 3.2 and 5.1 of document 000: τ_1, L and the bytes of an opening.
+#[test]
+fn the_sets_of_192_and_256() {
+    for (shape, tau_1, leaves, opening) in [
+        (FAEST_192S, 4, 40_960, 5_040),
+        (FAEST_192F, 16, 5_120, 5_640),
+        (FAEST_256S, 8, 61_440, 9_952),
+        (FAEST_256F, 24, 7_168, 10_944),
+    ] {
+        assert_eq!(shape.resolve(), Some(shape));
+        assert_eq!((shape.tau_1(), shape.leaves()), (tau_1, leaves));
+        assert_eq!(shape.opening_bytes(), opening);
+        assert_eq!(shape.tree_bytes(), shape.level / 8 * (2 * leaves - 1));
+        let last = shape.entries(tau_1 - 1) - 1;
+        assert_eq!(pos_in_tree(&shape, tau_1 - 1, last), 2 * leaves - 2);
+    }
+}
+
 /// Shapes with leaves on one level and on two, with and without grinding.
-const SHAPES: [Shape; 12] = [
+const SHAPES: [Shape; 20] = [
     Shape::new(1, 1, 127, 512),
     Shape::new(1, 12, 116, 512),
     Shape::new(2, 1, 126, 512),
@@ -87,6 +107,14 @@ const SHAPES: [Shape; 12] = [
     Shape::new(31, 4, 4, 512),
     Shape::new(32, 4, 0, 512),
     Shape::new(11, 11, 7, 512),
+    Shape::at_level(32, 2, 127, 512, 192),
+    Shape::at_level(32, 6, 0, 512, 192),
+    Shape::at_level(24, 7, 8, 512, 192),
+    Shape::at_level(6, 11, 125, 512, 192),
+    Shape::at_level(32, 4, 127, 512, 256),
+    Shape::at_level(32, 8, 0, 512, 256),
+    Shape::at_level(22, 11, 6, 512, 256),
+    Shape::at_level(21, 12, 4, 512, 256),
 ];
 
 #[test]
@@ -94,9 +122,9 @@ fn plan_and_decode_by_the_definitions() {
     for shape in SHAPES {
         for seed in 0..8 {
             let bytes = match seed {
-                0 => vec![0; 16],
-                1 => vec![0xff; 16],
-                _ => noise(seed, 16),
+                0 => vec![0; shape.level / 8],
+                1 => vec![0xff; shape.level / 8],
+                _ => noise(seed, shape.level / 8),
             };
             let challenge = allowed(&shape, &bytes);
             let mut list = vec![UNTOUCHED; shape.tau];

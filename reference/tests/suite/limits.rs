@@ -79,26 +79,116 @@ fn shapes_of_the_paper() {
     }
 }
 
-#[test]
-fn how_many_shapes_there_are() {
-    // 2980 triples of τ up to 32, k up to 12 and w up to 127 leave r from 0 to
-    // τ - 1, and 0 where k is 12 (python3: sum(0 <= 128 - w - t * k < t and
-    // (128 - w == t * k or k < 12) for t in range(1, 33) for k in range(1, 13)
-    // for w in range(128))); two of the four T are allowed; and there are the
-    // zeros.
+/// How many shapes with numbers up to 140 and these T there are at a level.
+fn allowed(level: usize, allowances: &[usize]) -> usize {
     let mut allowed = 0;
     for tau in 0..=140 {
         for k in 0..=140 {
             for w in 0..=140 {
-                for t in [0, 1, 512, 513] {
-                    if Shape::new(tau, k, w, t).resolve().is_some() {
+                for &t in allowances {
+                    if Shape::at_level(tau, k, w, t, level).resolve().is_some() {
                         allowed += 1;
                     }
                 }
             }
         }
     }
-    assert_eq!(allowed, 2 * 2980 + 1);
+    allowed
+}
+
+#[test]
+fn how_many_shapes_there_are() {
+    // 2980 triples of τ up to 32, k up to 12 and w up to 127 leave r from 0 to
+    // τ - 1, and 0 where k is 12 (python3: sum(0 <= 128 - w - t * k < t and
+    // (128 - w == t * k or k < 12) for t in range(1, 33) for k in range(1, 13)
+    // for w in range(128))), and 2796 and 2112 with 192 and 256 for 128; two of
+    // the four T are allowed; and at 128 there are the zeros.
+    let allowances = [0, 1, 512, 513];
+    assert_eq!(allowed(128, &allowances), 2 * 2980 + 1);
+    assert_eq!(allowed(192, &allowances), 2 * 2796);
+    assert_eq!(allowed(256, &allowances), 2 * 2112);
+    for level in [0, 8, 16, 24, 32, 64, 127, 129, 160, 224, 384] {
+        assert_eq!(allowed(level, &[0, 1]), 0, "{level}");
+    }
+}
+
+/// 64 bits more are at least two more for each of at most 32 vectors.
+#[test]
+fn no_numbers_are_a_shape_of_two_levels() {
+    for tau in 1..=32 {
+        for k in 1..=12 {
+            for w in 0..=127 {
+                let levels = [128, 192, 256].map(|level| Shape::at_level(tau, k, w, 1, level));
+                let shapes = levels.iter().filter(|shape| shape.resolve().is_some());
+                assert!(shapes.count() <= 1, "{tau} {k} {w}");
+            }
+        }
+    }
+}
+
+#[test]
+fn shapes_of_192_and_256() {
+    for (tau, k, w, t, level) in [
+        (16, 11, 12, 162, 192),
+        (24, 7, 8, 163, 192),
+        (22, 11, 6, 245, 256),
+        (32, 7, 8, 246, 256),
+        // The fewest leaves, the most of each number, and sets that document 000
+        // has not.
+        (32, 2, 127, 1, 192),
+        (32, 6, 0, 512, 192),
+        (16, 12, 0, 1, 192),
+        (6, 11, 125, 1, 192),
+        (6, 12, 120, 512, 192),
+        (32, 4, 127, 1, 256),
+        (32, 8, 0, 512, 256),
+        (21, 12, 4, 1, 256),
+        (11, 12, 124, 1, 256),
+        (22, 11, 14, 512, 256),
+    ] {
+        let shape = Shape::at_level(tau, k, w, t, level);
+        assert_eq!(numbers(shape), NOT_REFUSED, "{shape:?}");
+        for other in [0, 128, 192, 256, level - 1, level + 1, level / 8, 8 * level] {
+            let moved = Shape {
+                level: other,
+                ..shape
+            };
+            if other != level {
+                assert_eq!(numbers(moved), REFUSED, "{moved:?}");
+            }
+        }
+    }
+    for (tau, k, w, t, level) in [
+        (0, 0, 0, 0, 0),
+        (0, 0, 0, 0, 127),
+        (0, 0, 0, 0, 160),
+        (0, 0, 0, 0, 192),
+        (0, 0, 0, 0, 256),
+        (0, 0, 0, 0, usize::MAX),
+        (0, 0, 0, 1, 192),
+        // w above 127, depths above 12, sums that miss the level by one.
+        (32, 2, 128, 1, 192),
+        (32, 4, 128, 1, 256),
+        (8, 8, 128, 40, 192),
+        (15, 12, 11, 162, 192),
+        (21, 12, 3, 245, 256),
+        (16, 12, 1, 162, 192),
+        (33, 5, 27, 162, 192),
+        (33, 7, 25, 245, 256),
+        (24, 7, 8, 0, 192),
+        (24, 7, 8, 513, 192),
+        (24, 8, 8, 163, 192),
+        (24, 6, 8, 163, 192),
+        // Numbers modulo a word that would be allowed.
+        (24, 7, 8, 163, (1 << 32) + 192),
+        (24, 7, 8, 163, (1 << 63) + 192),
+        (24, 7, 8, 163, usize::MAX),
+        (usize::MAX, usize::MAX, 127, 163, 256),
+        (24, 7, (1 << 32) + 8, 163, 192),
+    ] {
+        let shape = Shape::at_level(tau, k, w, t, level);
+        assert_eq!(numbers(shape), REFUSED, "{shape:?}");
+    }
 }
 
 #[test]

@@ -225,23 +225,35 @@ fn fields_have_orders_2_to_their_widths() {
     check_order::<12>();
 }
 
-#[test]
-fn leaf_hash_multiplies_then_adds() {
-    // h = A * x0 + x1 with x0 = α^127 + 1, by 127 doublings of A.
-    let uhash: [u8; 48] = hex(A).try_into().unwrap();
-    let x0 = block("01000000000000000000000000000080");
-    let mut doubled = uhash;
-    for _ in 0..127 {
-        let carry = doubled[47] >> 7;
-        for n in (1..48).rev() {
+/// h = u * x0 + x1 with x0 = α^(λ - 1) + 1, by λ - 1 doublings of u, each of which
+/// takes α^(3λ) for these bits.
+fn check_leaf_hash(level: usize, bits: &[usize]) {
+    let long = 3 * level / 8;
+    let uhash: Vec<u8> = hex(A).into_iter().cycle().take(long).collect();
+    let x1: Vec<u8> = hex(B).into_iter().cycle().take(long).collect();
+    let mut x0 = vec![0; level / 8];
+    x0[0] = 0x01;
+    x0[level / 8 - 1] = 0x80;
+    let mut doubled = uhash.clone();
+    for _ in 0..level - 1 {
+        let carry = doubled[long - 1] >> 7;
+        for n in (1..long).rev() {
             doubled[n] = doubled[n] << 1 | doubled[n - 1] >> 7;
         }
-        doubled[0] = (doubled[0] << 1) ^ (0b1101 * carry);
-        doubled[1] ^= 0b1_0000 * carry;
+        doubled[0] <<= 1;
+        for bit in bits {
+            doubled[bit / 8] ^= carry << (bit % 8);
+        }
     }
-    let x1 = hex(B);
-    let expected: Vec<u8> = (0..48).map(|n| uhash[n] ^ doubled[n] ^ x1[n]).collect();
-    assert_eq!(leaf_hash(&uhash, &x0, &x1).to_vec(), expected);
+    let expected: Vec<u8> = (0..long).map(|n| uhash[n] ^ doubled[n] ^ x1[n]).collect();
+    assert_eq!(leaf_hash(&uhash, &x0, &x1), expected, "level {level}");
+}
+
+#[test]
+fn leaf_hash_multiplies_then_adds() {
+    check_leaf_hash(128, &[0, 2, 3, 12]);
+    check_leaf_hash(192, &[0, 3, 4, 13]);
+    check_leaf_hash(256, &[0, 4, 17, 19]);
 }
 
 #[test]
@@ -272,10 +284,49 @@ fn generator_with_words_that_wrap() {
 }
 
 #[test]
+fn generator_of_24_and_32_byte_keys() {
+    // AES-192-ECB and AES-256-ECB of the Python package cryptography, as above.
+    let iv = block("feffffff0102030405060708ffffffff");
+    let key: Vec<u8> = (0..32).collect();
+    for (length, expected) in [
+        (
+            24,
+            "001a1ae9fa49b2d0aa4df9b33a2bc91b068deae7b6b841379c35f17074373667\
+             1359049d8c00ffa3f9ff58e802188e93a1fd78714a",
+        ),
+        (
+            32,
+            "6a88d58c9718137d814c4210679f0ce451d41816f2b921569fbfc8878f43a907\
+             3c8c2b1c25a1a448c28e4d5577f7eaaf68e45a5c5f",
+        ),
+    ] {
+        assert_eq!(prg(&key[..length], &iv, 1, 8 * 53), hex(expected));
+    }
+}
+
+#[test]
+fn hashes_of_192_and_256_with_their_domain_bytes() {
+    // hashlib.shake_256(b"\x11" * 16 + b"\x00"): of its output of three keys the
+    // second, and hashlib.shake_256(b"abc\x01").
+    let expected = "73dca0c0716deff6aaae02ee45f23d58251c507bf25049f55a97f801d377eb1a\
+                    16b76c57e7b63b7c9790252db5ad1d778516df5b07f5d39f0b4e71f4821d4848\
+                    1ae3a9ca08d18f0b";
+    assert_eq!(h0(192, &[0x11; 16], 3)[1], hex(expected));
+    let expected = "5a97f801d377eb1a16b76c57e7b63b7c9790252db5ad1d778516df5b07f5d39f\
+                    0b4e71f4821d48481ae3a9ca08d18f0beb9c1ee5e917c26ddebbf3fb6b16eb79\
+                    d08f89a92a29784f3b04bba0b22b6623dd7dfa0e42c20c5119b3af8d7c3edc6a";
+    assert_eq!(h0(256, &[0x11; 16], 3)[1], hex(expected));
+    let expected = "5bbbc1e4046c631801bb3a28a89d8a4791f089f4144ffd35ce83a9bc7c2e2476\
+                    800aeb919178f82e89f699d385630c29490e9ebd75cb70db071a08f7fd5e5ac4";
+    assert_eq!(h1(192, b"abc"), hex(expected)[..48]);
+    assert_eq!(h1(256, b"abc"), hex(expected));
+}
+
+#[test]
 fn hashes_with_their_domain_bytes() {
     // hashlib.shake_128(b"\x11" * 16 + b"\x00").digest(144) in three keys, and
     // hashlib.shake_128(b"abc\x01").digest(32).
-    let keys = h0(&[0x11; 16], 3);
+    let keys = h0(128, &[0x11; 16], 3);
     assert_eq!(keys.len(), 3);
     assert_eq!(
         keys.concat(),
@@ -288,5 +339,5 @@ fn hashes_with_their_domain_bytes() {
         )
     );
     let expected = "3b988e5af2df3b23c26709fb4bbb3d404174087eabd536e3cfbf0d47450aff39";
-    assert_eq!(h1(b"abc").to_vec(), hex(expected));
+    assert_eq!(h1(128, b"abc"), hex(expected));
 }

@@ -3,7 +3,7 @@
 //! `field_576` and `field_768`: the same inputs, derived here.
 
 use reference::shake::{shake128, shake256};
-use reference::{aes, bavc, field, prg, shape};
+use reference::{aes, bavc, prg, shape};
 
 /// The numbers of a list as a file of `crates` writes it, `1 ∷ 2 ∷ []`, after `mark`.
 fn numbers(file: &str, mark: &str) -> Vec<usize> {
@@ -31,7 +31,7 @@ fn array<const N: usize>(bytes: Vec<u8>) -> [u8; N] {
 
 #[test]
 fn generator_blocks_5_and_511() {
-    let (key, iv) = (array(proved("\nkey =")), array(proved("\niv =")));
+    let (key, iv) = (proved("\nkey ="), array(proved("\niv =")));
     let output = prg::prg(&key, &iv, (1 << 31) + 3, 512 * 128);
     assert_eq!(output[80..96], proved("(2 ^ 31 + 3) 5\n    ≡ "));
     assert_eq!(output[8176..], proved("(2 ^ 31 + 3) 511\n    ≡ "));
@@ -88,38 +88,31 @@ fn shake256_of_the_empty_message_and_of_300_bytes() {
 fn hashes_of_the_iv() {
     let iv: [u8; 16] = array(proved("\niv ="));
     assert_eq!(
-        prg::h0(&iv, 1)[0][..32],
+        prg::h0(128, &iv, 1)[0][..32],
         proved("h0 faest128s iv 32\n    ≡ ")
     );
-    assert_eq!(prg::h1(&iv)[..], proved("h1 faest128s iv\n    ≡ "));
+    assert_eq!(prg::h1(128, &iv), proved("h1 faest128s iv\n    ≡ "));
 }
 
 #[test]
 fn leaf_hash() {
-    let hashed = bavc::leaf_hash(
-        &array(proved("\nu =")),
-        &array(proved("\nx₀ =")),
-        &proved("\nx₁ ="),
-    );
-    assert_eq!(hashed[..], proved("u x₀ x₁\n    ≡ number 8\n    "));
-}
-
-fn check_wide_leaf_hash<const N: usize>() {
-    let listed = |mark: &str| bytes(&format!("field_{}/proofs/KnownAnswers.antt", 64 * N), mark);
-    let hashed = field::leaf_hash::<N>(&listed("\nu ="), &listed("\nx₀ ="), &listed("\nx₁ ="));
-    assert_eq!(hashed, listed("u x₀ x₁\n    ≡ number 8\n    "));
+    let hashed = bavc::leaf_hash(&proved("\nu ="), &proved("\nx₀ ="), &proved("\nx₁ ="));
+    assert_eq!(hashed, proved("u x₀ x₁\n    ≡ number 8\n    "));
 }
 
 #[test]
 fn leaf_hashes_of_576_and_768_bits() {
-    check_wide_leaf_hash::<9>();
-    check_wide_leaf_hash::<12>();
+    for bits in [576, 768] {
+        let listed = |mark: &str| bytes(&format!("field_{bits}/proofs/KnownAnswers.antt"), mark);
+        let hashed = bavc::leaf_hash(&listed("\nu ="), &listed("\nx₀ ="), &listed("\nx₁ ="));
+        assert_eq!(hashed, listed("u x₀ x₁\n    ≡ number 8\n    "));
+    }
 }
 
 #[test]
 fn hidden_indices_of_faest_128s() {
     let file = "spec/proofs/Examples.antt";
-    let challenge = array(bytes(file, "\nvaried ="));
+    let challenge = bytes(file, "\nvaried =");
     assert_eq!(
         shape::decode_all_chall(&shape::FAEST_128S, &challenge),
         numbers(file, "hiddenIndices faest128s varied\n    ≡ ")

@@ -2,7 +2,9 @@
 //! nothing is written but with 0 and 11.
 
 use reference::calls::{commit, open, Answer, Refusal};
-use reference::record::{check_record, read, record_bytes, work_lengths, write_record, Record};
+use reference::record::{
+    check_record, read, record_bytes, version_1, work_lengths, write_record, Record,
+};
 use reference::shape::Shape;
 
 use crate::support::{first_byte, noise};
@@ -30,15 +32,15 @@ impl Signed {
             challenge: challenge.to_vec(),
             corrections: vec![0; (meant.tau - 1) * b],
             opening: vec![0; meant.opening_bytes()],
-            commitment: vec![0; 32],
+            commitment: vec![0; meant.level / 4],
         };
         let mut tree = vec![0; meant.tree_bytes()];
         let mut coms = vec![0; meant.leaf_commitments_bytes()];
-        let (mut u, mut v) = (vec![0; b], vec![0; 128 * b]);
+        let (mut u, mut v) = (vec![0; b], vec![0; meant.level * b]);
         let answer = commit(
             shape,
             row_bits,
-            &noise(1, 16),
+            &noise(1, meant.level / 8),
             &signed.iv,
             &mut signed.commitment,
             &mut tree,
@@ -92,7 +94,7 @@ fn answer_of(bytes: &[u8], lengths: [usize; 3]) -> (u32, u32) {
     (answer.number, answer.count)
 }
 
-const SHAPES: [(Shape, usize); 7] = [
+const SHAPES: [(Shape, usize); 11] = [
     (Shape::new(1, 1, 127, 1), 8),
     (Shape::new(2, 2, 124, 4), 8),
     (Shape::new(2, 1, 125, 4), 16),
@@ -100,12 +102,16 @@ const SHAPES: [(Shape, usize); 7] = [
     (Shape::new(32, 3, 1, 512), 72),
     (Shape::new(16, 7, 8, 110), 136),
     (Shape::new(0, 0, 0, 0), 8),
+    (Shape::at_level(32, 2, 127, 40, 192), 8),
+    (Shape::at_level(24, 7, 8, 163, 192), 24),
+    (Shape::at_level(32, 4, 127, 300, 256), 136),
+    (Shape::at_level(32, 7, 8, 246, 256), 8),
 ];
 
 #[test]
 fn a_written_record_is_read_back_and_accepted() {
     for (shape, row_bits) in SHAPES {
-        let signed = Signed::new(shape, row_bits, &[0; 16]);
+        let signed = Signed::new(shape, row_bits, &vec![0; shape.level / 8]);
         let bytes = signed.written();
         assert_eq!(read(&bytes), Ok(signed.record()));
         let lengths = work_lengths(&bytes).unwrap();
@@ -118,12 +124,90 @@ fn a_written_record_is_read_back_and_accepted() {
 #[test]
 fn the_bytes_of_a_small_record() {
     let bytes = Signed::new(Shape::new(1, 1, 127, 1), 8, &[0; 16]).written();
-    assert_eq!(bytes.len(), 162);
-    let front = [1, 0, 0, 0, 9, 1, 1, 127, 0, 1, 0, 0, 0, 8, 0, 0, 0, 16];
-    assert_eq!(bytes[..18], front);
-    assert_eq!(bytes[34..38], [0, 0, 0, 16]);
-    assert_eq!(bytes[54..62], [0, 0, 0, 0, 0, 0, 0, 64]);
-    assert_eq!(bytes[126..130], [0, 0, 0, 32]);
+    assert_eq!(bytes.len(), 163);
+    let front = [2, 0, 0, 0, 10, 1, 1, 127, 0, 1, 0, 0, 0, 8, 16, 0, 0, 0, 16];
+    assert_eq!(bytes[..19], front);
+    assert_eq!(bytes[35..39], [0, 0, 0, 16]);
+    assert_eq!(bytes[55..63], [0, 0, 0, 0, 0, 0, 0, 64]);
+    assert_eq!(bytes[127..131], [0, 0, 0, 32]);
+}
+
+#[test]
+fn the_bytes_of_a_record_of_192_and_of_256() {
+    for (shape, level_byte, long) in [
+        (Shape::at_level(32, 2, 127, 40, 192), 24, 3_418),
+        (Shape::at_level(32, 4, 127, 40, 256), 32, 4_530),
+    ] {
+        let n = level_byte as usize;
+        let bytes = Signed::new(shape, 8, &vec![0; n]).written();
+        assert_eq!(bytes.len(), long);
+        let (k, opening) = (shape.k as u8, 3 * n * 32 + n * 40);
+        assert_eq!(bytes[..9], [2, 0, 0, 0, 10, 32, k, 127, 0]);
+        assert_eq!(bytes[9..15], [40, 0, 0, 0, 8, level_byte]);
+        assert_eq!(bytes[15..19], [0, 0, 0, 16]);
+        assert_eq!(bytes[35..39], [0, 0, 0, level_byte]);
+        let at = 39 + n;
+        assert_eq!(bytes[at..at + 4], [0, 0, 0, 31]);
+        let at = at + 4 + 31;
+        assert_eq!(bytes[at..at + 4], (opening as u32).to_be_bytes());
+        let at = at + 4 + opening;
+        assert_eq!(bytes[at..at + 4], (2 * n as u32).to_be_bytes());
+        assert_eq!(at + 4 + 2 * n, long);
+    }
+}
+
+/// A version 1 record and a version 2 record of level 128 with one content: both are
+/// read as it and accepted with the same count and the same buffers.
+#[test]
+fn versions_1_and_2() {
+    for (shape, row_bits) in SHAPES.into_iter().filter(|(shape, _)| shape.level == 128) {
+        let signed = Signed::new(shape, row_bits, &[0; 16]);
+        let (older, newer) = (version_1(&signed.record()), signed.written());
+        assert_eq!(older[..5], [1, 0, 0, 0, 9]);
+        assert_eq!(newer[..5], [2, 0, 0, 0, 10]);
+        assert_eq!(older[5..14], newer[5..14]);
+        assert_eq!((newer[14], &older[14..]), (16, &newer[15..]));
+        assert_eq!(read(&older), Ok(signed.record()));
+        assert_eq!(read(&older), read(&newer));
+        let lengths = work_lengths(&newer).unwrap();
+        assert_eq!(work_lengths(&older), Ok(lengths));
+        let (answer, _, after) = checked(&newer, lengths);
+        assert_eq!(answer.number, 0);
+        assert_eq!(checked(&older, lengths), checked(&newer, lengths));
+        // The head of one version with the byte of the other: 10.
+        for (bytes, other) in [(&older, 2), (&newer, 1)] {
+            let mut swapped = bytes.clone();
+            swapped[0] = other;
+            assert_eq!(answer_of(&swapped, lengths), (10, 0));
+        }
+        assert!(!after[2].is_empty());
+    }
+}
+
+/// A level byte that is none is 1, before a row length and before a field that is
+/// wrong; one that the numbers do not add up to is 1 as well.
+#[test]
+fn every_level_byte() {
+    for (shape, byte) in [
+        (Shape::new(2, 2, 124, 4), 16),
+        (Shape::new(0, 0, 0, 0), 16),
+        (Shape::at_level(32, 2, 127, 40, 192), 24),
+        (Shape::at_level(32, 4, 127, 300, 256), 32),
+    ] {
+        let bytes = Signed::new(shape, 8, &vec![0; shape.level / 8]).written();
+        let lengths = work_lengths(&bytes).unwrap();
+        assert_eq!(bytes[14], byte);
+        assert_eq!(answer_of(&bytes, lengths).0, 0);
+        for other in (0..=255).filter(|other| *other != byte) {
+            let mut changed = bytes.clone();
+            changed[14] = other;
+            assert_eq!(answer_of(&changed, lengths), (1, 0), "{shape:?} {other}");
+            assert_eq!(work_lengths(&changed), Err(Refusal::Shape));
+            changed[13] = 12;
+            changed[18] = 17;
+            assert_eq!(answer_of(&changed, lengths), (1, 0), "{shape:?} {other}");
+        }
+    }
 }
 
 #[test]
@@ -131,16 +215,16 @@ fn numbers_of_several_bytes() {
     let signed = Signed::new(Shape::new(2, 2, 124, 0x0102), 65_536, &[0; 16]);
     let bytes = signed.written();
     assert_eq!(bytes[8..14], [1, 2, 0, 1, 0, 0]);
-    assert_eq!(bytes[54..58], [0, 0, 0x20, 0]);
+    assert_eq!(bytes[55..59], [0, 0, 0x20, 0]);
     let opening = 48 * 2 + 16 * 0x0102;
-    let at = 58 + 0x2000;
+    let at = 59 + 0x2000;
     assert_eq!(bytes[at..at + 4], (opening as u32).to_be_bytes());
 }
 
 #[test]
 fn zeros_stay_zeros() {
     let bytes = Signed::new(Shape::new(0, 0, 0, 0), 8, &[0; 16]).written();
-    assert_eq!(bytes[5..10], [0; 5]);
+    assert_eq!((&bytes[5..10], bytes[14]), (&[0; 5][..], 16));
     assert_eq!(read(&bytes).unwrap().shape, Shape::new(0, 0, 0, 0));
     let meant = Shape::new(16, 7, 8, 110);
     assert_eq!(bytes.len(), record_bytes(&meant, 1));
@@ -150,16 +234,17 @@ fn zeros_stay_zeros() {
 /// bytes or in the lengths of the work buffers.
 type Condition = (u32, fn(&mut Vec<u8>, usize, &mut [usize; 3]));
 
-const CONDITIONS: [Condition; 11] = [
+const CONDITIONS: [Condition; 12] = [
     (9, |bytes, _, _| bytes[0] = 0),
-    (10, |bytes, _, _| bytes[4] = 10),
+    (10, |bytes, _, _| bytes[4] = 9),
     (1, |bytes, _, _| bytes[6] = 13),
+    (1, |bytes, _, _| bytes[14] = 24),
     (2, |bytes, _, _| bytes[13] = 12),
-    (10, |bytes, _, _| bytes[37] = 17),
+    (10, |bytes, _, _| bytes[38] = 17),
     (10, |bytes, _, _| bytes.push(7)),
     (3, |_, _, lengths| lengths[0] += 1),
     (3, |_, _, lengths| lengths[2] -= 1),
-    (4, |bytes, _, _| bytes[53] = 0x10),
+    (4, |bytes, _, _| bytes[54] = 0x10),
     (6, |bytes, long, _| bytes[long - 37] = 1),
     (11, |bytes, long, _| bytes[long - 1] ^= 0x80),
 ];
@@ -195,15 +280,23 @@ fn every_set_of_conditions() {
 
 #[test]
 fn every_prefix_and_a_byte_more() {
-    let bytes = Signed::new(Shape::new(1, 1, 127, 1), 8, &[0; 16]).written();
-    let lengths = work_lengths(&bytes).unwrap();
-    assert_eq!(answer_of(&bytes[..0], lengths), (9, 0));
-    for n in 1..bytes.len() {
-        assert_eq!(answer_of(&bytes[..n], lengths), (10, 0), "{n}");
-    }
-    for byte in 0..=255 {
-        let longer = [&bytes[..], &[byte]].concat();
-        assert_eq!(answer_of(&longer, lengths), (10, 0));
+    let signed = Signed::new(Shape::new(1, 1, 127, 1), 8, &[0; 16]);
+    let wide = Signed::new(Shape::at_level(32, 2, 127, 40, 192), 8, &[0; 24]);
+    for bytes in [
+        signed.written(),
+        version_1(&signed.record()),
+        wide.written(),
+    ] {
+        let lengths = work_lengths(&bytes).unwrap();
+        assert_eq!(answer_of(&bytes, lengths).0, 0);
+        assert_eq!(answer_of(&bytes[..0], lengths), (9, 0));
+        for n in 1..bytes.len() {
+            assert_eq!(answer_of(&bytes[..n], lengths), (10, 0), "{n}");
+        }
+        for byte in 0..=255 {
+            let longer = [&bytes[..], &[byte]].concat();
+            assert_eq!(answer_of(&longer, lengths), (10, 0));
+        }
     }
 }
 
@@ -214,9 +307,14 @@ fn every_version() {
     for version in 0..=255 {
         let mut other = bytes.clone();
         other[0] = version;
-        let number = if version == 1 { 0 } else { 9 };
+        // Version 1 has another length of field one.
+        let number = match version {
+            1 => 10,
+            2 => 0,
+            _ => 9,
+        };
         assert_eq!(answer_of(&other, lengths).0, number, "{version}");
-        assert_eq!(work_lengths(&other).is_ok(), version == 1);
+        assert_eq!(work_lengths(&other).is_ok(), version == 2);
     }
 }
 
@@ -224,7 +322,7 @@ fn every_version() {
 fn lengths_near_the_largest_number() {
     let bytes = Signed::new(Shape::new(2, 2, 124, 4), 8, &[0; 16]).written();
     let lengths = work_lengths(&bytes).unwrap();
-    for at in [1, 14, 34, 54, 59, 223] {
+    for at in [1, 15, 35, 55, 60, 224] {
         for length in [u32::MAX, u32::MAX - 3, 1 << 31, 0] {
             let mut other = bytes.clone();
             other[at..at + 4].copy_from_slice(&length.to_be_bytes());
@@ -239,7 +337,7 @@ fn corrections_are_not_bound() {
     let bytes = signed.written();
     let lengths = work_lengths(&bytes).unwrap();
     let mut other = bytes.clone();
-    other[58] ^= 1;
+    other[59] ^= 1;
     let (answer, _, after) = checked(&bytes, lengths);
     let (again, _, changed) = checked(&other, lengths);
     assert_eq!((answer.number, again), (0, answer));
@@ -252,7 +350,40 @@ fn the_writer_refuses_and_writes_nothing() {
     let signed = Signed::new(Shape::new(2, 2, 124, 4), 8, &[0; 16]);
     let long = signed.written().len();
     let short = &signed.opening[1..];
-    let cases: [(Refusal, Record, usize); 9] = [
+    let cases: [(Refusal, Record, usize); 13] = [
+        (
+            Refusal::Shape,
+            Record {
+                shape: Shape::at_level(2, 2, 124, 4, 192),
+                ..signed.record()
+            },
+            long,
+        ),
+        (
+            Refusal::Shape,
+            Record {
+                shape: Shape::at_level(0, 0, 0, 0, 256),
+                row_bits: 7,
+                ..signed.record()
+            },
+            long,
+        ),
+        (
+            Refusal::Shape,
+            Record {
+                shape: Shape::at_level(2, 2, 124, 4, 128 + 256 * 8),
+                ..signed.record()
+            },
+            long,
+        ),
+        (
+            Refusal::Buffer,
+            Record {
+                challenge: &short[..24],
+                ..signed.record()
+            },
+            long,
+        ),
         (
             Refusal::Shape,
             Record {

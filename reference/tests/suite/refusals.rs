@@ -6,7 +6,7 @@ use reference::calls::{
 use reference::shape::Shape;
 use reference::stretch::Stretch;
 
-use crate::support::{first_byte, noise};
+use crate::support::{first_byte, leaves, noise, revealed};
 
 /// All that a call is lent: what it reads and what it writes.
 #[derive(Clone, PartialEq, Debug)]
@@ -49,27 +49,27 @@ fn lend(shape: Shape, read: Vec<Vec<u8>>, written: &[usize], numbers: usize) -> 
 
 /// The buffers of commit and of reconstruct for rows of which b bytes are written.
 fn lend_commit(shape: Shape, b: usize) -> Lent {
-    let l = shape.tau << shape.k;
+    let (l, n) = (leaves(&shape), shape.level / 8);
     let written = [
-        32,
-        16 * (2 * l - 1),
-        48 * l,
+        2 * n,
+        n * (2 * l - 1),
+        3 * n * l,
         b,
-        128 * b,
+        shape.level * b,
         (shape.tau - 1) * b,
     ];
-    lend(shape, vec![noise(7, 16), noise(8, 16)], &written, 0)
+    lend(shape, vec![noise(7, n), noise(8, 16)], &written, 0)
 }
 
 fn lend_reconstruct(shape: Shape, challenge: &[u8], b: usize) -> Lent {
-    let l = shape.tau << shape.k;
+    let (l, n) = (leaves(&shape), shape.level / 8);
     let corrections = noise(11, (shape.tau - 1) * b);
-    // The unused slots are zero: at most two nodes are needed where
-    // the shape allows four (see `lent_with`).
-    let mut opening = noise(12, 48 * shape.tau + 32);
-    opening.resize(48 * shape.tau + 16 * shape.t, 0);
+    // The slots that the planned nodes leave unused are zero.
+    let nodes = revealed(&shape, challenge).len();
+    let mut opening = noise(12, 3 * n * shape.tau + n * nodes);
+    opening.resize(3 * n * shape.tau + n * shape.t, 0);
     let read = vec![noise(8, 16), challenge.to_vec(), corrections, opening];
-    let written = [32, 16 * (2 * l - 1), 48 * l, 128 * b];
+    let written = [2 * n, n * (2 * l - 1), 3 * n * l, shape.level * b];
     lend(shape, read, &written, 0)
 }
 
@@ -118,10 +118,10 @@ const CALLS: [Call; 7] = [
     Call {
         name: "open",
         lend: |shape, challenge| {
-            let l = shape.tau << shape.k;
-            let (tree, coms) = (noise(9, 16 * (2 * l - 1)), noise(10, 48 * l));
+            let (l, n) = (leaves(&shape), shape.level / 8);
+            let (tree, coms) = (noise(9, n * (2 * l - 1)), noise(10, 3 * n * l));
             let read = vec![challenge.to_vec(), tree, coms];
-            lend(shape, read, &[48 * shape.tau + 16 * shape.t], 0)
+            lend(shape, read, &[3 * n * shape.tau + n * shape.t], 0)
         },
         make: |lent| {
             let (tree, coms) = (&lent.read[1], &lent.read[2]);
@@ -227,26 +227,55 @@ fn expect(call: &Call, lent: &Lent, answer: Answer, what: &str) {
     }
 }
 
-/// The challenge 00 needs 2 nodes at τ 2, k 2 (P3), the challenge 0c needs 4
-/// (P4).
+/// Shapes of two vectors and of 32, the fewest that the other levels have at w 127,
+/// and for each a first byte of the challenge; the two of level 128 are P3 and P4.
+const SHAPES: [(Shape, u8); 4] = [
+    (Shape::new(2, 2, 124, 0), 0x00),
+    (Shape::new(2, 2, 124, 0), 0x0c),
+    (Shape::at_level(32, 2, 127, 0, 192), 0xc7),
+    (Shape::at_level(32, 4, 127, 0, 256), 0x35),
+];
+
+/// The nodes that P3 and P4 need.
 const NEEDED_00: u32 = 2;
 const NEEDED_0C: u32 = 4;
 
-/// Lends buffers on which exactly the conditions of this set hold, as far as
-/// the call knows them, and gives the planned count too. 5 and 6 cannot hold
-/// together, for with 5 there are no unused slots.
-fn lent_with(call: &Call, conditions: &[u32]) -> (Lent, u32) {
-    let holds = |number: u32| conditions.contains(&number);
-    let (byte, t, needed) = match holds(5) {
-        true => (0x0c, 3, NEEDED_0C),
-        false => (0x00, 4, NEEDED_00),
+#[test]
+fn nodes_of_the_shapes() {
+    let needed = |n: usize| {
+        let (shape, byte) = SHAPES[n];
+        revealed(&shape, &challenge_of(shape, byte)).len() as u32
     };
-    let mut lent = (call.lend)(Shape::new(2, 2, 124, t), &first_byte(byte));
+    assert_eq!((needed(0), needed(1)), (NEEDED_00, NEEDED_0C));
+    assert!(needed(2) > 2 && needed(3) > 2);
+}
+
+/// The challenge of this shape with this first byte and zeros after it.
+fn challenge_of(shape: Shape, byte: u8) -> Vec<u8> {
+    let mut challenge = first_byte(byte);
+    challenge.resize(shape.level / 8, 0);
+    challenge
+}
+
+/// Lends buffers on which exactly the conditions of this set hold, as far as
+/// the call knows them, and gives the planned count too. The shape allows two nodes
+/// more than are needed, or with 5 one less. 5 and 6 cannot hold together, for with 5
+/// there are no unused slots.
+fn lent_for((shape, byte): (Shape, u8), call: &Call, conditions: &[u32]) -> (Lent, u32) {
+    let holds = |number: u32| conditions.contains(&number);
+    let challenge = challenge_of(shape, byte);
+    let needed = revealed(&shape, &challenge).len();
+    let t = match holds(5) {
+        true => needed - 1,
+        false => needed + 2,
+    };
+    let needed = needed as u32;
+    let mut lent = (call.lend)(Shape { t, ..shape }, &challenge);
     if let (true, Some(opening)) = (holds(6), call.opening) {
         *lent.read[opening].last_mut().unwrap() = 1;
     }
     if let (true, Some(challenge)) = (holds(4), call.challenge) {
-        lent.read[challenge][15] = 0x80;
+        *lent.read[challenge].last_mut().unwrap() = 0x80;
     }
     if holds(3) {
         match lent.written.last_mut() {
@@ -261,21 +290,29 @@ fn lent_with(call: &Call, conditions: &[u32]) -> (Lent, u32) {
         lent.row_bits = 12;
     }
     if holds(1) {
-        lent.shape.k = 3;
+        lent.shape.k += 1;
     }
     (lent, needed)
 }
 
+/// The same at τ 2, k 2.
+fn lent_with(call: &Call, conditions: &[u32]) -> (Lent, u32) {
+    lent_for(SHAPES[0], call, conditions)
+}
+
 #[test]
 fn every_set_of_conditions() {
-    for call in &CALLS {
+    for (shape, call) in SHAPES
+        .iter()
+        .flat_map(|s| CALLS.iter().map(move |c| (*s, c)))
+    {
         for set in 0..128u32 {
             let chosen = |&n: &usize| set >> n & 1 == 1;
             let conditions: Vec<u32> = (0..7).filter(chosen).map(|n| ORDER[n]).collect();
             if conditions.contains(&5) && conditions.contains(&6) {
                 continue;
             }
-            let (lent, needed) = lent_with(call, &conditions);
+            let (lent, needed) = lent_for(shape, call, &conditions);
             let first = conditions
                 .iter()
                 .find(|number| call.checks.contains(number));
@@ -302,8 +339,11 @@ fn every_buffer_has_its_exact_length() {
         count: 0,
     };
     let changes: [fn(usize) -> usize; 4] = [|n| n.wrapping_sub(1), |n| n + 1, |_| 0, |n| 2 * n];
-    for call in &CALLS {
-        let (lent, _) = lent_with(call, &[]);
+    for (shape, call) in SHAPES
+        .iter()
+        .flat_map(|s| CALLS.iter().map(move |c| (*s, c)))
+    {
+        let (lent, _) = lent_for(shape, call, &[]);
         for change in changes {
             for n in 0..lent.read.len() {
                 let mut other = lent.clone();
@@ -328,6 +368,47 @@ fn every_buffer_has_its_exact_length() {
                 other.numbers.resize(length, 0x77);
                 expect(call, &other, refused, &format!("{length} numbers"));
             }
+        }
+    }
+}
+
+#[test]
+fn levels_are_tested_first() {
+    let refused = Answer {
+        number: 1,
+        count: 0,
+    };
+    for (shape, call) in SHAPES
+        .iter()
+        .flat_map(|s| CALLS.iter().map(move |c| (*s, c)))
+    {
+        let (lent, _) = lent_for(shape, call, &[2, 8, 3, 4]);
+        for level in [0, 16, 24, 32, 127, 128, 160, 192, 256, 384, usize::MAX] {
+            if level != shape.0.level {
+                let mut other = lent.clone();
+                other.shape.level = level;
+                expect(call, &other, refused, &format!("level {level}"));
+            }
+        }
+    }
+}
+
+#[test]
+fn roots_and_challenges_of_another_level() {
+    let refused = Answer {
+        number: 3,
+        count: 0,
+    };
+    for (shape, call) in SHAPES
+        .iter()
+        .flat_map(|s| CALLS.iter().map(move |c| (*s, c)))
+    {
+        let (lent, _) = lent_for(shape, call, &[]);
+        for bytes in [16, 24, 32].into_iter().filter(|n| 8 * n != shape.0.level) {
+            // The challenge, or where there is none the root.
+            let mut other = lent.clone();
+            other.read[call.challenge.unwrap_or(0)].resize(bytes, 0);
+            expect(call, &other, refused, &format!("{bytes} bytes"));
         }
     }
 }
@@ -449,6 +530,17 @@ fn every_grinding_bit() {
             assert_eq!(indices, [9; 3]);
         }
     }
+    // At 192 and at 256 with w 127 the bits from 65 and from 129 on.
+    for (shape, _) in &SHAPES[2..] {
+        let shape = Shape { t: 512, ..*shape };
+        for bit in 0..shape.level {
+            let mut challenge = vec![0; shape.level / 8];
+            challenge[bit / 8] = 1 << (bit % 8);
+            let expected = if bit < shape.level - 127 { 0 } else { 4 };
+            let number = decode(shape, &challenge, &mut [9; 32]).number;
+            assert_eq!(number, expected, "level {} bit {bit}", shape.level);
+        }
+    }
     // Without grinding bits every challenge is an allowed one.
     let challenge = [0xff; 16];
     assert_eq!(
@@ -477,6 +569,18 @@ fn every_byte_of_the_unused_slots() {
             other.read[3][n] ^= bit;
             let answer = if n < used { done } else { refused };
             expect(call, &other, answer, &format!("byte {n} of the opening"));
+        }
+    }
+    // At the other levels the last two slots.
+    for shape in SHAPES[2..].iter() {
+        let (lent, count) = lent_for(*shape, call, &[]);
+        let (long, width) = (lent.read[3].len(), shape.0.level / 8);
+        for n in long - 2 * width - 1..long {
+            let mut other = lent.clone();
+            other.read[3][n] ^= 0x10;
+            let number = if n < long - 2 * width { 0 } else { 6 };
+            let what = format!("byte {n} of the opening");
+            expect(call, &other, Answer { number, count }, &what);
         }
     }
 }

@@ -8,7 +8,7 @@ use reference::shape::Shape;
 use reference::stretch::Stretch;
 use reference::Block;
 
-use crate::support::{allowed, covered, indices, leaves, noise, revealed};
+use crate::support::{allowed, bit, covered, indices, leaves, noise, revealed};
 
 /// What commit writes.
 struct Signer {
@@ -31,12 +31,13 @@ struct Verifier {
 
 fn sign(shape: Shape, row_bits: usize, root: &[u8], iv: &[u8]) -> Signer {
     let (l, b) = (leaves(&shape), row_bits / 8);
+    let n = shape.level / 8;
     let mut signer = Signer {
-        commitment: noise(1, 32),
-        tree: noise(2, 16 * (2 * l - 1)),
-        coms: noise(3, 48 * l),
+        commitment: noise(1, 2 * n),
+        tree: noise(2, n * (2 * l - 1)),
+        coms: noise(3, 3 * n * l),
         u: noise(4, b),
-        v: noise(5, 128 * b),
+        v: noise(5, shape.level * b),
         corrections: noise(6, (shape.tau - 1) * b),
     };
     let answer = commit(
@@ -56,7 +57,7 @@ fn sign(shape: Shape, row_bits: usize, root: &[u8], iv: &[u8]) -> Signer {
 }
 
 fn opened(shape: Shape, challenge: &[u8], signer: &Signer) -> (Answer, Vec<u8>) {
-    let mut opening = noise(7, 48 * shape.tau + 16 * shape.t);
+    let mut opening = noise(7, shape.level / 8 * (3 * shape.tau + shape.t));
     let answer = open(shape, challenge, &signer.tree, &signer.coms, &mut opening);
     (answer, opening)
 }
@@ -70,12 +71,13 @@ fn verify(
     opening: &[u8],
 ) -> Verifier {
     let (l, b) = (leaves(&shape), row_bits / 8);
+    let n = shape.level / 8;
     let mut verifier = Verifier {
         answer: Answer::done(0),
-        commitment: noise(11, 32),
-        tree: noise(12, 16 * (2 * l - 1)),
-        coms: noise(13, 48 * l),
-        q: noise(15, 128 * b),
+        commitment: noise(11, 2 * n),
+        tree: noise(12, n * (2 * l - 1)),
+        coms: noise(13, 3 * n * l),
+        q: noise(15, shape.level * b),
     };
     verifier.answer = reconstruct(
         shape,
@@ -94,12 +96,13 @@ fn verify(
 
 fn sign_stretch(shape: Shape, row_bits: usize, z: Stretch, root: &[u8], iv: &[u8]) -> Signer {
     let (l, g) = (leaves(&shape), z.width);
+    let n = shape.level / 8;
     let mut signer = Signer {
-        commitment: noise(1, 32),
-        tree: noise(2, 16 * (2 * l - 1)),
-        coms: noise(3, 48 * l),
+        commitment: noise(1, 2 * n),
+        tree: noise(2, n * (2 * l - 1)),
+        coms: noise(3, 3 * n * l),
         u: noise(4, g),
-        v: noise(5, 128 * g),
+        v: noise(5, shape.level * g),
         corrections: noise(6, (shape.tau - 1) * g),
     };
     let answer = commit_stretch(
@@ -128,13 +131,13 @@ fn verify_stretch(
     corrections: &[u8],
     opening: &[u8],
 ) -> Verifier {
-    let l = leaves(&shape);
+    let (l, n) = (leaves(&shape), shape.level / 8);
     let mut verifier = Verifier {
         answer: Answer::done(0),
-        commitment: noise(11, 32),
-        tree: noise(12, 16 * (2 * l - 1)),
-        coms: noise(13, 48 * l),
-        q: noise(15, 128 * z.width),
+        commitment: noise(11, 2 * n),
+        tree: noise(12, n * (2 * l - 1)),
+        coms: noise(13, 3 * n * l),
+        q: noise(15, shape.level * z.width),
     };
     verifier.answer = reconstruct_stretch(
         shape,
@@ -152,10 +155,6 @@ fn verify_stretch(
     verifier
 }
 
-fn bit(challenge: &[u8], n: usize) -> bool {
-    u128::from_le_bytes(challenge.try_into().unwrap()) >> n & 1 == 1
-}
-
 fn xor(a: &[u8], b: &[u8]) -> Vec<u8> {
     a.iter().zip(b).map(|(x, y)| x ^ y).collect()
 }
@@ -163,19 +162,24 @@ fn xor(a: &[u8], b: &[u8]) -> Vec<u8> {
 /// Document 01, demand 3: with T at least the count an opening is made and
 /// accepted, and commitments and columns fit; with less both give 5.
 fn round_trip(tau: usize, k: usize, w: usize, row_bits: usize, challenges: u64) {
-    let shape = Shape::new(tau, k, w, 512);
+    round_trip_of(Shape::new(tau, k, w, 512), row_bits, challenges);
+}
+
+fn round_trip_of(shape: Shape, row_bits: usize, challenges: u64) {
+    let Shape { tau, k, level, .. } = shape;
+    let bytes = level / 8;
     let seed = (tau << 8 | k) as u64;
-    let (root, iv) = (noise(seed, 16), noise(seed + 1, 16));
+    let (root, iv) = (noise(seed, bytes), noise(seed + 1, 16));
     let signer = sign(shape, row_bits, &root, &iv);
     let b = row_bits / 8;
     for n in 0..challenges {
-        let bytes = match n {
-            0 => noise(seed + 2, 16),
-            1 => vec![0; 16],
-            2 => vec![0xff; 16],
-            _ => noise(seed + n, 16),
+        let drawn = match n {
+            0 => noise(seed + 2, bytes),
+            1 => vec![0; bytes],
+            2 => vec![0xff; bytes],
+            _ => noise(seed + n, bytes),
         };
-        let challenge = allowed(&shape, &bytes);
+        let challenge = allowed(&shape, &drawn);
         let count = revealed(&shape, &challenge).len();
 
         // One allowance too few.
@@ -189,7 +193,7 @@ fn round_trip(tau: usize, k: usize, w: usize, row_bits: usize, challenges: u64) 
                 count: count as u32,
             };
             assert_eq!(opened(tight, &challenge, &signer).0, refused);
-            let opening = vec![0; 48 * tau + 16 * tight.t];
+            let opening = vec![0; bytes * (3 * tau + tight.t)];
             let corrections = &signer.corrections;
             let verifier = verify(tight, row_bits, &iv, &challenge, corrections, &opening);
             assert_eq!(verifier.answer, refused);
@@ -206,14 +210,14 @@ fn round_trip(tau: usize, k: usize, w: usize, row_bits: usize, challenges: u64) 
             assert_eq!(verifier.commitment, signer.commitment, "{shape:?}");
             assert_eq!(verifier.coms, signer.coms, "{shape:?}");
             for (node, covered) in covered(&shape, &challenge).into_iter().enumerate() {
-                let place = 16 * node..16 * node + 16;
+                let place = bytes * node..bytes * node + bytes;
                 let expected = match covered {
-                    true => &[0; 16],
+                    true => &vec![0; bytes],
                     false => &signer.tree[place.clone()],
                 };
                 assert_eq!(&verifier.tree[place], expected, "{shape:?} node {node}");
             }
-            for j in 0..128 {
+            for j in 0..level {
                 let place = b * j..b * (j + 1);
                 let v = signer.v[place.clone()].to_vec();
                 let expected = match bit(&challenge, j) {
@@ -248,6 +252,23 @@ fn two_depths() {
     round_trip(16, 7, 8, 1680, 3);
     round_trip(2, 11, 105, 24, 3);
     round_trip(10, 11, 9, 24, 1);
+}
+
+#[test]
+fn levels_192_and_256() {
+    for (tau, k, w, level, row_bits, challenges) in [
+        (32, 2, 127, 192, 8, 8),
+        (16, 4, 127, 192, 136, 4),
+        (32, 6, 0, 192, 72, 3),
+        (24, 7, 8, 192, 3088, 1),
+        (6, 11, 125, 192, 16, 1),
+        (32, 4, 127, 256, 8, 8),
+        (16, 8, 127, 256, 136, 1),
+        (31, 6, 69, 256, 24, 2),
+        (32, 7, 8, 256, 3888, 1),
+    ] {
+        round_trip_of(Shape::at_level(tau, k, w, 512, level), row_bits, challenges);
+    }
 }
 
 #[test]
@@ -301,8 +322,8 @@ fn columns_by_their_definition() {
     let l = 3 << 4;
     let row = |i: usize, j: usize| {
         let at = 16 * (l - 1 + 3 * j + i);
-        let leaf: Block = signer.tree[at..at + 16].try_into().unwrap();
-        let seed = prg(&leaf, &iv, (i + l - 1) as u32, 128).try_into().unwrap();
+        let leaf = &signer.tree[at..at + 16];
+        let seed = prg(leaf, &iv, (i + l - 1) as u32, 128);
         prg(&seed, &iv, i as u32 + 0x8000_0000, row_bits)
     };
     let sum = |i: usize, chosen: &dyn Fn(usize) -> bool| {
@@ -437,10 +458,14 @@ fn assert_cut(part: &[u8], whole: &[u8], b: usize, z: Stretch) {
 /// Document 02, E1: a stretch is the same bytes of the whole result, for both
 /// halves, and the column rule holds of it.
 fn stretches(tau: usize, k: usize, w: usize, b: usize, chosen: &[(usize, usize)]) {
-    let shape = Shape::new(tau, k, w, 512);
+    stretches_of(Shape::new(tau, k, w, 512), b, chosen);
+}
+
+fn stretches_of(shape: Shape, b: usize, chosen: &[(usize, usize)]) {
+    let Shape { tau, k, level, .. } = shape;
     let seed = (tau << 8 | k) as u64;
-    let (root, iv) = (noise(seed, 16), noise(seed + 1, 16));
-    let challenge = allowed(&shape, &noise(seed + 2, 16));
+    let (root, iv) = (noise(seed, level / 8), noise(seed + 1, 16));
+    let challenge = allowed(&shape, &noise(seed + 2, level / 8));
     let whole = sign(shape, 8 * b, &root, &iv);
     let (answer, opening) = opened(shape, &challenge, &whole);
     let corrections = noise(seed + 3, (tau - 1) * b);
@@ -469,7 +494,7 @@ fn stretches(tau: usize, k: usize, w: usize, b: usize, chosen: &[(usize, usize)]
         // The corrections of the signer.
         let cut = &part.corrections;
         let made = verify_stretch(shape, 8 * b, z, &iv, &challenge, cut, &opening);
-        for j in 0..128 {
+        for j in 0..level {
             let place = width * j..width * (j + 1);
             let v = part.v[place.clone()].to_vec();
             let expected = match bit(&challenge, j) {
@@ -512,6 +537,13 @@ fn stretches_of_long_rows() {
 }
 
 #[test]
+fn stretches_of_192_and_256() {
+    let chosen = [(0, 49), (0, 1), (48, 1), (15, 2), (16, 32), (13, 21)];
+    stretches_of(Shape::at_level(32, 2, 127, 512, 192), 49, &chosen);
+    stretches_of(Shape::at_level(32, 4, 127, 512, 256), 49, &chosen);
+}
+
+#[test]
 fn a_stretch_by_its_definition() {
     // Byte p of u is the xor of the bytes f + p of all rows of vector 0.
     let (shape, row_bits) = (Shape::new(3, 4, 116, 512), 400);
@@ -521,8 +553,8 @@ fn a_stretch_by_its_definition() {
     let mut u = vec![0; 20];
     for j in 0..16 {
         let at = 16 * (l - 1 + 3 * j);
-        let leaf: Block = signer.tree[at..at + 16].try_into().unwrap();
-        let seed = prg(&leaf, &iv, (l - 1) as u32, 128).try_into().unwrap();
+        let leaf = &signer.tree[at..at + 16];
+        let seed = prg(leaf, &iv, (l - 1) as u32, 128);
         let row = prg(&seed, &iv, 0x8000_0000, row_bits);
         u = xor(&u, &row[21..41]);
     }

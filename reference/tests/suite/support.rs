@@ -22,16 +22,25 @@ pub fn first_byte(byte: u8) -> Vec<u8> {
     challenge
 }
 
-/// These 16 bytes with the grinding bits of the shape set to 0.
-pub fn allowed(shape: &Shape, bytes: &[u8]) -> Vec<u8> {
-    let number = u128::from_le_bytes(bytes.try_into().unwrap());
-    let kept = number << shape.w >> shape.w;
-    kept.to_le_bytes().to_vec()
+/// Bit n of a challenge, least first.
+pub fn bit(challenge: &[u8], n: usize) -> bool {
+    challenge[n / 8] & (1 << (n % 8)) != 0
 }
 
-/// Document 02, E2: r, the number of vectors of depth k + 1.
+/// These bytes, as many as a challenge has, with the grinding bits of the shape set
+/// to 0.
+pub fn allowed(shape: &Shape, bytes: &[u8]) -> Vec<u8> {
+    assert_eq!(8 * bytes.len(), shape.level);
+    let mut kept = bytes.to_vec();
+    for n in shape.level - shape.w..shape.level {
+        kept[n / 8] &= !(1 << (n % 8));
+    }
+    kept
+}
+
+/// Document 02, E2 and E7: r, the number of vectors of depth k + 1.
 fn deeper(shape: &Shape) -> usize {
-    128 - shape.w - shape.tau * shape.k
+    shape.level - shape.w - shape.tau * shape.k
 }
 
 /// Document 02, E2: L.
@@ -49,9 +58,9 @@ fn place(shape: &Shape, i: usize, j: usize) -> usize {
     }
 }
 
-/// The hidden indices, from the challenge as one number.
+/// The hidden indices, from the bits of the challenge in their order.
 pub fn indices(shape: &Shape, challenge: &[u8]) -> Vec<usize> {
-    let mut number = u128::from_le_bytes(challenge.try_into().unwrap());
+    let mut bits = (0..shape.level).map(|n| usize::from(bit(challenge, n)));
     let mut indices = Vec::new();
     for i in 0..shape.tau {
         let depth = if i < deeper(shape) {
@@ -59,8 +68,8 @@ pub fn indices(shape: &Shape, challenge: &[u8]) -> Vec<usize> {
         } else {
             shape.k
         };
-        indices.push(number as usize % (1 << depth));
-        number >>= depth;
+        let index = (0..depth).fold(0, |sum, j| sum + (bits.next().unwrap() << j));
+        indices.push(index);
     }
     indices
 }

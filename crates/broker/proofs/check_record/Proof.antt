@@ -1,41 +1,32 @@
--- Each way out of the call is one law of `Answers`, by the tests that led there.
+-- What is not read is one law of `Answers`; the rest is what `check_read` promises, and the commitment has its length.
 use borrow.Author.Needs.{needs}
+use lib.Seq.{length-take-le}
 use mathlib.Core.Path.{sym, ap, _∙_}
-use Rattle.spec.specs.Bytes.{zeros}
-use Rattle.spec.specs.Shapes.{level, nodeBytes, hashBytes}
-use Rattle.laws.proofs.Tests.{failed, passed}
-use Rattle.record.specs.RecordCalls.{sameBytes}
-use Rattle.broker.proofs.Answers.{check-read, check-work, check-eleven, check-accepted}
+use Rattle.spec.specs.Shapes.{hashBytes}
+use Rattle.record_reading.proofs.Reading.{read-front}
+use Rattle.broker.proofs.Answers.{check-read}
 use Rattle.broker.proofs.check_record.Statement.{statement}
 use Rattle.broker.proofs.check_record.Tie as tie
 
 returns : tie.Need-returns
 returns c = check-read _ _ _ _ (c .before .before .read-number .ensures) (c .before .if1 .taken) (c .answer .ensures)
 
+resolved-shape-requires : tie.Need-resolved-shape-requires
+resolved-shape-requires c κs = read-front _ (sym (c .before .read-number .ensures) ∙ c .if1 .left)
+
+-- the part that is lent
+lent : tie.Need-slice-aggregate-check-read
+lent c = sym (length-take-le (c .before .hash-bytes .result) _ (c .before .hash-bytes .ensures .1))
+
+check-read-requires : tie.Need-check-read-requires
+check-read-requires c κs =
+    let hb = c .before .before .before .before in (
+      sym (hb .before .before .before .read-number .ensures) ∙ hb .before .before .if1 .left,
+      length-take-le (hb .hash-bytes .result) _ (hb .hash-bytes .ensures .1) ∙ hb .hash-bytes .ensures .0 ∙ ap hashBytes (hb .before .resolved-shape .ensures .0),
+    )
+
 returns-2 : tie.Need-returns-2
-unfolding zeros level nodeBytes hashBytes
-returns-2 c =
-    let ra = c .before .before .before .before .before .before .before .before .before in
-    let rd = ra .before .before .before .before .before .before in
-    check-work _ (sym (rd .read-number .ensures) ∙ ra .before .before .before .before .before .if1 .left) _ _ _ (ra .reconstruct-fields .ensures) (c .if2 .taken)
-
-returns-3 : tie.Need-returns-3
-unfolding zeros level nodeBytes hashBytes
-returns-3 c =
-    let sa = c .before .before in
-    let ra = sa .before .before .before .before .before .before .before .before .before .before .before .before in
-    let rd = ra .before .before .before .before .before .before in
-    check-eleven _ (sym (rd .read-number .ensures) ∙ ra .before .before .before .before .before .if1 .left) _ _ _ (ra .reconstruct-fields .ensures) (sa .before .before .before .if2 .left) _
-    (failed (sa .same-bytes .ensures ∙ ap (sameBytes _) (sa .before .commitment-of .ensures)) (c .before .if3 .taken)) (c .answer2 .ensures)
-
-returns-4 : tie.Need-returns-4
-unfolding zeros level nodeBytes hashBytes
-returns-4 c =
-    let sa = c .before in
-    let ra = sa .before .before .before .before .before .before .before .before .before .before .before .before in
-    let rd = ra .before .before .before .before .before .before in
-    check-accepted _ (sym (rd .read-number .ensures) ∙ ra .before .before .before .before .before .if1 .left) _ _ _ (ra .reconstruct-fields .ensures) (sa .before .before .before .if2 .left)
-    (passed (sa .same-bytes .ensures ∙ ap (sameBytes _) (sa .before .commitment-of .ensures)) (c .if3 .left))
+returns-2 c = c .before .before .before .before .before .before .before .check-read .ensures
 
 pub check-record-spec : {M : Type 1} → statement M
 check-record-spec =
@@ -44,21 +35,12 @@ check-record-spec =
     (λ c κs. search needs)
     (λ c κs. search needs)
     returns
-    (λ c. search needs)
+    resolved-shape-requires
     (λ c κs. search needs)
     (λ c. search needs)
-    (λ c. search needs)
-    (λ c. search needs)
-    returns-2
-    (λ c. search needs)
-    (λ c κs. search needs)
-    (λ c κs. search needs)
-    (λ c κs. search needs)
+    lent
+    check-read-requires
     (λ c. search needs)
     (λ c. search needs)
     (λ c. search needs)
-    returns-3
-    (λ c. search needs)
-    (λ c. search needs)
-    (λ c. search needs)
-    returns-4)
+    returns-2)

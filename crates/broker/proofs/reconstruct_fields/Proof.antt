@@ -2,7 +2,7 @@
 use borrow.Author.Needs.{needs}
 use Rattle.spec.specs.Primitives.{faest}
 use Rattle.record.specs.Record.{contentsOf}
-use Rattle.record.proofs.ReadBack.{read-head}
+use Rattle.record.proofs.ReadBack.{read-version, read-head}
 use Rattle.record.proofs.Reconstructing.{on-fields}
 use Rattle.broker.proofs.reconstruct_fields.Statement.{statement}
 use Rattle.broker.proofs.reconstruct_fields.Tie as tie
@@ -18,8 +18,8 @@ pub reconstruct-fields-spec : {M : Type 1} → statement M
 reconstruct-fields-spec =
     tie.close
     (tie.spec
-    (λ c κs. read-head _ (c .before .before .before .before .before .pre))
-    (λ c κs. read-head _ (c .before .before .before .before .before .before .pre))
+    (λ c κs. let ok = c .before .before .before .before .before .pre in (read-version _ ok, read-head _ ok))
+    (λ c κs. let ok = c .before .before .before .before .before .before .pre in (read-version _ ok, read-head _ ok))
     (λ c κs. search needs)
     (λ c κs. search needs)
     (λ c κs. search needs)

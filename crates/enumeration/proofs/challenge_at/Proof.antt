@@ -1,13 +1,14 @@
 -- After i turns the first i bytes are digits of x, and what is left of x is its part above them.
 use Prim.Native.Nat.{ℕ, _+_, _-_, _*_, _/_, _%_, _^_, _≤_}
 use mathlib.Core.Path.{_≡_, sym, ap, _∙_}
+use mathlib.Core.List.{List}
 use native.Mathlib.Omega.{arith}
 use native.Mathlib.Nat.{div-one}
 use lib.ListN.{replicate}
 use lib.Pow.{shr-shr}
 use borrow.Author.Needs.{needs}
-use Rattle.spec.specs.Bytes.{digits}
-use Rattle.spec.specs.Shapes.{level, challengeBytes}
+use Rattle.spec.specs.Bytes.{tabulate, digits}
+use Rattle.spec.specs.Shapes.{challengeBytes}
 use Rattle.laws.specs.Front.{Front}
 use Rattle.laws.proofs.Front.{front-none, front-set, front-all}
 use Rattle.enumeration_text.specs.Listed.{challengeAt}
@@ -23,6 +24,10 @@ Inv-loop x challenge₀ rest₀ i₀ challenge rest i = (i ≤ 16) × (rest ≡ 
 abbrev μ-loop : tie.MeasureT-loop
 μ-loop x challenge₀ rest₀ i₀ challenge rest i = 16 - i
 
+bytes : (x : ℕ) (xs : List ℕ) → xs ≡ tabulate 16 (byte x) → xs ≡ digits 8 16 x
+unfolding digits
+bytes x xs e = e
+
 loop-again : tie.Need-loop-again Inv-loop μ-loop
 loop-again c =
     let l = c .before .loop in
@@ -34,10 +39,11 @@ loop-again c =
     )
 
 returns : tie.Need-returns Inv-loop μ-loop
-unfolding challengeAt digits challengeBytes level
-returns c s =
+unfolding challengeAt challengeBytes
+returns c s e =
     let l = c .before .loop in
-    front-all (byte (c .before .before .args .x)) 16 (l .i) (l .challenge) (c .loop-test .left) (l .inv .2)
+    let x = c .before .before .args .x in
+    bytes x (l .challenge) (front-all (byte x) 16 (l .i) (l .challenge) (c .loop-test .left) (l .inv .2)) ∙ sym (ap (λ (n : ℕ). digits 8 (n / 8) x) e)
 
 pub challenge-at-spec : {M : Type 1} → statement M
 challenge-at-spec =

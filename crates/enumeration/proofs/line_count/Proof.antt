@@ -4,13 +4,15 @@ use mathlib.Core.Path.{_∙_}
 use native.Mathlib.Omega.{arith}
 use native.Mathlib.Nat.{mod-eq-of-lt, one-mul}
 use lib.Pow.{pow-mono, pow-pos}
+use Rattle.spec.specs.Shapes.{level}
 use Rattle.planning_laws.proofs.ShapeFacts.{shape-facts}
-use Rattle.enumeration.proofs.Readings.{open-is}
+use Rattle.enumeration.proofs.Readings.{open-is, level-128}
 use Rattle.enumeration.proofs.line_count.Statement.{statement}
 use Rattle.enumeration.proofs.line_count.Tie as tie
 
 sub-result : tie.Need-sub-result
-sub-result c = (let st = c .before in omega (arith, shape-facts (st .args .s) (st .pre .0) .w-max))
+unfolding level
+sub-result c = (let st = c .before in omega (arith, level-128 (st .args .s) (st .pre .0) (st .pre .1), shape-facts (st .args .s) (st .pre .0) .w-max))
 
 shl-result : tie.Need-shl-result
 shl-result c = (let st = c .before in omega (arith, st .pre .1, open-is (st .args .s)))
@@ -19,7 +21,7 @@ returns : tie.Need-returns
 returns c =
     let st = c .before in
     let s = st .args .s in
-    let d = 128 - s .w in
+    let d = s .level - s .w in
     let l : d ≤ 16 = omega (arith, st .pre .1, open-is s) in
     let m : 2 ^ d ≤ 65536 = pow-mono l in
     let p = pow-pos d in

@@ -9,7 +9,7 @@ returns c =
     let p = c .before .before in
     let n = p .before .before .before in
     let st = n .before .before .before in
-    let e = line-is (st .args .s) (st .args .x) (n .count-of .result) _ (n .before .challenge-at .ensures (st .args .s)) (n .count-of .ensures .0) in
+    let e = line-is (st .args .s) (st .args .x) (n .count-of .result) _ (n .before .challenge-at .ensures (st .args .s) (st .pre .1)) (n .count-of .ensures .0) in
     (rw e at (p .put-listed .ensures .0), p .put-listed .ensures .1)
 
 pub put-line-spec : {M : Type 1} → statement M

@@ -26,7 +26,7 @@ loop-holds c = (omega arith, search needs, omega arith, put-none _ _)
 put-line-requires : tie.Need-put-line-requires Inv-loop μ-loop
 put-line-requires c κs =
     let st = c .before .before .before .before in
-    (st .pre .0, omega (arith, st .pre .2))
+    (st .pre .0, st .pre .1, omega (arith, st .pre .3))
 
 loop-again : tie.Need-loop-again Inv-loop μ-loop
 unfolding concat
@@ -52,7 +52,7 @@ put-lines-spec =
     Inv-loop
     μ-loop
     loop-holds
-    (λ c. omega (arith, c .before .before .before .pre .1))
+    (λ c. omega (arith, c .before .before .before .pre .2))
     put-line-requires
     (λ c. omega arith)
     (λ c. omega arith)

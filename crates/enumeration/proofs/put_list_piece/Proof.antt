@@ -5,6 +5,7 @@ use borrow.Author.Needs.{needs}
 use borrow.Author.Tests.{lt-ltb, le-ltb}
 use Rattle.enumeration_text.specs.Listed.{openBits}
 use Rattle.enumeration.specs.Pieces.{linePieces}
+use Rattle.enumeration.proofs.Readings.{level-128}
 use Rattle.enumeration.proofs.put_list_piece.Statement.{statement}
 use Rattle.enumeration.proofs.put_list_piece.Tie as tie
 
@@ -27,6 +28,11 @@ returns-2 c =
     let h : linePieces (a .s) ≤ a .i = rw (e .before .line-pieces .ensures .0) at (e .if1 .left) in
     rw (le-ltb (a .i) (linePieces (a .s)) h) (p .put-totals .ensures)
 
+put-lines-requires : tie.Need-put-lines-requires
+put-lines-requires c κs =
+    let st = c .before .before .before .before .before .before in
+    (search needs, level-128 (st .args .s) (st .pre .0) (st .pre .1), search needs, search needs)
+
 pub put-list-piece-spec : {M : Type 1} → statement M
 put-list-piece-spec =
     tie.close
@@ -36,7 +42,7 @@ put-list-piece-spec =
     (λ c κs. search needs)
     (λ c. search needs)
     (λ c κs. search needs)
-    (λ c κs. search needs)
+    put-lines-requires
     (λ c. search needs)
     returns
     (λ c κs. search needs)

@@ -1,10 +1,11 @@
 -- Each way out is the first test that fails.
+use Prim.Native.Nat.{_≤_}
 use mathlib.Core.Path.{refl}
 use native.Mathlib.Omega.{arith}
 use borrow.Author.Needs.{needs}
 use borrow.Author.Tests.{le-leb, lt-leb}
 use Rattle.laws.proofs.Tests.{failed, passed}
-use Rattle.planning_laws.proofs.ShapeFacts.{shape-facts}
+use Rattle.planning_laws.proofs.ShapeFacts.{shape-facts, by-level}
 use Rattle.enumeration_text.specs.Listed.{openBits}
 use Rattle.enumeration.proofs.Readings.{open-is}
 use Rattle.enumeration.proofs.shape_number.Statement.{statement}
@@ -17,7 +18,8 @@ sub-if2 : tie.Need-sub-if2
 sub-if2 c =
     let e = c .before in
     let s = e .before .before .args .s in
-    omega (arith, shape-facts s (passed (e .before .is-shape .ensures) (e .if1 .left)) .w-max)
+    let f = shape-facts s (passed (e .before .is-shape .ensures) (e .if1 .left)) in
+    omega (arith, f .w-max, by-level (λ n. 128 ≤ n) (omega arith) (omega arith) (omega arith) (s .level) (f .level-is))
 
 returns-2 : tie.Need-returns-2
 returns-2 c =

@@ -1,11 +1,13 @@
 -- `field_384::multiples` meets its contract. The loop's invariant: the entries below `d` are right.
 use borrow.Author.Needs.{needs}
-use mathlib.Core.Path.{refl}
-use Prim.Native.Nat.{_-_, _^_, _<_}
+use mathlib.Core.Path.{refl, ap, _∙_}
+use Prim.Native.Nat.{ℕ, _-_, _*_, _^_, _<_}
 use native.Mathlib.Omega.{arith}
+use lib.Bits.{bitXor}
 use lib.Dec.{lit<, lit≤}
 use lib.ListN.{set, replicate}
 use Rattle.spec.specs.Bytes.{number}
+use Rattle.spec.specs.Polynomials.{remainder}
 use Rattle.laws.proofs.Limbs.{number-below}
 use Rattle.field_limbs.proofs.Products.{Entries, entries-first, entries-next}
 use Rattle.field_384.specs.Field.{p384}
@@ -24,21 +26,24 @@ key-lt c = number-below 8 48 (c .before .args .key .now) (c .before .pre) (λ k.
 loop-holds : tie.Need-loop-holds Inv-loop μ-loop
 unfolding number
 loop-holds c =
-    entries-first 384 p384 (lit≤ tt) (lit< tt) (number 8 (c .before .before .args .key .now)) (set (replicate 16 (replicate 6 0)) 1 (c .element .result)) (key-lt (c .before)) refl refl
-    (c .element .ensures)
+    entries-first 384 p384 (lit≤ tt) (lit< tt) (number 8 (c .before .before .before .args .key .now)) (set (replicate 16 (replicate 12 0)) 1 (c .padded .result)) (key-lt (c .before .before)) refl refl
+    (c .padded .ensures ∙ c .before .element .ensures)
 
 loop-again : tie.Need-loop-again Inv-loop μ-loop
 loop-again c =
-    let l = c .before .before .before .before .before .loop in
-    let e = c .before .before .before .before .before .before .before in
-    entries-next 384 p384 (lit≤ tt) (lit< tt) (number 8 (e .before .args .key .now)) (l .t) (l .d) (c .before .before .times-alpha .result) (c .xor .result) (key-lt e) (omega arith)
-    (c .before .before .times-alpha .ensures) (c .xor .ensures) (l .inv)
+    let l = c .before .before .before .before .before .before .before .before .loop in
+    let e = c .before .before .before .before .before .before .before .before .before .before .before in
+    let shifted = c .before .before .before .before .times-alpha in
+    entries-next 384 p384 (lit≤ tt) (lit< tt) (number 8 (e .before .args .key .now)) (l .t) (l .d) (shifted .result) (c .padded2 .result) (key-lt e) (omega arith)
+    (λ h. shifted .ensures ∙ ap (λ (x : ℕ). remainder 384 p384 1 (x * 2 ^ 1)) (c .before .before .before .before .before .limbs .ensures h))
+    (λ h. c .padded2 .ensures ∙ c .before .xor .ensures ∙ ap (bitXor (number 64 (shifted .result))) (c .before .before .limbs2 .ensures h)) (l .inv)
 
 returns : tie.Need-returns Inv-loop μ-loop
-returns c = record { degree = key-lt (c .before .before .before); entry = λ d h. c .before .loop .inv .3 d (omega arith) }
+returns c = record { degree = key-lt (c .before .before .before .before); entry = λ d h. c .before .loop .inv .3 d (omega arith) }
 
 pub multiples-spec : {M : Type 1} → statement M
 multiples-spec =
     tie.close
-    (tie.spec Inv-loop μ-loop (λ c κs. search needs) (λ c. search needs) loop-holds (λ c. search needs) (λ c. search needs) (λ c κs. search needs) (λ c. search needs) (λ c. search needs)
-    (λ c κs. search needs) (λ c. search needs) (λ c. search needs) (λ c. search needs) (λ c. search needs) loop-again returns)
+    (tie.spec Inv-loop μ-loop (λ c κs. search needs) (λ c κs. search needs) (λ c. search needs) loop-holds (λ c. search needs) (λ c. search needs) (λ c κs. search needs) (λ c κs. search needs)
+    (λ c. search needs) (λ c. search needs) (λ c κs. search needs) (λ c κs. search needs) (λ c κs. search needs) (λ c. search needs) (λ c. search needs) (λ c. search needs)
+    (λ c. search needs) loop-again returns)

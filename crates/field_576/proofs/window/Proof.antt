@@ -1,18 +1,12 @@
--- What `times_alpha` and `xor` ensure, put together.
+-- What `times_alpha`, `limbs` and `xor` ensure, put together.
 use borrow.Author.Needs.{needs}
-use mathlib.Core.Path.{ap, _∙_}
-use mathlib.Core.List.{[]}
-use Prim.Native.Nat.{ℕ}
+use mathlib.Core.Path.{ap₂, _∙_}
 use lib.Bits.{bitXor}
-use lib.ListN.{getD}
-use Rattle.spec.specs.Bytes.{number}
 use Rattle.field_576.proofs.window.Statement.{statement}
 use Rattle.field_576.proofs.window.Tie as tie
 
 returns : tie.Need-returns
-returns c =
-    let g = c .before .before .before .args in
-    c .xor .ensures ∙ ap (λ (a : ℕ). bitXor a (number 64 (getD (g .t .now) (g .d) []))) (c .before .before .times-alpha .ensures)
+returns c = λ h. c .xor .ensures ∙ ap₂ bitXor (c .before .before .before .times-alpha .ensures) (c .before .limbs .ensures h)
 
 pub window-spec : {M : Type 1} → statement M
-window-spec = tie.close (tie.spec (λ c κs. search needs) (λ c. search needs) (λ c. search needs) (λ c κs. search needs) returns)
+window-spec = tie.close (tie.spec (λ c κs. search needs) (λ c. search needs) (λ c. search needs) (λ c κs. search needs) (λ c κs. search needs) returns)

@@ -11,10 +11,10 @@ use Rattle.field_576.proofs.write.Statement.{statement}
 use Rattle.field_576.proofs.write.Tie as tie
 
 abbrev Inv-loop : tie.InvT-loop
-Inv-loop y out₀ x i₀ out i = Written 9 x y out₀ out i
+Inv-loop y out₀ x i₀ i-end out i = Written 9 x y out₀ out i
 
 abbrev μ-loop : tie.MeasureT-loop
-μ-loop y out₀ x i₀ out i = 9 - i
+μ-loop y out₀ x i₀ i-end out i = 9 - i
 
 loop-holds : tie.Need-loop-holds Inv-loop μ-loop
 unfolding tabulate

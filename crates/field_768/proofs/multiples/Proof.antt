@@ -32,7 +32,7 @@ loop-again c =
     let l = c .before .before .before .before .before .loop in
     let e = c .before .before .before .before .before .before .before in
     entries-next 768 p768 (lit≤ tt) (lit< tt) (number 8 (e .before .args .key .now)) (l .t) (l .d) (c .before .before .times-alpha .result) (c .xor .result) (key-lt e) (omega arith)
-    (c .before .before .times-alpha .ensures) (c .xor .ensures) (l .inv)
+    (λ h. c .before .before .times-alpha .ensures) (λ h. c .xor .ensures) (l .inv)
 
 returns : tie.Need-returns Inv-loop μ-loop
 returns c = record { degree = key-lt (c .before .before .before); entry = λ d h. c .before .loop .inv .3 d (omega arith) }

@@ -26,7 +26,7 @@ loop-again c =
     let l = c .before .before .before .before .before .loop in
     let byte = c .before .before .wide in
     multiplied-next 768 p768 (lit≤ tt) (lit< tt) (g .t .now) (g .s .now) (l .r) (c .before .window .result) (c .window2 .result) (l .j) (byte .result) (omega arith) (byte .ensures .1)
-    (byte .ensures .0) (c .before .window .ensures) (c .window2 .ensures) (l .inv)
+    (byte .ensures .0) (λ h. c .before .window .ensures) (λ h. c .window2 .ensures) (l .inv)
 
 returns : tie.Need-returns Inv-loop μ-loop
 returns c =

@@ -11,10 +11,10 @@ use Rattle.field_768.proofs.write.Statement.{statement}
 use Rattle.field_768.proofs.write.Tie as tie
 
 abbrev Inv-loop : tie.InvT-loop
-Inv-loop y out₀ x i₀ out i = Written 12 x y out₀ out i
+Inv-loop y out₀ x i₀ i-end out i = Written 12 x y out₀ out i
 
 abbrev μ-loop : tie.MeasureT-loop
-μ-loop y out₀ x i₀ out i = 12 - i
+μ-loop y out₀ x i₀ i-end out i = 12 - i
 
 loop-holds : tie.Need-loop-holds Inv-loop μ-loop
 unfolding tabulate

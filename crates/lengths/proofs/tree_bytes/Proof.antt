@@ -1,4 +1,4 @@
--- No tree has more than 40,960 leaves, and no node more than 32 bytes.
+-- No tree has more than 86,016 leaves, and no node more than 32 bytes.
 use Prim.Native.Nat.{ℕ, _-_, _*_}
 use mathlib.Core.Path.{ap₂}
 use native.Mathlib.Omega.{arith}
@@ -11,14 +11,14 @@ use Rattle.lengths.proofs.tree_bytes.Tie as tie
 product : tie.Need-mul-result-2
 product c =
     let l = c .before .leaf-count in
-    let m = mul-limit (c .node-bytes .result) (2 * l .result - 1) 32 81919 (c .node-bytes .ensures .2) (omega (arith, l .ensures .2)) in
+    let m = mul-limit (c .node-bytes .result) (2 * l .result - 1) 32 172031 (c .node-bytes .ensures .2) (omega (arith, l .ensures .2)) in
     omega arith
 
 returns : tie.Need-returns
 unfolding treeBytes
 returns c =
     let l = c .before .leaf-count in
-    let m = mul-limit (c .node-bytes .result) (2 * l .result - 1) 32 81919 (c .node-bytes .ensures .2) (omega (arith, l .ensures .2)) in
+    let m = mul-limit (c .node-bytes .result) (2 * l .result - 1) 32 172031 (c .node-bytes .ensures .2) (omega (arith, l .ensures .2)) in
     (ap₂ (λ (w n : ℕ). w * (2 * n - 1)) (c .node-bytes .ensures .0) (l .ensures .0), omega arith)
 
 pub tree-bytes-spec : {M : Type 1} → statement M

@@ -23,7 +23,7 @@ known : (c : tie.After-plan) → Printed (start c .args .shape) (start c .args .
 known c =
     let t = c .before .before .min in
     let e = ap (λ (s : Shape). s .t) (c .before .before .before .resolve .ensures) in
-    printed _ _ _ _ _ (c .plan .ensures) (λ h. part-length (c .before .before) ∙ (let z : t .result ≡ c .before .before .before .resolve .result .t = omega arith in z) ∙ e)
+    printed _ _ _ _ _ (c .plan .ensures) (start c .pre .2) (λ h. part-length (c .before .before) ∙ (let z : t .result ≡ c .before .before .before .resolve .result .t = omega arith in z) ∙ e)
 
 shown : (c : tie.Else1) → Listed (start (c .before .before .before .before) .args .shape) (start (c .before .before .before .before) .args .challenge .now)
     (c .before .before .before .before .plan .last .1 .1 .0) (c .before .before .before .before .plan .result)

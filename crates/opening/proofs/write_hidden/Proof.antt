@@ -33,7 +33,7 @@ loop-holds c = (omega arith, refl, ap (λ (n : ℕ). take n (c .before .before .
 mul-from : tie.Need-mul-copy-part Inv-loop μ-loop
 mul-from c =
     let w = c .before .before .before .before .commitment-bytes in
-    let m = mul-limit (w .result) (c .entry-of .result) 96 40960 (w .ensures .1) (omega (arith, c .entry-of .ensures .2)) in
+    let m = mul-limit (w .result) (c .entry-of .result) 96 86016 (w .ensures .1) (omega (arith, c .entry-of .ensures .2)) in
     omega arith
 
 mul-to : tie.Need-mul-copy-part-2 Inv-loop μ-loop

@@ -12,4 +12,9 @@ returns c = (omega arith, omega arith)
 pub commitment-place-spec : {M : Type 1} → statement M
 commitment-place-spec =
     tie.close
-    (tie.spec (λ c κs. search needs) (λ c. search needs) (λ c κs. search needs) (λ c. search needs) returns)
+    (tie.spec
+    (λ c κs. search needs)
+    (λ c. search needs)
+    (λ c κs. search needs)
+    (λ c. search needs)
+    returns)

@@ -1,19 +1,15 @@
--- A missing byte reads as 0.
+-- A version is known that has a head.
 use borrow.Author.Needs.{needs}
-use mathlib.Core.Path.{refl}
-use native.Mathlib.Omega.{arith}
-use lib.ListN.{List·getD-eq-default}
+use mathlib.Core.Path.{ap}
+use Prim.Native.Nat.{ℕ}
+use lib.Dec.{ltb}
 use Rattle.record.specs.Record.{versionOk}
 use Rattle.record_fields.proofs.version_ok.Statement.{statement}
 use Rattle.record_fields.proofs.version_ok.Tie as tie
 
 returns : tie.Need-returns
 unfolding versionOk
-returns c = rw (List·getD-eq-default (c .before .args .bytes .now) 0 {n = 0} (omega arith)) refl
-
-returns-2 : tie.Need-returns-2
-unfolding versionOk
-returns-2 c = refl
+returns c = ap (λ (n : ℕ). ltb 0 n) (c .head-bytes .ensures .0)
 
 pub version-ok-spec : {M : Type 1} → statement M
-version-ok-spec = tie.close (tie.spec returns (λ c. search needs) returns-2)
+version-ok-spec = tie.close (tie.spec (λ c κs. search needs) returns)

@@ -1,18 +1,28 @@
--- Reading tests the field and its place.
-use Rattle.spec.specs.Shapes.{level, challengeBytes}
+-- Reading tests the field, its place and its length, which is that of the resolved shape.
+use borrow.Author.Needs.{needs}
 use Rattle.record.specs.Record.{contentsOf}
 use Rattle.record.proofs.Fields.{field-room}
 use Rattle.record.proofs.ReadBack.{read-rest}
+use Rattle.record_reading.proofs.Reading.{read-front}
 use Rattle.record_reading.proofs.challenge_of.Statement.{statement}
 use Rattle.record_reading.proofs.challenge_of.Tie as tie
 
 field-of-requires : tie.Need-field-of-requires
-unfolding level challengeBytes
-field-of-requires c κs = field-room _ _ _ (read-rest _ (c .before .pre) .1)
+field-of-requires c κs =
+    rw (c .before .challenge-place .ensures, c .challenge-length .ensures .0, c .before .before .before .head-bytes .ensures .0, c .before .before .resolved-shape .ensures .0)
+    (field-room _ _ _ (read-rest _ (c .before .before .before .before .before .pre) .1))
 
 returns : tie.Need-returns
-unfolding level challengeBytes contentsOf
-returns c = c .field-of .ensures
+unfolding contentsOf
+returns c = cc
 
 pub challenge-of-spec : {M : Type 1} → statement M
-challenge-of-spec = tie.close (tie.spec field-of-requires returns)
+challenge-of-spec =
+    tie.close
+    (tie.spec
+    (λ c κs. search needs)
+    (λ c κs. read-front _ (c .before .before .pre))
+    (λ c κs. search needs)
+    (λ c κs. search needs)
+    field-of-requires
+    returns)

@@ -4,6 +4,7 @@ use mathlib.Core.Path.{refl, ap, _∙_}
 use Rattle.spec.specs.Calls.{rowOk}
 use Rattle.spec.specs.Shapes.{resolved, shapeOk}
 use Rattle.laws.proofs.Tests.{failed, passed}
+use Rattle.record.specs.Fields.{fieldOk}
 use Rattle.record.specs.Record.{headNumber}
 use Rattle.record_reading.proofs.head_number.Statement.{statement}
 use Rattle.record_reading.proofs.head_number.Tie as tie
@@ -16,23 +17,30 @@ returns-2 : tie.Need-returns-2
 unfolding headNumber
 returns-2 c =
     let fi = c .before in
-    rw (passed (fi .before .before .version-ok .ensures) (fi .before .if1 .left), failed (fi .field-fits .ensures) (c .if2 .taken)) refl
+    let h = fi .field-fits .ensures ∙ ap (fieldOk _ 1) (fi .before .head-bytes .ensures .0) in
+    rw (passed (fi .before .before .before .version-ok .ensures) (fi .before .before .if1 .left), failed h (c .if2 .taken)) refl
 
 shape-of-requires : tie.Need-shape-of-requires
-shape-of-requires c κs = passed (c .before .field-fits .ensures) (c .if2 .left)
+shape-of-requires c κs =
+    let fi = c .before in
+    let h = fi .field-fits .ensures ∙ ap (fieldOk _ 1) (fi .before .head-bytes .ensures .0) in
+    (passed (fi .before .before .before .version-ok .ensures) (fi .before .before .if1 .left), passed h (c .if2 .left))
 
 returns-3 : tie.Need-returns-3
 unfolding headNumber
 returns-3 c =
     let sh = c .before in
     let fi = sh .before .before .before .before in
+    let h = fi .field-fits .ensures ∙ ap (fieldOk _ 1) (fi .before .head-bytes .ensures .0) in
     let s = sh .is-shape .ensures ∙ ap shapeOk (sh .before .resolve .ensures ∙ ap resolved (sh .before .before .shape-of .ensures)) in
-    rw (passed (fi .before .before .version-ok .ensures) (fi .before .if1 .left), passed (fi .field-fits .ensures) (sh .before .before .before .if2 .left), failed s (c .if3 .taken)) refl
+    rw (passed (fi .before .before .before .version-ok .ensures) (fi .before .before .if1 .left), passed h (sh .before .before .before .if2 .left), failed s (c .if3 .taken)) refl
 
 row-of-requires : tie.Need-row-of-requires
 row-of-requires c κs =
     let sh = c .before in
-    passed (sh .before .before .before .before .field-fits .ensures) (sh .before .before .before .if2 .left)
+    let fi = sh .before .before .before .before in
+    let h = fi .field-fits .ensures ∙ ap (fieldOk _ 1) (fi .before .head-bytes .ensures .0) in
+    (passed (fi .before .before .before .version-ok .ensures) (fi .before .before .if1 .left), passed h (sh .before .before .before .if2 .left))
 
 returns-4 : tie.Need-returns-4
 unfolding headNumber
@@ -40,11 +48,12 @@ returns-4 c =
     let ro = c .before in
     let sh = ro .before .before .before in
     let fi = sh .before .before .before .before in
+    let h = fi .field-fits .ensures ∙ ap (fieldOk _ 1) (fi .before .head-bytes .ensures .0) in
     let s = sh .is-shape .ensures ∙ ap shapeOk (sh .before .resolve .ensures ∙ ap resolved (sh .before .before .shape-of .ensures)) in
     let n = ro .is-row-length .ensures ∙ ap rowOk (ro .before .row-of .ensures) in
     rw (
-      passed (fi .before .before .version-ok .ensures) (fi .before .if1 .left),
-      passed (fi .field-fits .ensures) (sh .before .before .before .if2 .left),
+      passed (fi .before .before .before .version-ok .ensures) (fi .before .before .if1 .left),
+      passed h (sh .before .before .before .if2 .left),
       passed s (ro .before .before .if3 .left),
       failed n (c .if4 .taken),
     )
@@ -56,11 +65,12 @@ returns-5 c =
     let ro = c .before in
     let sh = ro .before .before .before in
     let fi = sh .before .before .before .before in
+    let h = fi .field-fits .ensures ∙ ap (fieldOk _ 1) (fi .before .head-bytes .ensures .0) in
     let s = sh .is-shape .ensures ∙ ap shapeOk (sh .before .resolve .ensures ∙ ap resolved (sh .before .before .shape-of .ensures)) in
     let n = ro .is-row-length .ensures ∙ ap rowOk (ro .before .row-of .ensures) in
     rw (
-      passed (fi .before .before .version-ok .ensures) (fi .before .if1 .left),
-      passed (fi .field-fits .ensures) (sh .before .before .before .if2 .left),
+      passed (fi .before .before .before .version-ok .ensures) (fi .before .before .if1 .left),
+      passed h (sh .before .before .before .if2 .left),
       passed s (ro .before .before .if3 .left),
       passed n (c .if4 .left),
     )
@@ -72,6 +82,7 @@ head-number-spec =
     (tie.spec
     (λ c κs. search needs)
     returns
+    (λ c κs. search needs)
     (λ c κs. search needs)
     returns-2
     shape-of-requires

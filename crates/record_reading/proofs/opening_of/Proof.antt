@@ -1,9 +1,6 @@
 -- Reading tests the field, its place and its length, which are those of the resolved shape.
 use borrow.Author.Needs.{needs}
-use mathlib.Core.Path.{ap, ap₂, _∙_}
-use Rattle.spec.specs.Shapes.{openingBytes}
-use Rattle.record.specs.Fields.{fieldAt}
-use Rattle.record.specs.Record.{openingPlace, contentsOf}
+use Rattle.record.specs.Record.{contentsOf}
 use Rattle.record.proofs.Fields.{field-room}
 use Rattle.record.proofs.ReadBack.{read-rest}
 use Rattle.record_reading.proofs.Reading.{read-front}
@@ -14,26 +11,24 @@ field-of-requires : tie.Need-field-of-requires
 field-of-requires c κs =
     rw (
       c .before .opening-place .ensures .0,
-      c .opening-length .ensures .0,
+      c .opening-bytes .ensures .0,
+      c .before .before .before .before .head-bytes .ensures .0,
       c .before .before .before .resolved-shape .ensures .0,
       c .before .before .row-bytes .ensures .0,
     )
-    (field-room _ _ _ (read-rest _ (c .before .before .before .before .before .pre) .3))
+    (field-room _ _ _ (read-rest _ (c .before .before .before .before .before .before .pre) .3))
 
 returns : tie.Need-returns
 unfolding contentsOf
-returns c =
-    let s = c .before .before .before .before .resolved-shape .ensures .0 in
-    c .field-of .ensures
-    ∙ ap₂ (fieldAt _) (c .before .before .opening-place .ensures .0 ∙ ap₂ openingPlace s (c .before .before .before .row-bytes .ensures .0))
-    (c .before .opening-length .ensures .0 ∙ ap openingBytes s)
+returns c = cc
 
 pub opening-of-spec : {M : Type 1} → statement M
 opening-of-spec =
     tie.close
     (tie.spec
-    (λ c κs. read-front _ (c .before .pre))
+    (λ c κs. search needs)
     (λ c κs. read-front _ (c .before .before .pre))
+    (λ c κs. read-front _ (c .before .before .before .pre))
     (λ c κs. search needs)
     (λ c κs. search needs)
     field-of-requires

@@ -15,26 +15,28 @@ returns-2 : tie.Need-returns-2
 returns-2 c =
     let re = c .before in
     let sh = re .before .before in
-    let ok = sym (sh .before .before .head-number .ensures) ∙ sh .before .if1 .left in
-    sym (read-missing _ _ _ ok (sh .resolved-shape .ensures .0) (re .before .row-bytes .ensures .0) (failed (re .rest-ok .ensures) (c .if2 .taken)))
+    let ok = sym (sh .before .before .before .head-number .ensures) ∙ sh .before .before .if1 .left in
+    sym
+    (read-missing _ _ _ _ ok (sh .before .head-bytes .ensures .0) (sh .resolved-shape .ensures .0) (re .before .row-bytes .ensures .0)
+    (failed (re .rest-ok .ensures) (c .if2 .taken)))
 
 returns-3 : tie.Need-returns-3
 returns-3 c =
     let re = c .before .before .before in
     let sh = re .before .before in
-    let ok = sym (sh .before .before .head-number .ensures) ∙ sh .before .if1 .left in
+    let ok = sym (sh .before .before .before .head-number .ensures) ∙ sh .before .before .if1 .left in
     sym
-    (read-left-over _ _ _ ok (sh .resolved-shape .ensures .0) (re .before .row-bytes .ensures .0) (passed (re .rest-ok .ensures) (c .before .before .if2 .left))
-    (λ n. c .if3 .taken (n ∙ sym (c .before .record-length .ensures .0))))
+    (read-left-over _ _ _ _ ok (sh .before .head-bytes .ensures .0) (sh .resolved-shape .ensures .0) (re .before .row-bytes .ensures .0)
+    (passed (re .rest-ok .ensures) (c .before .before .if2 .left)) (λ n. c .if3 .taken (n ∙ sym (c .before .record-end .ensures .0))))
 
 returns-4 : tie.Need-returns-4
 returns-4 c =
     let re = c .before .before .before in
     let sh = re .before .before in
-    let ok = sym (sh .before .before .head-number .ensures) ∙ sh .before .if1 .left in
+    let ok = sym (sh .before .before .before .head-number .ensures) ∙ sh .before .before .if1 .left in
     sym
-    (read-whole _ _ _ ok (sh .resolved-shape .ensures .0) (re .before .row-bytes .ensures .0) (passed (re .rest-ok .ensures) (c .before .before .if2 .left))
-    (c .if3 .left ∙ c .before .record-length .ensures .0))
+    (read-whole _ _ _ _ ok (sh .before .head-bytes .ensures .0) (sh .resolved-shape .ensures .0) (re .before .row-bytes .ensures .0)
+    (passed (re .rest-ok .ensures) (c .before .before .if2 .left)) (c .if3 .left ∙ c .before .record-end .ensures .0))
 
 pub read-number-spec : {M : Type 1} → statement M
 read-number-spec =
@@ -42,6 +44,7 @@ read-number-spec =
     (tie.spec
     (λ c κs. search needs)
     returns
+    (λ c κs. search needs)
     (λ c κs. search needs)
     (λ c κs. search needs)
     (λ c κs. search needs)

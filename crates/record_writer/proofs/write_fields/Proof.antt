@@ -21,7 +21,7 @@ returns c =
     let said : Contents = record { shape = g .shape; row = g .row-bits; iv = g .iv .now; challenge = g .challenge .now; corrections = g .corrections .now; opening = g .opening .now; commitment = g .commitment .now } in
     let same : length (f₅ .put-field5 .last .0) ≡ length (g .«record» .now) = omega arith in
     put-whole
-    (put-record said _ _ _ _ (f₁ .put-field .ensures .0) (f₂ .put-field2 .ensures .0) (f₃ .put-field3 .ensures .0) (f₄ .put-field4 .ensures .0) (f₀ .put-front .ensures)
+    (put-record said _ _ _ _ _ (f₀ .put-front .ensures .0) (f₁ .put-field .ensures .0) (f₂ .put-field2 .ensures .0) (f₃ .put-field3 .ensures .0) (f₄ .put-field4 .ensures .0) (f₀ .put-front .ensures .1)
     (f₁ .put-field .ensures .1) (f₂ .put-field2 .ensures .1) (f₃ .put-field3 .ensures .1) (f₄ .put-field4 .ensures .1) (f₅ .put-field5 .ensures .1))
     (same ∙ (start .pre .1 ∙ sym (length-record said)))
 

@@ -40,7 +40,7 @@ write-fields-requires c κs =
     let g = sh .before .before .before .before .before .before .before .before .args in (
       sym (ap shapeOk (sh .before .resolve .ensures)) ∙ passed (sh .is-shape .ensures) (ft .before .before .before .if1 .left),
       room (sh .before .resolve .result) (record { shape = g .shape; row = g .row-bits; iv = g .iv .now; challenge = g .challenge .now; corrections = g .corrections .now; opening = g .opening .now; commitment = g .commitment .now })
-          (g .«record» .now) (passed (ft .write-lengths .ensures) (c .before .if3 .left)),
+          (g .«record» .now) (sh .before .resolve .ensures) (passed (ft .write-lengths .ensures) (c .before .if3 .left)),
     )
 
 returns-4 : tie.Need-returns-4

@@ -1,4 +1,4 @@
--- The entries of the vectors are at most 40,960.
+-- The entries of the vectors are at most 86,016.
 use Prim.Native.Nat.{ℕ, _+_, _*_, _^_, _≤_, _<_, min}
 use mathlib.Core.Path.{_≡_, ap, _∙_}
 use native.Mathlib.Omega.{arith}
@@ -10,7 +10,7 @@ use Rattle.planning_laws.proofs.ShapeFacts.{ShapeFacts, shape-facts, leaves-max
 use Rattle.rules.proofs.first_entry.Statement.{statement}
 use Rattle.rules.proofs.first_entry.Tie as tie
 
-within : (s : Shape) (i : ℕ) → ShapeFacts s → i ≤ s .tau → (firstEntry s i ≤ leaves s) × (leaves s ≤ 40960)
+within : (s : Shape) (i : ℕ) → ShapeFacts s → i ≤ s .tau → (firstEntry s i ≤ leaves s) × (leaves s ≤ 86016)
 unfolding firstEntry leaves
 within s i f h =
     (mul-le-mul (let z : i + min i (deeper s) ≤ s .tau + deeper s = omega arith in z) (le-refl (2 ^ s .k)), leaves-max s f)

@@ -14,7 +14,7 @@ use Rattle.rules.proofs.leaf_place.Tie as tie
 
 -- n is 2^k, r the number of the deeper vectors
 near : (s : Shape) (i j n : ℕ) → (shapeOk s ≡ true) × (i < s .tau) × (j < entriesOf s i) → n ≡ 2 ^ s .k → j < n
-    → (leafOf s i j ≡ leaves s - 1 + (s .tau * j + i)) × (s .tau * j + i < leaves s) × (leaves s ≤ 40960)
+    → (leafOf s i j ≡ leaves s - 1 + (s .tau * j + i)) × (s .tau * j + i < leaves s) × (leaves s ≤ 86016)
 near s i j n p e h =
     let a = leaf-near s i j (omega arith) in
     let b = interleaved-lt (s .tau) (2 ^ s .k) j i (omega arith) (p .1) in
@@ -22,7 +22,7 @@ near s i j n p e h =
     (omega arith, omega arith, leaves-max s (shape-facts s (p .0)))
 
 far : (s : Shape) (i j n r : ℕ) → (shapeOk s ≡ true) × (i < s .tau) × (j < entriesOf s i) → n ≡ 2 ^ s .k → r ≡ deeper s → n ≤ j
-    → (leafOf s i j ≡ leaves s - 1 + (s .tau * n + r * (j - n) + i)) × (s .tau * n + r * (j - n) + i < leaves s) × (leaves s ≤ 40960)
+    → (leafOf s i j ≡ leaves s - 1 + (s .tau * n + r * (j - n) + i)) × (s .tau * n + r * (j - n) + i < leaves s) × (leaves s ≤ 86016)
 far s i j n r p e q h =
     rw (e, q)
     (let m = far-entry s i j (omega arith) (p .2) in

@@ -1,4 +1,4 @@
--- Each return goes by the tests that led to it; the definition tests the same four numbers.
+-- Each return goes by the tests that led to it; the definition tests the same five numbers.
 use borrow.Author.Tests.{eq-eqb, ne-eqb}
 use Rattle.spec.specs.Bytes.{allZero}
 use Rattle.spec.specs.Shapes.{faest128f, resolved}
@@ -28,14 +28,26 @@ returns-4 c =
     )
 
 returns-5 : tie.Need-returns-5
-unfolding resolved allZero faest128f
+unfolding resolved allZero
 returns-5 c =
     simp (
-      eq-eqb _ 0 (c .before .before .before .before .before .before .if1 .left),
-      eq-eqb _ 0 (c .before .before .before .before .if2 .left),
-      eq-eqb _ 0 (c .before .before .if3 .left),
-      eq-eqb _ 0 (c .if4 .left),
+      eq-eqb _ 0 (c .before .before .before .before .before .before .before .before .if1 .left),
+      eq-eqb _ 0 (c .before .before .before .before .before .before .if2 .left),
+      eq-eqb _ 0 (c .before .before .before .before .if3 .left),
+      eq-eqb _ 0 (c .before .before .if4 .left),
+      ne-eqb _ 128 (c .if5 .taken),
+    )
+
+returns-6 : tie.Need-returns-6
+unfolding resolved allZero faest128f
+returns-6 c =
+    simp (
+      eq-eqb _ 0 (c .before .before .before .before .before .before .before .before .if1 .left),
+      eq-eqb _ 0 (c .before .before .before .before .before .before .if2 .left),
+      eq-eqb _ 0 (c .before .before .before .before .if3 .left),
+      eq-eqb _ 0 (c .before .before .if4 .left),
+      eq-eqb _ 128 (c .if5 .left),
     )
 
 pub resolve-spec : {M : Type 1} → statement M
-resolve-spec = tie.close (tie.spec returns returns-2 returns-3 returns-4 returns-5)
+resolve-spec = tie.close (tie.spec returns returns-2 returns-3 returns-4 returns-5 returns-6)

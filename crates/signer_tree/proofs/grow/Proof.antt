@@ -29,7 +29,7 @@ inside s n a k d ok e l h =
     let m = leaves-max s f in
     let all : d ≡ n * (2 * leaves s - 1) = l ∙ ap (λ (x : ℕ). x * (2 * leaves s - 1)) (sym e) in
     let some = mul-limit n (2 * a + k) n (2 * leaves s - 1) (le-refl n) h in
-    let most = mul-limit n (2 * leaves s - 1) 32 81919 (omega arith) (omega arith) in
+    let most = mul-limit n (2 * leaves s - 1) 32 172031 (omega arith) (omega arith) in
     (omega arith, omega arith)
 
 abbrev Inv-loop : tie.InvT-loop

@@ -53,7 +53,7 @@ hash-multiples-requires : tie.Need-hash-multiples-requires
 hash-multiples-requires c κs =
     let start = c .before .before .before .before .before .before .before .before .before in
     let w = c .before .before .commitment-bytes in
-    lent (w .result * start .args .i) _ (w .result) (start .args .keys .now) refl (key-end (c .before)) ∙ w .ensures .0
+    (start .pre .1 .0 .0, lent (w .result * start .args .i) _ (w .result) (start .args .keys .now) refl (key-end (c .before)) ∙ w .ensures .0)
 
 -- entry 0
 some-entry : (s : Shape) (i : ℕ) → 0 < entriesOf s i

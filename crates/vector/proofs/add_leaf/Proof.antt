@@ -18,7 +18,7 @@ use Rattle.vector.proofs.add_leaf.Tie as tie
 mul-a : tie.Need-mul-a
 mul-a c =
     let n = c .before .node-bytes in
-    let m = mul-limit (n .result) (c .leaf-of .result) 32 81920 (n .ensures .2) (omega (arith, c .leaf-of .ensures .3)) in
+    let m = mul-limit (n .result) (c .leaf-of .result) 32 172032 (n .ensures .2) (omega (arith, c .leaf-of .ensures .3)) in
     omega arith
 
 leaf-tweak-requires : tie.Need-leaf-tweak-requires
@@ -31,7 +31,7 @@ add-leaf : tie.Need-add-commit-leaf
 add-leaf c =
     let n = c .before .before .before .node-bytes in
     let l = c .before .before .leaf-of in
-    let m = mul-limit (n .result) (l .result) 32 81920 (n .ensures .2) (omega (arith, l .ensures .3)) in
+    let m = mul-limit (n .result) (l .result) 32 172032 (n .ensures .2) (omega (arith, l .ensures .3)) in
     omega (arith, n .ensures .2)
 
 leaf-end : tie.Need-part-commit-leaf-end
@@ -51,7 +51,7 @@ commit-leaf-requires c κs =
     let n = c .before .before .before .before .before .before .node-bytes in
     let a = n .result * c .before .before .before .before .before .leaf-of .result in
     let p = start .pre .1 .1 .0 in
-    (start .pre .0, (lent a (a + n .result) (n .result) (start .args .tree .now) refl (leaf-end (c .before .before .before)) ∙ n .ensures .0, p .0, p .1))
+    (start .pre .0, (start .pre .1 .0 .0, lent a (a + n .result) (n .result) (start .args .tree .now) refl (leaf-end (c .before .before .before)) ∙ n .ensures .0, p .0, p .1))
 
 add-add-row : tie.Need-add-add-row
 add-add-row c =

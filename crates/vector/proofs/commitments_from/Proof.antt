@@ -1,4 +1,4 @@
--- No leaf commitment has more than 96 bytes, and no tree more than 40,960 leaves.
+-- No leaf commitment has more than 96 bytes, and no tree more than 86,016 leaves.
 use Prim.Native.Nat.{_*_}
 use mathlib.Core.Path.{ap₂}
 use native.Mathlib.Omega.{arith}
@@ -10,7 +10,7 @@ use Rattle.vector.proofs.commitments_from.Tie as tie
 product : tie.Need-mul-result
 product c =
     let w = c .before .commitment-bytes in
-    let m = mul-limit (w .result) (c .first-entry .result) 96 40960 (w .ensures .1) (c .first-entry .ensures .2) in
+    let m = mul-limit (w .result) (c .first-entry .result) 96 86016 (w .ensures .1) (c .first-entry .ensures .2) in
     omega arith
 
 returns : tie.Need-returns

@@ -63,7 +63,7 @@ write-tree-requires c κs =
     let used = mul-rest (w .result) (g .n) (g .s .t) (p .1 .3) in
     let long = p .1 .4 in
     let all : length (g .tree .now) ≡ w .result * (2 * n .result - 1) = p .1 .5 ∙ sym (ap₂ (λ (m k : ℕ). m * (2 * k - 1)) (w .ensures .0) (n .ensures .0)) in
-    let most = mul-limit (w .result) (2 * n .result - 1) 32 81919 (w .ensures .2) (omega (arith, n .ensures .2)) in
+    let most = mul-limit (w .result) (2 * n .result - 1) 32 172031 (w .ensures .2) (omega (arith, n .ensures .2)) in
     (p .0, (n .ensures .1, r .0, r .1, r .2, r .3, omega arith, all, omega arith, w .ensures .1, w .ensures .2, ap (λ (m : ℕ). m % 8) (w .ensures .0) ∙ ws .node-eight))
 
 returns : tie.Need-returns

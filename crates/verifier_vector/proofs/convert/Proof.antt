@@ -61,7 +61,7 @@ hash-multiples-requires : tie.Need-hash-multiples-requires
 hash-multiples-requires c κs =
     let start = c .before .before .before .before .before .before .before .before .before in
     let w = c .before .before .commitment-bytes in
-    lent (w .result * start .args .i) _ (w .result) (start .args .keys .now) refl (key-end (c .before)) ∙ w .ensures .0
+    (start .pre .1 .0 .0, lent (w .result * start .args .i) _ (w .result) (start .args .keys .now) refl (key-end (c .before)) ∙ w .ensures .0)
 
 add-visible-requires : tie.Need-add-visible-requires
 add-visible-requires c κs =

@@ -1,4 +1,4 @@
--- At most 32 times 8192.
+-- At most 256 times 172032.
 use native.Mathlib.Nat.{mul-le-mul}
 use native.Mathlib.Omega.{arith}
 use Prim.Native.Nat.{_≤_}
@@ -8,8 +8,15 @@ use Rattle.test_support.proofs.lengths.product.Tie as tie
 
 mul-result : tie.Need-mul-result
 mul-result c =
-    let a : c .before .at-most .result ≤ 32 = omega arith in
-    let b : c .at-most2 .result ≤ 8192 = omega arith in
+    let a : c .before .at-most .result ≤ 256 = omega arith in
+    let b : c .at-most2 .result ≤ 172032 = omega arith in
+    let p = mul-le-mul a b in
+    omega arith
+
+returns : tie.Need-returns
+returns c =
+    let a : c .before .at-most .result ≤ 256 = omega arith in
+    let b : c .at-most2 .result ≤ 172032 = omega arith in
     let p = mul-le-mul a b in
     omega arith
 
@@ -20,4 +27,4 @@ product-spec =
     (λ c κs. search needs)
     (λ c κs. search needs)
     mul-result
-    (λ c. search needs))
+    returns)

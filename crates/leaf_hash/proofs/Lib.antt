@@ -1,0 +1,2 @@
+-- The field of each level.
+pub mod Levels

@@ -1,0 +1,28 @@
+/* A shape, and its numbers in the order of the calls. */
+#ifndef SHAPE_H
+#define SHAPE_H
+
+#include <stddef.h>
+
+typedef struct shape {
+    size_t tau, k, w, t, level;
+} shape;
+
+#define NUMBERS(s) (s).tau, (s).k, (s).w, (s).t, (s).level
+
+/* the sets of document 000, section 3.1, and the default */
+#define FAEST_128S {11, 11, 7, 102, 128}
+#define FAEST_128F {16, 7, 8, 110, 128}
+#define FAEST_192S {16, 11, 12, 162, 192}
+#define FAEST_192F {24, 7, 8, 163, 192}
+#define FAEST_256S {22, 11, 6, 245, 256}
+#define FAEST_256F {32, 7, 8, 246, 256}
+#define DEFAULT {0, 0, 0, 0, 128}
+
+/* the grinding bits that a shape means */
+static inline size_t grinding_bits(shape s)
+{
+    return s.tau == 0 ? 8 : s.w;
+}
+
+#endif
