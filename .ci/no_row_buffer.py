@@ -38,7 +38,7 @@ TABLE = {
                                                         'signer_vectors::convert', 'verifier_vector::convert'}),
     '[u64; 6]': ('an element of the field of the leaf hash, of 384 bits', {'field_384'}),
     '[u64; 9]': ('of 576 bits', {'field_576'}),
-    '[u64; 12]': ('of 768 bits, or one of the multiples', {'field_384', 'field_576', 'field_768'}),
+    '[u64; 12]': ('of 768 bits, or one of the multiples', {'field_384', 'field_576', 'field_768', 'leaf::hash_multiples'}),
     '[u64; 25]': ('the lanes of a sponge', {'keccak', 'shake', 'verifier_vector::hash_vector'}),
     '[u64; 24]': ('the round constants of Keccak', {'keccak'}),
     '[u64; 5]': ('the parities of Keccak\'s columns, or a plane of its state', {'keccak'}),
@@ -54,7 +54,7 @@ BESIDE_ROWS = {'[u8; 256]', '[[[u8; 4]; 4]; 15]', '[[[u8; 4]; 4]; 8]', '[[[u8; 4
 # who calls what makes blocks
 CALLERS = {
     'rows::add_row': {'vector::add_leaf'},
-    'generator::fill': {'leaf::stretch_leaf'},
+    'generator::fill': {'leaf::stretch_leaf', 'leaf::em_leaf'},
     'generator::fill_keyed': {'tree::expand_node', 'generator::fill'},
     'generator::block': {'rows::add_row'},
     'generator::block_pair': {'rows::add_row', 'generator::fill_keyed'},

@@ -27,14 +27,14 @@ static uint8_t root[16] = {1, 2, 3}, iv[16] = {4, 5, 6};
 static double milliseconds(int side, size_t tau, size_t k, size_t row_bits)
 {
     const size_t w = 128 - tau * k, shape[4] = {tau, k, w, 128}, b = row_bits / 8;
-    const rachnoel_lengths n = rachnoel_lengths_of(tau, k, w, 128, 128, b);
+    const rachnoel_lengths n = rachnoel_lengths_of(tau, k, w, 128, 128, 0, b);
     uint8_t count[RACHNOEL_COUNT];
     struct timespec from, to;
     clock_gettime(CLOCK_PROCESS_CPUTIME_ID, &from);
     if (side == 0)
         c_commit(shape, b, root, iv, made[0].commitment, made[0].tree, made[0].leaf_commitments, made[0].u, made[0].v, made[0].corrections);
     else
-        rachnoel_commit(tau, k, w, 128, 128, row_bits, root, 16, iv, 16, made[1].commitment, 32, made[1].tree, n.tree, made[1].leaf_commitments, n.leaf_commitments,
+        rachnoel_commit(tau, k, w, 128, 128, 0, row_bits, root, 16, iv, 16, made[1].commitment, 32, made[1].tree, n.tree, made[1].leaf_commitments, n.leaf_commitments,
                         made[1].u, n.u, made[1].v, n.matrix, made[1].corrections, n.corrections, count, 4);
     clock_gettime(CLOCK_PROCESS_CPUTIME_ID, &to);
     return (double)(to.tv_sec - from.tv_sec) * 1e3 + (double)(to.tv_nsec - from.tv_nsec) / 1e6;

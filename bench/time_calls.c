@@ -28,7 +28,7 @@ static uint8_t stretch_u[ROW / 10], stretch_v[128 * (ROW / 10)], stretch_correct
 static const size_t *shape;
 static rachnoel_lengths n;
 static uint8_t count[RACHNOEL_COUNT];
-#define SHAPE shape[0], shape[1], shape[2], shape[3], 128
+#define SHAPE shape[0], shape[1], shape[2], shape[3], 128, 0
 
 static void (*const c_commits[])(const size_t *, size_t, const uint8_t *, const uint8_t *, uint8_t *, uint8_t *, uint8_t *, uint8_t *, uint8_t *, uint8_t *) = {c_commit, t_commit};
 static size_t (*const c_opens[])(const size_t *, const uint8_t *, const uint8_t *, const uint8_t *, uint8_t *) = {c_open, t_open};

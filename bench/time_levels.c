@@ -1,4 +1,4 @@
-/* Times commit and reconstruct at the sets of each level, at their row lengths, in the archives that a licensee links: the least processor time of some runs, the sets in turn. Beside commit stands what the set's
+/* Times commit and reconstruct at sets of each level and kind, at their row lengths, in the archives that a licensee links: the least processor time of some runs, the sets in turn. Beside commit stands what the set's
    AES blocks times rounds predict from FAEST-128f. The commitment that reconstruct gives is compared with commit's; that the bytes are right hosts/ tests. */
 #include "../hosts/c/shape.h"
 #include <rachnoel.h>
@@ -13,7 +13,8 @@ static const struct {
     shape s;
     size_t row_bits;
 } sets[] = {{"FAEST-128f", FAEST_128F, 1680}, {"FAEST-128s", FAEST_128S, 1680}, {"FAEST-192f", FAEST_192F, 3088}, {"FAEST-192s", FAEST_192S, 3088},
-            {"FAEST-256f", FAEST_256F, 3888}, {"FAEST-256s", FAEST_256S, 3888}};
+            {"FAEST-256f", FAEST_256F, 3888}, {"FAEST-EM-128f", FAEST_EM_128F, 1360}, {"FAEST-EM-128s", FAEST_EM_128S, 1360}, {"FAEST-EM-192f", FAEST_EM_192F, 2320},
+            {"FAEST-EM-256f", FAEST_EM_256F, 3472}, {"FAEST-256s", FAEST_256S, 3888}};
 enum { SETS = sizeof sets / sizeof sets[0] };
 
 static uint8_t root[RACHNOEL_NODE_MOST], iv[RACHNOEL_IV], challenge[RACHNOEL_NODE_MOST], count[RACHNOEL_COUNT];
@@ -24,7 +25,7 @@ static uint8_t *tree, *lcs, *u, *v, *corrections, *opening;
 static double work(shape s, size_t row_bytes)
 {
     const rachnoel_lengths n = rachnoel_lengths_of(NUMBERS(s), row_bytes);
-    const size_t leaf = 3 * n.node + n.node;
+    const size_t leaf = (s.kind == 0 ? 4 : 2) * n.node;
     const size_t blocks = (n.leaves - 1) * ((2 * n.node + 15) / 16) + n.leaves * ((leaf + 15) / 16 + (row_bytes + 15) / 16);
     return (double)blocks * (double)(s.level / 32 + 6);
 }
@@ -86,7 +87,7 @@ int main(void)
     const double unit = best[0][0] / work(sets[0].s, sets[0].row_bits / 8);
     for (int i = 0; i < SETS; i++) {
         const double predicted = unit * work(sets[i].s, sets[i].row_bits / 8);
-        printf("%s commit %7.2f ms, predicted %7.2f ms, ratio %.2f; reconstruct %7.2f ms\n", sets[i].name, best[i][0], predicted, best[i][0] / predicted, best[i][1]);
+        printf("%-13s commit %7.2f ms, predicted %7.2f ms, ratio %.2f; reconstruct %7.2f ms\n", sets[i].name, best[i][0], predicted, best[i][0] / predicted, best[i][1]);
     }
     return wrong != 0;
 }

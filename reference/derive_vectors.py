@@ -22,8 +22,9 @@ The cases are the calls of these forms in the src/main.rt of each, whose first l
     record_at_level(LEVEL, TAU, K, W, T, ROWBITS, ROOTIV, C0, C1, C2, C3)                   record; prefixes_at_level, flips_at_level, pairs_at_level likewise
     decode_at_level(LEVEL, TAU, K, W, T, C0, C1, C2, C3), plan_at_level(..)                 the command of this name
     probe_commit_at_level(LEVEL, TAU, K, W, T, ..), probe_open_at_level(..) ..              the probe of this name
+    at_kind(KIND, LEVEL, TAU, ..), stretch_at_kind(..), record_at_kind(..) ..               each form at_level with the leaf kind in front
 
-All but those at_level are at level 128. C0 to C3 are words of a challenge, the least byte first; it is the first level / 8 bytes of them. The root of a digit
+All others are at level 128, and all but those at_kind of kind 0. C0 to C3 are words of a challenge, the least byte first; it is the first level / 8 bytes of them. The root of a digit
 is the 16 bytes of that digit followed by the same bytes again, cut to level / 8 bytes; the IV is the 16 bytes. For a level that there is not, root and challenge have
 16 bytes.
 
@@ -50,6 +51,7 @@ LENGTHS.update({f'{form}_version_1': 8 for form in RECORDS})
 LENGTHS.update({f'{form}_at_level': 11 for form in RECORDS})
 LENGTHS.update({f'{form}_at_level': LENGTHS[form] + 1 for form in PROBES})
 LENGTHS.update({'at_level': 11, 'stretch_at_level': 13, 'decode_at_level': 9, 'plan_at_level': 9})
+LENGTHS.update({form.removesuffix('level') + 'kind': length + 1 for form, length in LENGTHS.items() if form.endswith('at_level')})
 
 
 def cases(name):
@@ -81,33 +83,36 @@ def root_iv(known, level):
 
 
 def three_calls(shape, rows, known, challenge, end='', flip=()):
-    """Commit, open, reconstruct, at the level at the end of the shape."""
-    signer = [*map(str, (*shape, *rows)), *root_iv(known, shape[-1])]
-    both = [*signer, words(*challenge)[:node_digits(shape[-1])]]
+    """Commit, open, reconstruct, of a shape that ends with its level and kind."""
+    level = shape[4]
+    signer = [*map(str, (*shape, *rows)), *root_iv(known, level)]
+    both = [*signer, words(*challenge)[:node_digits(level)]]
     return [['commit' + end, *signer], ['open' + end, *both], ['reconstruct' + end, *both, *flip]]
 
 
 def commands(form, case):
-    name, level = form, 128
-    if form.endswith('at_level'):
-        name, level, case = form.removesuffix('at_level').removesuffix('_'), case[0], case[1:]
+    name, level, kind = form, 128, 0
+    if form.endswith('at_kind'):
+        name, kind, case = form.removesuffix('kind') + 'level', case[0], case[1:]
+    if name.endswith('at_level'):
+        name, level, case = name.removesuffix('at_level').removesuffix('_'), case[0], case[1:]
+    if name in ('case', 'flipped'):
+        tau, k, t = case[:3]
+        case = [tau, k, 128 - tau * k if tau else 0, t, *case[3:]]
+    shape, rest = (*case[:4], level, kind), case[4:]
     if name.startswith('probe'):
-        return [[name, *map(str, (*case[:4], level, *case[4:]))]]
+        return [[name, *map(str, (*shape, *rest))]]
     if name in ('decode', 'plan'):
-        return [[name, *map(str, (*case[:4], level)), words(*case[4:])[:node_digits(level)]]]
+        return [[name, *map(str, shape), words(*rest)[:node_digits(level)]]]
     if name.removesuffix('_version_1') in RECORDS:
-        return [[name, *map(str, (*case[:4], level, case[4])), *root_iv(case[5], level), words(*case[6:])[:node_digits(level)]]]
+        return [[name, *map(str, (*shape, rest[0])), *root_iv(rest[1], level), words(*rest[2:])[:node_digits(level)]]]
     if name == 'stretch':
-        return three_calls((*case[:4], level), case[4:7], case[7], case[8:], '_stretch')
-    if name in ('', 'uneven'):
-        return three_calls((*case[:4], level), case[4:5], case[5], case[6:])
+        return three_calls(shape, rest[:3], rest[3], rest[4:], '_stretch')
     if name == 'refused_shape':
-        return three_calls((*case[:4], level), case[4:5], 13, (0, 0))
-    tau, k, t, row_bits = case[:4]
-    shape = (tau, k, 128 - tau * k if tau else 0, t, level)
+        return three_calls(shape, rest, 13, (0, 0))
     if name == 'flipped':
-        return three_calls(shape, (row_bits,), 13, (0, 0), flip=[str(case[4])])
-    return three_calls(shape, (row_bits,), case[4], case[5:])
+        return three_calls(shape, rest[:1], 13, (0, 0), flip=[str(rest[1])])
+    return three_calls(shape, rest[:1], rest[1], rest[2:])
 
 
 def printed(command):

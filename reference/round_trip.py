@@ -28,7 +28,7 @@ def run(command, *args):
 def text():
     lines = []
     for shape, bits, stretch, challenge in CASES:
-        s = [*shape.split(), '128']
+        s = [*shape.split(), '128', '0']
         form, rows = ('_stretch', (bits, *stretch)) if stretch else ('', (bits,))
         commit = run('commit' + form, *s, *rows, ROOT, IV)
         opened = run('open' + form, *s, *rows, ROOT, IV, challenge)

@@ -80,19 +80,19 @@ static int read_file(const char *name, size_t *length)
 /* its bytes by the version, 0 where that is unknown */
 static size_t head_bytes(size_t version)
 {
-    return version == 1 ? 9 : version == 2 ? 10 : 0;
+    return version == 1 ? 9 : version == 2 ? 10 : version == 3 ? 11 : 0;
 }
 
-/* the shape that it gives: version 1 has level 128 */
+/* the shape that it gives: version 1 has level 128, versions 1 and 2 kind 0 */
 static shape shape_of(size_t version, const uint8_t *head)
 {
-    const shape s = {head[0], head[1], head[2], big_endian(head + 3, 2), version == 1 ? 128 : 8 * (size_t)head[9]};
+    const shape s = {head[0], head[1], head[2], big_endian(head + 3, 2), version == 1 ? 128 : 8 * (size_t)head[9], version == 3 ? head[10] : 0};
     return s;
 }
 
 static int is_default(shape s)
 {
-    return s.tau == 0 && s.k == 0 && s.w == 0 && s.t == 0 && s.level == 128;
+    return s.tau == 0 && s.k == 0 && s.w == 0 && s.t == 0 && s.level == 128 && s.kind == 0;
 }
 
 /* ---- --explain: what stands where. This reads the record by itself, beside the proved call. */
@@ -134,9 +134,10 @@ static void explain(size_t length)
             const size_t row = big_endian(record + at + 5, 4);
             const rachnoel_lengths n = rachnoel_lengths_of(NUMBERS(s), row / 8);
             const int row_fits = row % 8 == 0 && row >= 8 && row <= 65536;
-            printf("        tau %zu, k %zu, w %zu, T %zu, level %zu%s\n", NUMBERS(s), is_default(s) ? ": FAEST-128f, 16 7 8 110" : n.leaves == 0 ? ": no shape" : "");
+            const int no_shape = n.leaves == 0 || (record[0] == 3 && s.kind != 1);
+            printf("        tau %zu, k %zu, w %zu, T %zu, level %zu, kind %zu%s\n", NUMBERS(s), no_shape ? ": no shape" : is_default(s) ? ": FAEST-128f, 16 7 8 110" : "");
             printf("        rows of %zu bits%s\n", row, row_fits ? "" : ": no row length");
-            if (n.leaves == 0 || !row_fits)
+            if (no_shape || !row_fits)
                 return;
             required[2] = n.node;
             required[3] = n.corrections;

@@ -73,7 +73,7 @@ static shape random_shape(void)
         deeper = level - 120 - tau * k;
     }
     const size_t w = level - tau * k - deeper;
-    return (shape){tau, k, w > 127 ? 127 : w, below(5) ? tau * (k + 1) + below(3) : 1 + below(tau), level};
+    return (shape){tau, k, w > 127 ? 127 : w, below(5) ? tau * (k + 1) + below(3) : 1 + below(tau), level, below(4) == 0};
 }
 
 static void make_base(struct base *base)
@@ -104,15 +104,15 @@ static void make_base(struct base *base)
     must(rachnoel_write_record(NUMBERS(s), row_bits, iv, sizeof iv, challenge, n.node, corrections, n.corrections, opening, n.opening, commitment,
              n.commitment, base->bytes, base->length),
         "write_record");
-    /* at level 128 one in three becomes version 1, whose first field has no level */
-    const int first = s.level == 128 && below(3) == 0;
+    /* at level 128 with kind 0 one in three becomes version 1, whose first field has no level */
+    const int first = s.level == 128 && s.kind == 0 && below(3) == 0;
     if (first) {
         base->bytes[0] = 1;
         base->bytes[4] = 9;
         base->length--;
         memmove(base->bytes + 14, base->bytes + 15, base->length - 14);
     }
-    const size_t lengths[6] = {first ? 9 : 10, sizeof iv, n.node, n.corrections, n.opening, n.commitment};
+    const size_t lengths[6] = {first ? 9 : s.kind == 0 ? 10 : 11, sizeof iv, n.node, n.corrections, n.opening, n.commitment};
     size_t at = 1;
     for (size_t i = 0; i < 6; i++) {
         base->fields[i] = at;
@@ -153,8 +153,8 @@ static size_t change(const struct base *base, uint8_t *bytes, size_t length)
             put_number(bytes + field, odd[below(sizeof odd / sizeof odd[0])]);
         break;
     case 5:
-        if (length >= 15)
-            memcpy(bytes + 5, other->bytes + 5, 10);
+        if (length >= 16)
+            memcpy(bytes + 5, other->bytes + 5, 11);
         break;
     case 6: {
         const size_t most = length < other->length ? length : other->length, at = below(most), n = 1 + below(most - at);

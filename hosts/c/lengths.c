@@ -1,4 +1,4 @@
-/* The header's rule for shapes and its lengths are those of the calls: every tau, k and w up to past their limits, with several t and levels. */
+/* The header's rule for shapes and its lengths are those of the calls: every tau, k and w up to past their limits, with several t, levels and kinds. */
 #include <rachnoel.h>
 
 #include "shape.h"
@@ -14,7 +14,7 @@ static size_t wrong, shapes;
 static void expect(int right, const char *what, shape s)
 {
     if (!right) {
-        printf("%s: tau %zu, k %zu, w %zu, t %zu, level %zu\n", what, NUMBERS(s));
+        printf("%s: tau %zu, k %zu, w %zu, t %zu, level %zu, kind %zu\n", what, NUMBERS(s));
         wrong++;
     }
 }
@@ -56,13 +56,14 @@ int main(void)
             for (size_t w = 0; w <= 130; w++)
                 for (size_t l = 0; l < sizeof levels / sizeof levels[0]; l++)
                     for (size_t i = 0; i < sizeof ts / sizeof ts[0]; i++)
-                        try((shape){tau, k, w, ts[i], levels[l]});
+                        for (size_t kind = 0; kind <= 2; kind++)
+                            try((shape){tau, k, w, ts[i], levels[l], kind});
     /* numbers whose products wrap */
     static const size_t large[] = {64, 1 << 16, (size_t)1 << 32, (size_t)1 << 63, (size_t)-1};
     for (size_t i = 0; i < sizeof large / sizeof large[0]; i++)
-        for (int place = 0; place < 5; place++) {
+        for (int place = 0; place < 6; place++) {
             shape s = FAEST_128S;
-            size_t *const numbers[] = {&s.tau, &s.k, &s.w, &s.t, &s.level};
+            size_t *const numbers[] = {&s.tau, &s.k, &s.w, &s.t, &s.level, &s.kind};
             *numbers[place] = large[i];
             try(s);
         }

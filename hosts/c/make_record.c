@@ -17,8 +17,8 @@ static const char usage[] =
 static const char help[] =
     "Commits to the tree of a root, opens it for a challenge, and writes the signing record to standard output.\n"
     "\n"
-    "SET        128s, 128f, 192s, 192f, 256s, 256f, zeros (four zeros in the record, which stand for 128f), TAU,K,W,T,LEVEL,\n"
-    "           or TAU,K,W,T at level 128\n"
+    "SET        128s, 128f, 192s, 192f, 256s, 256f, the same with em- before it, zeros (four zeros in the record, which stand for 128f),\n"
+    "           TAU,K,W,T,LEVEL,KIND, or without KIND (then 0) and LEVEL (then 128)\n"
     "ROWBITS    the row length; where it is not given, that of the named set, and 1680 of another\n"
     "ROOT, IV   hexadecimal digits, byte 0 first: level / 8 bytes of a root, 16 of an IV; 00 01 .. and 10 11 .. 1f where they are not given\n"
     "CHALLENGE  level / 8 bytes; where it is not given, the first of a fixed list of challenges that the set allows\n"
@@ -44,7 +44,8 @@ static int to_shape(const char *text, shape *s, size_t *row_bits)
         shape set;
         size_t row_bits;
     } sets[] = {{"128s", FAEST_128S, 1680}, {"128f", FAEST_128F, 1680}, {"zeros", DEFAULT, 1680}, {"192s", FAEST_192S, 3088}, {"192f", FAEST_192F, 3088},
-        {"256s", FAEST_256S, 3888}, {"256f", FAEST_256F, 3888}};
+        {"256s", FAEST_256S, 3888}, {"256f", FAEST_256F, 3888}, {"em-128s", FAEST_EM_128S, 1360}, {"em-128f", FAEST_EM_128F, 1360}, {"em-192s", FAEST_EM_192S, 2320},
+        {"em-192f", FAEST_EM_192F, 2320}, {"em-256s", FAEST_EM_256S, 3472}, {"em-256f", FAEST_EM_256F, 3472}};
     for (size_t i = 0; i < sizeof sets / sizeof sets[0]; i++)
         if (strcmp(text, sets[i].name) == 0) {
             *s = sets[i].set;
@@ -52,12 +53,13 @@ static int to_shape(const char *text, shape *s, size_t *row_bits)
             return 1;
         }
     s->level = 128;
-    size_t *const numbers[] = {&s->tau, &s->k, &s->w, &s->t, &s->level};
+    s->kind = 0;
+    size_t *const numbers[] = {&s->tau, &s->k, &s->w, &s->t, &s->level, &s->kind};
     char copy[64], *part = copy;
     if (strlen(text) >= sizeof copy)
         return 0;
     strcpy(copy, text);
-    for (size_t i = 0; i < 5; i++) {
+    for (size_t i = 0; i < 6; i++) {
         char *const comma = strchr(part, ',');
         if (comma != NULL)
             *comma = '\0';

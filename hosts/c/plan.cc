@@ -7,7 +7,7 @@ int main()
 {
     const uint8_t challenge[16] = {0x0c};
     uint8_t nodes[4 * 4], count[RACHNOEL_COUNT];
-    const size_t number = rachnoel_plan(2, 2, 124, 4, 128, challenge, sizeof challenge, nodes, sizeof nodes, count, sizeof count);
+    const size_t number = rachnoel_plan(2, 2, 124, 4, 128, 0, challenge, sizeof challenge, nodes, sizeof nodes, count, sizeof count);
     std::printf("plan from C++ answers %zu, %u nodes:", number, static_cast<unsigned>(rachnoel_number(count)));
     for (int i = 0; i < 4; i++)
         std::printf(" %u", static_cast<unsigned>(rachnoel_number(nodes + 4 * i)));

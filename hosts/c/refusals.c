@@ -24,9 +24,9 @@ static const struct {
     {"reconstruct_stretch", 4, 9, {IV, CHALLENGE, CORRECTIONS, OPENING, COMMITMENT, TREE, LCS, V, COUNT}, 1, 1, 1, 1, 1},
 };
 
-/* a call: the shape is tau, 2, 124, t at a level; `other` is the buffer that has another length, `len` */
+/* a call: the shape is tau, 2, 124, t at a level and of a kind; `other` is the buffer that has another length, `len` */
 struct given {
-    size_t tau, t, level, bits, first, width;
+    size_t tau, t, level, kind, bits, first, width;
     enum buffer other;
     size_t len;
     uint8_t challenge0, challenge15, slot; /* bytes 0 and 15 of the challenge, the last of the opening; all other bytes of inputs are 0 */
@@ -39,18 +39,18 @@ struct given {
 static size_t make(enum call call, const struct given *g, uint8_t *const p[], const size_t n[])
 {
     switch (call) {
-    case DECODE: return rachnoel_decode(g->tau, 2, 124, g->t, g->level, SLICE(0), SLICE(1), SLICE(2));
-    case PLAN: return rachnoel_plan(g->tau, 2, 124, g->t, g->level, SLICE(0), SLICE(1), SLICE(2));
-    case OPEN: return rachnoel_open(g->tau, 2, 124, g->t, g->level, SLICE(0), SLICE(1), SLICE(2), SLICE(3), SLICE(4));
+    case DECODE: return rachnoel_decode(g->tau, 2, 124, g->t, g->level, g->kind, SLICE(0), SLICE(1), SLICE(2));
+    case PLAN: return rachnoel_plan(g->tau, 2, 124, g->t, g->level, g->kind, SLICE(0), SLICE(1), SLICE(2));
+    case OPEN: return rachnoel_open(g->tau, 2, 124, g->t, g->level, g->kind, SLICE(0), SLICE(1), SLICE(2), SLICE(3), SLICE(4));
     case COMMIT:
-        return rachnoel_commit(g->tau, 2, 124, g->t, g->level, g->bits, SLICE(0), SLICE(1), SLICE(2), SLICE(3), SLICE(4), SLICE(5), SLICE(6), SLICE(7), SLICE(8));
+        return rachnoel_commit(g->tau, 2, 124, g->t, g->level, g->kind, g->bits, SLICE(0), SLICE(1), SLICE(2), SLICE(3), SLICE(4), SLICE(5), SLICE(6), SLICE(7), SLICE(8));
     case COMMIT_STRETCH:
-        return rachnoel_commit_stretch(g->tau, 2, 124, g->t, g->level, g->bits, g->first, g->width, SLICE(0), SLICE(1), SLICE(2), SLICE(3), SLICE(4), SLICE(5), SLICE(6), SLICE(7),
+        return rachnoel_commit_stretch(g->tau, 2, 124, g->t, g->level, g->kind, g->bits, g->first, g->width, SLICE(0), SLICE(1), SLICE(2), SLICE(3), SLICE(4), SLICE(5), SLICE(6), SLICE(7),
             SLICE(8));
     case RECONSTRUCT:
-        return rachnoel_reconstruct(g->tau, 2, 124, g->t, g->level, g->bits, SLICE(0), SLICE(1), SLICE(2), SLICE(3), SLICE(4), SLICE(5), SLICE(6), SLICE(7), SLICE(8));
+        return rachnoel_reconstruct(g->tau, 2, 124, g->t, g->level, g->kind, g->bits, SLICE(0), SLICE(1), SLICE(2), SLICE(3), SLICE(4), SLICE(5), SLICE(6), SLICE(7), SLICE(8));
     default:
-        return rachnoel_reconstruct_stretch(g->tau, 2, 124, g->t, g->level, g->bits, g->first, g->width, SLICE(0), SLICE(1), SLICE(2), SLICE(3), SLICE(4), SLICE(5), SLICE(6),
+        return rachnoel_reconstruct_stretch(g->tau, 2, 124, g->t, g->level, g->kind, g->bits, g->first, g->width, SLICE(0), SLICE(1), SLICE(2), SLICE(3), SLICE(4), SLICE(5), SLICE(6),
             SLICE(7), SLICE(8));
     }
 }
@@ -58,7 +58,7 @@ static size_t make(enum call call, const struct given *g, uint8_t *const p[], co
 /* what a buffer's length must be */
 static size_t right_length(enum call call, enum buffer b, const struct given *g)
 {
-    const rachnoel_lengths n = rachnoel_lengths_of(2, 2, 124, g->t, 128, calls[call].stretch ? g->width : g->bits / 8);
+    const rachnoel_lengths n = rachnoel_lengths_of(2, 2, 124, g->t, 128, g->kind > 1 ? 0 : g->kind, calls[call].stretch ? g->width : g->bits / 8);
     switch (b) {
     case TREE: return n.tree;
     case LCS: return n.leaf_commitments;
@@ -119,8 +119,8 @@ static void run(enum call call, const struct given *g, size_t number, uint8_t co
     for (size_t j = 0; j < n[last]; j++)
         wrong += p[last][j] != (count_given && j < 4 ? word[j] : fill);
     if (wrong)
-        printf("%s: answered %zu, not %zu, or a buffer is not as it must be (tau %zu, t %zu, level %zu, rows of %zu bits, stretch %zu %zu, buffer %d of %zu bytes)\n", calls[call].name,
-            answer, number, g->tau, g->t, g->level, g->bits, g->first, g->width, (int)g->other, g->len);
+        printf("%s: answered %zu, not %zu, or a buffer is not as it must be (tau %zu, t %zu, level %zu, kind %zu, rows of %zu bits, stretch %zu %zu, buffer %d of %zu bytes)\n", calls[call].name,
+            answer, number, g->tau, g->t, g->level, g->kind, g->bits, g->first, g->width, (int)g->other, g->len);
     tried++;
     failed += wrong != 0;
     for (size_t i = 0; i < slices; i++)
@@ -135,9 +135,9 @@ static void expect(enum call call, struct given g, size_t number, uint8_t count)
 
 /* ---- the cases of a call: challenge 0c needs four nodes, 00 needs two */
 
-static void try(enum call call)
+static void try(enum call call, size_t kind)
 {
-    const struct given right = {2, 5, 128, 32, 1, 2, NONE, 0, 0x0c, 0, 0};
+    const struct given right = {2, 5, 128, kind, 32, 1, 2, NONE, 0, 0x0c, 0, 0};
     const uint8_t planned = calls[call].nodes ? 4 : 0;
     struct given g = right;
     expect(call, g, 0, planned);
@@ -145,7 +145,7 @@ static void try(enum call call)
     /* 1, also before all others */
     g.tau = 33;
     expect(call, g, 1, 0);
-    g = (struct given){33, 2, 128, 12, 9, 9, COUNT, 3, 0x0c, 0x80, 1};
+    g = (struct given){33, 2, 128, kind, 12, 9, 9, COUNT, 3, 0x0c, 0x80, 1};
     expect(call, g, 1, 0);
     g = right;
     g.t = 0;
@@ -156,6 +156,12 @@ static void try(enum call call)
         g.level = levels[i];
         expect(call, g, 1, 0);
     }
+    static const size_t kinds[] = {2, 3, 256, (size_t)-1};
+    for (size_t i = 0; i < sizeof kinds / sizeof kinds[0]; i++) {
+        g = right;
+        g.kind = kinds[i];
+        expect(call, g, 1, 0);
+    }
 
     /* 2, also before 8 and the rest */
     static const size_t rows[] = {0, 7, 12, 65544};
@@ -163,7 +169,7 @@ static void try(enum call call)
         g = right;
         g.bits = rows[i];
         expect(call, g, 2, 0);
-        g = (struct given){2, 2, 128, rows[i], 9, 9, COUNT, 3, 0x0c, 0x80, 1};
+        g = (struct given){2, 2, 128, kind, rows[i], 9, 9, COUNT, 3, 0x0c, 0x80, 1};
         expect(call, g, 2, 0);
     }
 
@@ -249,7 +255,8 @@ static void try(enum call call)
 int main(void)
 {
     for (int call = 0; call < CALLS; call++)
-        try((enum call)call);
+        for (size_t kind = 0; kind < 2; kind++)
+            try((enum call)call, kind);
     printf("%d calls between forbidden pages, %d wrong\n", tried, failed);
     return failed != 0;
 }

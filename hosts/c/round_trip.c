@@ -130,5 +130,11 @@ int main(void)
     wrong |= run("FAEST-192f", (shape)FAEST_192F, 3088);
     wrong |= run("FAEST-256s", (shape)FAEST_256S, 3888);
     wrong |= run("FAEST-256f", (shape)FAEST_256F, 3888);
+    wrong |= run("FAEST-EM-128s", (shape)FAEST_EM_128S, 1360);
+    wrong |= run("FAEST-EM-128f", (shape)FAEST_EM_128F, 1360);
+    wrong |= run("FAEST-EM-192s", (shape)FAEST_EM_192S, 2320);
+    wrong |= run("FAEST-EM-192f", (shape)FAEST_EM_192F, 2320);
+    wrong |= run("FAEST-EM-256s", (shape)FAEST_EM_256S, 3472);
+    wrong |= run("FAEST-EM-256f", (shape)FAEST_EM_256F, 3472);
     return wrong;
 }

@@ -90,8 +90,9 @@ static size_t depth(void (*work)(void))
 
 int main(void)
 {
-    static const shape shapes[] = {DEFAULT, FAEST_128S, {10, 12, 8, 512, 128}, {32, 4, 0, 512, 128}, {10, 11, 9, 512, 128}, {1, 1, 127, 1, 128}, FAEST_192S, FAEST_192F, {16, 12, 0, 512, 192},
-        {32, 2, 127, 512, 192}, FAEST_256S, FAEST_256F, {21, 12, 4, 512, 256}, {32, 8, 0, 512, 256}, {21, 11, 5, 512, 256}};
+    static const shape shapes[] = {DEFAULT, FAEST_128S, {10, 12, 8, 512, 128, 0}, {32, 4, 0, 512, 128, 0}, {10, 11, 9, 512, 128, 0}, {1, 1, 127, 1, 128, 0}, FAEST_192S, FAEST_192F,
+        {16, 12, 0, 512, 192, 0}, {32, 2, 127, 512, 192, 0}, FAEST_256S, FAEST_256F, {21, 12, 4, 512, 256, 0}, {32, 8, 0, 512, 256, 0}, {21, 11, 5, 512, 256, 0}, FAEST_EM_128S,
+        FAEST_EM_192F, FAEST_EM_256S, {21, 12, 4, 512, 256, 1}, {32, 8, 0, 512, 256, 1}, {1, 1, 127, 1, 128, 1}};
     size_t deepest[CALLS] = {0}, wrong = 0;
     for (size_t i = 0; i < sizeof shapes / sizeof shapes[0]; i++) {
         now = shapes[i];
@@ -111,7 +112,7 @@ int main(void)
             calls[c].work(); /* the first call may bind names of the C library, on the stack it runs on */
             const size_t d = depth(calls[c].work);
             if (answer != 0 || d > RACHNOEL_STACK / 8 * 7)
-                wrong += (size_t)printf("%s: answered %zu, %zu bytes of stack, at tau %zu, level %zu\n", calls[c].name, answer, d, now.tau, now.level);
+                wrong += (size_t)printf("%s: answered %zu, %zu bytes of stack, at tau %zu, level %zu, kind %zu\n", calls[c].name, answer, d, now.tau, now.level, now.kind);
             if (deepest[c] < d)
                 deepest[c] = d;
         }

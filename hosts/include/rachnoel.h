@@ -1,6 +1,7 @@
 /* rachnoel.h: the batch vector commitment of FAEST version 2, as a C host calls it (docs/API.md says what each call does).
  *
- * A shape is five numbers: tau, k, w, t and the security level in bits, 128, 192 or 256. Zeros for the first four at level 128 stand for the default, FAEST-128f.
+ * A shape is six numbers: tau, k, w, t, the security level in bits, 128, 192 or 256, and the leaf kind, 0 ordinary, 1 Even-Mansour (FAEST-EM). Zeros for the first four at
+ * level 128 and kind 0 stand for the default, FAEST-128f.
  * A slice is a pointer and a length in bytes. Every length is exact: RACHNOEL_.. and rachnoel_lengths_of below give it.
  *
  * Duties of the host, which no call can test:
@@ -26,7 +27,7 @@ extern "C" {
 #endif
 
 enum {
-    RACHNOEL_SHAPE = 1,     /* tau, k, w, t, level are no shape */
+    RACHNOEL_SHAPE = 1,     /* tau, k, w, t, level, kind are no shape */
     RACHNOEL_ROW = 2,       /* row_bits is no multiple of 8 from 8 to 65,536 */
     RACHNOEL_BUFFER = 3,    /* a slice of another length */
     RACHNOEL_GRINDING = 4,  /* one of the last w bits of the challenge is 1 */
@@ -60,17 +61,17 @@ typedef struct rachnoel_lengths {
 
 /* The lengths of a shape with rows of row_bytes bytes: row_bits / 8, or the width of a stretch. `node` is that of a root and of a challenge,
  * `matrix` that of V and of Q. All are 0 where the numbers are no shape. */
-static inline rachnoel_lengths rachnoel_lengths_of(size_t tau, size_t k, size_t w, size_t t, size_t level, size_t row_bytes)
+static inline rachnoel_lengths rachnoel_lengths_of(size_t tau, size_t k, size_t w, size_t t, size_t level, size_t kind, size_t row_bytes)
 {
     rachnoel_lengths n = {0, 0, 0, 0, 0, 0, 0, 0, 0, 0, 0};
-    size_t deeper;
-    if (tau == 0 && k == 0 && w == 0 && t == 0 && level == 128) {
+    size_t deeper, leaf;
+    if (tau == 0 && k == 0 && w == 0 && t == 0 && level == 128 && kind == 0) {
         tau = 16;
         k = 7;
         w = 8;
         t = 110;
     }
-    if (tau < 1 || tau > 32 || k < 1 || k > 12 || w > 127 || t < 1 || t > 512 || (level != 128 && level != 192 && level != 256) || tau * k + w > level)
+    if (tau < 1 || tau > 32 || k < 1 || k > 12 || w > 127 || t < 1 || t > 512 || (level != 128 && level != 192 && level != 256) || kind > 1 || tau * k + w > level)
         return n;
     deeper = level - w - tau * k;
     if (deeper >= tau || (deeper > 0 && k > 11))
@@ -78,14 +79,15 @@ static inline rachnoel_lengths rachnoel_lengths_of(size_t tau, size_t k, size_t 
     n.leaves = (tau + deeper) << k;
     n.node = level / 8;
     n.commitment = 2 * n.node;
+    leaf = (kind == 0 ? 3 : 2) * n.node;
     n.indices = 4 * tau;
     n.nodes = 4 * t;
     n.tree = n.node * (2 * n.leaves - 1);
-    n.leaf_commitments = 3 * n.node * n.leaves;
+    n.leaf_commitments = leaf * n.leaves;
     n.u = row_bytes;
     n.matrix = level * row_bytes;
     n.corrections = (tau - 1) * row_bytes;
-    n.opening = 3 * n.node * tau + n.node * t;
+    n.opening = leaf * tau + n.node * t;
     return n;
 }
 
@@ -101,39 +103,39 @@ static inline uint32_t rachnoel_number(const uint8_t bytes[4])
 /* ---- planning: librachnoel_planning */
 
 /* The hidden indices of a challenge. Refusals 1, 3, 4. */
-size_t rachnoel_decode(size_t tau, size_t k, size_t w, size_t t, size_t level, const uint8_t *challenge, size_t challenge_len, uint8_t *indices, size_t indices_len,
+size_t rachnoel_decode(size_t tau, size_t k, size_t w, size_t t, size_t level, size_t kind, const uint8_t *challenge, size_t challenge_len, uint8_t *indices, size_t indices_len,
     uint8_t *count, size_t count_len);
 
 /* The nodes that an opening reveals, at the front of the list; what stands behind them stays. Refusals 1, 3, 4, 5. */
-size_t rachnoel_plan(size_t tau, size_t k, size_t w, size_t t, size_t level, const uint8_t *challenge, size_t challenge_len, uint8_t *nodes, size_t nodes_len, uint8_t *count,
+size_t rachnoel_plan(size_t tau, size_t k, size_t w, size_t t, size_t level, size_t kind, const uint8_t *challenge, size_t challenge_len, uint8_t *nodes, size_t nodes_len, uint8_t *count,
     size_t count_len);
 
 /* ---- the signing half: librachnoel_signer */
 
 /* The commitment to the tree of a root. Root, tree, u and v are secret. Refusals 1, 2, 3. */
-size_t rachnoel_commit(size_t tau, size_t k, size_t w, size_t t, size_t level, size_t row_bits, const uint8_t *root, size_t root_len, const uint8_t *iv, size_t iv_len,
+size_t rachnoel_commit(size_t tau, size_t k, size_t w, size_t t, size_t level, size_t kind, size_t row_bits, const uint8_t *root, size_t root_len, const uint8_t *iv, size_t iv_len,
     uint8_t *commitment, size_t commitment_len, uint8_t *tree, size_t tree_len, uint8_t *leaf_commitments, size_t leaf_commitments_len, uint8_t *u, size_t u_len,
     uint8_t *v, size_t v_len, uint8_t *corrections, size_t corrections_len, uint8_t *count, size_t count_len);
 
 /* The same with bytes first to first + width - 1 of u, of each correction and of each column of v only. Refusals 1, 2, 8, 3. */
-size_t rachnoel_commit_stretch(size_t tau, size_t k, size_t w, size_t t, size_t level, size_t row_bits, size_t first, size_t width, const uint8_t *root, size_t root_len,
+size_t rachnoel_commit_stretch(size_t tau, size_t k, size_t w, size_t t, size_t level, size_t kind, size_t row_bits, size_t first, size_t width, const uint8_t *root, size_t root_len,
     const uint8_t *iv, size_t iv_len, uint8_t *commitment, size_t commitment_len, uint8_t *tree, size_t tree_len, uint8_t *leaf_commitments,
     size_t leaf_commitments_len, uint8_t *u, size_t u_len, uint8_t *v, size_t v_len, uint8_t *corrections, size_t corrections_len, uint8_t *count, size_t count_len);
 
 /* The opening of a challenge, from the tree and the leaf commitments that commit wrote. Open a tree for one challenge only. Refusals 1, 3, 4, 5. */
-size_t rachnoel_open(size_t tau, size_t k, size_t w, size_t t, size_t level, const uint8_t *challenge, size_t challenge_len, const uint8_t *tree, size_t tree_len,
+size_t rachnoel_open(size_t tau, size_t k, size_t w, size_t t, size_t level, size_t kind, const uint8_t *challenge, size_t challenge_len, const uint8_t *tree, size_t tree_len,
     const uint8_t *leaf_commitments, size_t leaf_commitments_len, uint8_t *opening, size_t opening_len, uint8_t *count, size_t count_len);
 
 /* ---- the checking half: librachnoel_verifier */
 
 /* Commitment, tree, leaf commitments and q from an opening. The host compares the commitment with the one that it was given. Refusals 1 to 6. */
-size_t rachnoel_reconstruct(size_t tau, size_t k, size_t w, size_t t, size_t level, size_t row_bits, const uint8_t *iv, size_t iv_len, const uint8_t *challenge,
+size_t rachnoel_reconstruct(size_t tau, size_t k, size_t w, size_t t, size_t level, size_t kind, size_t row_bits, const uint8_t *iv, size_t iv_len, const uint8_t *challenge,
     size_t challenge_len, const uint8_t *corrections, size_t corrections_len, const uint8_t *opening, size_t opening_len, uint8_t *commitment,
     size_t commitment_len, uint8_t *tree, size_t tree_len, uint8_t *leaf_commitments, size_t leaf_commitments_len, uint8_t *q, size_t q_len, uint8_t *count,
     size_t count_len);
 
 /* The same with the corrections cut to bytes first to first + width - 1, and these bytes of each column of q. Refusals 1, 2, 8, 3, 4, 5, 6. */
-size_t rachnoel_reconstruct_stretch(size_t tau, size_t k, size_t w, size_t t, size_t level, size_t row_bits, size_t first, size_t width, const uint8_t *iv, size_t iv_len,
+size_t rachnoel_reconstruct_stretch(size_t tau, size_t k, size_t w, size_t t, size_t level, size_t kind, size_t row_bits, size_t first, size_t width, const uint8_t *iv, size_t iv_len,
     const uint8_t *challenge, size_t challenge_len, const uint8_t *corrections, size_t corrections_len, const uint8_t *opening, size_t opening_len,
     uint8_t *commitment, size_t commitment_len, uint8_t *tree, size_t tree_len, uint8_t *leaf_commitments, size_t leaf_commitments_len, uint8_t *q, size_t q_len,
     uint8_t *count, size_t count_len);
@@ -141,7 +143,8 @@ size_t rachnoel_reconstruct_stretch(size_t tau, size_t k, size_t w, size_t t, si
 /* ---- records, checked: librachnoel_broker
  *
  * A record is a version byte and six fields, each a length of four bytes, greatest first, and that many bytes: tau, k, w in a byte each, t in two and row_bits in four,
- * greatest first, and in version 2 level / 8 in a byte; the IV; the challenge; the corrections; the opening; the commitment. Version 1 has level 128. */
+ * greatest first, from version 2 on level / 8 in a byte, in version 3 kind in a byte; the IV; the challenge; the corrections; the opening; the commitment. Version 1 has level
+ * 128, versions 1 and 2 kind 0, version 3 kind 1. */
 
 /* The lengths of the three work buffers that a record asks for by its front: tree, leaf_commitments, q, three numbers. Refusals 9, 10, 1, 2, 3. */
 size_t rachnoel_work_lengths(const uint8_t *record, size_t record_len, uint8_t *lengths, size_t lengths_len);
@@ -154,10 +157,10 @@ size_t rachnoel_check_record(const uint8_t *record, size_t record_len, uint8_t *
 /* ---- records, written: librachnoel_writer */
 
 /* The length of a record, one number. Refusals 1, 2, 3. */
-size_t rachnoel_record_length(size_t tau, size_t k, size_t w, size_t t, size_t level, size_t row_bits, uint8_t *length, size_t length_len);
+size_t rachnoel_record_length(size_t tau, size_t k, size_t w, size_t t, size_t level, size_t kind, size_t row_bits, uint8_t *length, size_t length_len);
 
-/* The record, of version 2, of a shape as it is given, four zeros too, a row length and the other fields, which are not tested but for their lengths. Refusals 1, 2, 3. */
-size_t rachnoel_write_record(size_t tau, size_t k, size_t w, size_t t, size_t level, size_t row_bits, const uint8_t *iv, size_t iv_len, const uint8_t *challenge,
+/* The record, of version 2 for kind 0 and of 3 for kind 1, of a shape as it is given, four zeros too, a row length and the other fields, which are not tested but for their lengths. Refusals 1, 2, 3. */
+size_t rachnoel_write_record(size_t tau, size_t k, size_t w, size_t t, size_t level, size_t kind, size_t row_bits, const uint8_t *iv, size_t iv_len, const uint8_t *challenge,
     size_t challenge_len, const uint8_t *corrections, size_t corrections_len, const uint8_t *opening, size_t opening_len, const uint8_t *commitment,
     size_t commitment_len, uint8_t *record, size_t record_len);
 

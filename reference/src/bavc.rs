@@ -50,6 +50,12 @@ pub fn leaf_commit(r: &[u8], iv: &Block, twk: u32, uhash: &[u8]) -> (Node, LeafC
     (sd.to_vec(), leaf_hash(uhash, sd, x1))
 }
 
+/// Figure 5.3: FAEST-EM.LeafCommit, the same without a hash: the leaf's key is the
+/// seed, and 2λ bits of the generator are the commitment.
+pub fn em_leaf_commit(r: &[u8], iv: &Block, twk: u32) -> (Node, LeafCom) {
+    (r.to_vec(), prg(r, iv, twk, 2 * 8 * r.len()))
+}
+
 /// The two halves of 2λ bits from node α: figure 5.4, line 7.
 fn children(node: &[u8], iv: &Block, alpha: usize) -> (Node, Node) {
     let both = prg(node, iv, alpha as u32, 2 * 8 * node.len());
@@ -66,7 +72,11 @@ fn commit_leaves(
     nodes: Vec<Option<Node>>,
     hidden: &[LeafCom],
 ) -> Vectors {
-    let uhash = h0(shape.level, iv, shape.tau);
+    // For FAEST-EM there is no hash key (line 4).
+    let uhash = match shape.kind {
+        0 => h0(shape.level, iv, shape.tau),
+        _ => Vec::new(),
+    };
     let (mut leaf_coms, mut seeds, mut h) = (Vec::new(), Vec::new(), Vec::new());
     for i in 0..shape.tau {
         let twk = (i + shape.leaves() - 1) as u32;
@@ -74,7 +84,10 @@ fn commit_leaves(
         for j in 0..shape.entries(i) {
             let (seed, com) = match &nodes[pos_in_tree(shape, i, j)] {
                 Some(node) => {
-                    let (seed, com) = leaf_commit(node, iv, twk, &uhash[i]);
+                    let (seed, com) = match shape.kind {
+                        0 => leaf_commit(node, iv, twk, &uhash[i]),
+                        _ => em_leaf_commit(node, iv, twk),
+                    };
                     (Some(seed), com)
                 }
                 None => (None, hidden[i].clone()),

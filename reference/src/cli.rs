@@ -14,29 +14,29 @@ use crate::shape::{row_bytes, Shape};
 use crate::stretch::Stretch;
 
 pub const USAGE: &str = "\
-usage: reference decode      TAU K W T LEVEL CHALLENGE
-       reference plan        TAU K W T LEVEL CHALLENGE
-       reference commit      TAU K W T LEVEL ROWBITS ROOT IV
-       reference open        TAU K W T LEVEL ROWBITS ROOT IV CHALLENGE
-       reference reconstruct TAU K W T LEVEL ROWBITS ROOT IV CHALLENGE [FLIP]
-       reference roundtrip   TAU K W T LEVEL ROWBITS ROOT IV CHALLENGE
-       reference record      TAU K W T LEVEL ROWBITS ROOT IV CHALLENGE
-       reference prefixes    TAU K W T LEVEL ROWBITS ROOT IV CHALLENGE
-       reference flips       TAU K W T LEVEL ROWBITS ROOT IV CHALLENGE
-       reference pairs       TAU K W T LEVEL ROWBITS ROOT IV CHALLENGE
-       reference probe_commit      TAU K W T LEVEL ROWBITS WHICH MORE
-       reference probe_open        TAU K W T LEVEL BYTE WHICH MORE
-       reference probe_reconstruct TAU K W T LEVEL ROWBITS BYTE WHICH MORE SET
-       reference probe_decode      TAU K W T LEVEL BYTE WHICH MORE
-       reference probe_plan        TAU K W T LEVEL BYTE WHICH MORE
+usage: reference decode      TAU K W T LEVEL KIND CHALLENGE
+       reference plan        TAU K W T LEVEL KIND CHALLENGE
+       reference commit      TAU K W T LEVEL KIND ROWBITS ROOT IV
+       reference open        TAU K W T LEVEL KIND ROWBITS ROOT IV CHALLENGE
+       reference reconstruct TAU K W T LEVEL KIND ROWBITS ROOT IV CHALLENGE [FLIP]
+       reference roundtrip   TAU K W T LEVEL KIND ROWBITS ROOT IV CHALLENGE
+       reference record      TAU K W T LEVEL KIND ROWBITS ROOT IV CHALLENGE
+       reference prefixes    TAU K W T LEVEL KIND ROWBITS ROOT IV CHALLENGE
+       reference flips       TAU K W T LEVEL KIND ROWBITS ROOT IV CHALLENGE
+       reference pairs       TAU K W T LEVEL KIND ROWBITS ROOT IV CHALLENGE
+       reference probe_commit      TAU K W T LEVEL KIND ROWBITS WHICH MORE
+       reference probe_open        TAU K W T LEVEL KIND BYTE WHICH MORE
+       reference probe_reconstruct TAU K W T LEVEL KIND ROWBITS BYTE WHICH MORE SET
+       reference probe_decode      TAU K W T LEVEL KIND BYTE WHICH MORE
+       reference probe_plan        TAU K W T LEVEL KIND BYTE WHICH MORE
        reference list        (its line on standard input)
        reference list_challenges (its line on standard input)
        reference check       (a record on standard input)
        reference checks      (records and buffers on standard input)
 Each with ROWBITS but those on records is also there for a stretch of the rows:
 _stretch behind its name, FIRST WIDTH behind ROWBITS. Each on records that has
-ROWBITS is also there with a record of version 1, at level 128: _version_1 behind
-its name.
+ROWBITS is also there with a record of version 1, at level 128 and of kind 0:
+_version_1 behind its name.
 Numbers are decimal; ROOT, IV and CHALLENGE are hexadecimal, byte 0 first.
 ";
 
@@ -265,6 +265,7 @@ impl Arguments<'_> {
             w: self.number()?,
             t: self.number()?,
             level: self.number()?,
+            kind: self.number()?,
         })
     }
 

@@ -1,5 +1,6 @@
 //! The batch vector commitment of FAEST v2.0 at the levels 128, 192 and 256 with
-//! the ordinary leaf commitment, written as the documents in code.
+//! the ordinary and the Even-Mansour leaf commitment, written as the documents in
+//! code.
 //!
 //! "Document 000" is the FAEST v2.0 specification; its figures and sections
 //! are named beside the functions that carry them out. "Document 01" is the
@@ -27,7 +28,7 @@ pub type Block = [u8; 16];
 /// A string of λ bits: a node, a seed or a challenge.
 pub type Node = Vec<u8>;
 
-/// A leaf commitment or a hash key: 3λ bits.
+/// A leaf commitment, of n_leafcom λ bits, or a hash key, of 3λ bits.
 pub type LeafCom = Vec<u8>;
 
 /// The answer of H1 and the commitment: 2λ bits.

@@ -1,22 +1,28 @@
-//! The signing record of document 02, E6, with the version of E7: its reader, its
-//! writer, and the check that a broker makes of it.
+//! The signing record of document 02, E6, with the versions of E7 and E8: its
+//! reader, its writer, and the check that a broker makes of it.
 
 use crate::calls::{reconstruct, Answer, Refusal};
 use crate::shape::{row_bytes, Shape};
 
 /// The bytes of the first field by the version byte: τ, k, w in one byte each, T in
-/// two, the row length in four, and from version 2 on level / 8 in one. Nothing where
-/// the version is unknown.
+/// two, the row length in four, from version 2 on level / 8 in one, and in version 3
+/// the leaf kind in one. Nothing where the version is unknown.
 fn head_bytes(version: u8) -> Option<usize> {
     match version {
         1 => Some(9),
         2 => Some(10),
+        3 => Some(11),
         _ => None,
     }
 }
 
-/// The version that the writer puts.
-pub const VERSION: u8 = 2;
+/// The version that the writer puts: 3 for Even-Mansour leaves.
+fn version_for(shape: &Shape) -> u8 {
+    match shape.kind {
+        0 => 2,
+        _ => 3,
+    }
+}
 
 /// What a record says: the numbers of its first field, and its other fields,
 /// which are parts of the record.
@@ -66,13 +72,20 @@ impl<'a> Reader<'a> {
     }
 
     /// Version and first field: the shape as written, the shape meant, the row
-    /// length in bits and in bytes. Version 1 means level 128.
+    /// length in bits and in bytes. Version 1 means level 128, versions 1 and 2 kind
+    /// 0; in version 3 the kind must be 1.
     fn front(&mut self) -> Result<(Shape, Shape, usize, usize), Refusal> {
         let length = self.version()?;
         let head = self.field(length)?;
         let part = |from: usize, to: usize| number(&head[from..to]);
         let level = head.get(9).map_or(128, |byte| 8 * usize::from(*byte));
-        let shape = Shape::at_level(part(0, 1), part(1, 2), part(2, 3), part(3, 5), level);
+        let kind = match head.get(10) {
+            None => 0,
+            Some(1) => 1,
+            Some(_) => return Err(Refusal::Shape),
+        };
+        let (tau, k, w, t) = (part(0, 1), part(1, 2), part(2, 3), part(3, 5));
+        let shape = Shape::of_kind(tau, k, w, t, level, kind);
         let row_bits = part(5, 9);
         let meant = shape.resolve().ok_or(Refusal::Shape)?;
         let b = row_bytes(row_bits).ok_or(Refusal::RowLength)?;
@@ -108,7 +121,7 @@ pub fn read(bytes: &[u8]) -> Result<Record<'_>, Refusal> {
 /// bytes.
 pub fn record_bytes(meant: &Shape, b: usize) -> usize {
     let fields = [
-        10,
+        9 + if meant.kind == 0 { 1 } else { 2 },
         16,
         meant.node_bytes(),
         meant.corrections_bytes(b),
@@ -179,7 +192,7 @@ fn joined(version: u8, head: &[u8], record: &Record) -> Vec<u8> {
 }
 
 /// The first field of version 1: the shape as it is given, zeros too, but for its
-/// level, and the row length.
+/// level and kind, and the row length.
 fn head_of_version_1(record: &Record) -> Vec<u8> {
     let Shape { tau, k, w, t, .. } = record.shape;
     let mut head = vec![tau as u8, k as u8, w as u8];
@@ -188,7 +201,8 @@ fn head_of_version_1(record: &Record) -> Vec<u8> {
     head
 }
 
-/// Write: checks 1, 2, 3. Puts version 2 at every level.
+/// Write: checks 1, 2, 3. Puts version 2 at every level for kind 0, version 3 for
+/// kind 1.
 pub fn write_record(record: &Record, out: &mut [u8]) -> Answer {
     let Some(meant) = record.shape.resolve() else {
         return Answer::refused(Refusal::Shape, 0);
@@ -207,7 +221,10 @@ pub fn write_record(record: &Record, out: &mut [u8]) -> Answer {
     }
     let mut head = head_of_version_1(record);
     head.push((meant.level / 8) as u8);
-    out.copy_from_slice(&joined(VERSION, &head, record));
+    if meant.kind == 1 {
+        head.push(1);
+    }
+    out.copy_from_slice(&joined(version_for(&meant), &head, record));
     Answer::done(0)
 }
 

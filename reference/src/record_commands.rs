@@ -149,10 +149,11 @@ fn pairs(record: &[u8], at: Places, work: &Work) -> String {
 
 /// `record`, `prefixes`, `flips` and `pairs`. The last three check what is made
 /// of the record also where the opening was refused; it is zeros then. With
-/// `of_version_1` the record is one of version 1, which there is at level 128 only.
+/// `of_version_1` the record is one of version 1, which there is at level 128 and of
+/// kind 0 only.
 pub fn record_command(command: &str, of_version_1: bool, mut rest: Arguments) -> Option<Outcome> {
     let (shape, row_bits) = (rest.shape()?, rest.number()?);
-    if of_version_1 && shape.level != 128 {
+    if of_version_1 && (shape.level, shape.kind) != (128, 0) {
         return None;
     }
     let (root, iv, challenge) = (rest.bytes()?, rest.bytes()?, rest.bytes()?);

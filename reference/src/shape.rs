@@ -4,8 +4,9 @@
 use std::ops::Range;
 
 /// A shape as a caller gives it: τ vectors, the first τ_1 of depth k + 1 and
-/// the others of depth k, grinding width w, node allowance T, and the level, λ, in
-/// bits. Document 000 calls this k the smaller depth, k - 1.
+/// the others of depth k, grinding width w, node allowance T, the level, λ, in
+/// bits, and the leaf kind, 0 for FAEST, 1 for FAEST-EM. Document 000 calls this k the
+/// smaller depth, k - 1.
 #[derive(Clone, Copy, Debug, PartialEq, Eq)]
 pub struct Shape {
     pub tau: usize,
@@ -13,6 +14,7 @@ pub struct Shape {
     pub w: usize,
     pub t: usize,
     pub level: usize,
+    pub kind: usize,
 }
 
 /// FAEST-128s of table 3.2.
@@ -27,26 +29,47 @@ pub const FAEST_192F: Shape = Shape::at_level(24, 7, 8, 163, 192);
 pub const FAEST_256S: Shape = Shape::at_level(22, 11, 6, 245, 256);
 pub const FAEST_256F: Shape = Shape::at_level(32, 7, 8, 246, 256);
 
+/// The six FAEST-EM sets of table 3.2.
+pub const FAEST_EM_128S: Shape = Shape::of_kind(11, 11, 7, 103, 128, 1);
+pub const FAEST_EM_128F: Shape = Shape::of_kind(16, 7, 8, 112, 128, 1);
+pub const FAEST_EM_192S: Shape = Shape::of_kind(16, 11, 8, 162, 192, 1);
+pub const FAEST_EM_192F: Shape = Shape::of_kind(24, 7, 8, 176, 192, 1);
+pub const FAEST_EM_256S: Shape = Shape::of_kind(22, 11, 6, 218, 256, 1);
+pub const FAEST_EM_256F: Shape = Shape::of_kind(32, 7, 8, 234, 256, 1);
+
 impl Shape {
-    /// A shape of document 01, at level 128.
+    /// A shape of document 01, at level 128 and of the ordinary kind.
     pub const fn new(tau: usize, k: usize, w: usize, t: usize) -> Shape {
         Shape::at_level(tau, k, w, t, 128)
     }
 
-    /// A shape of document 02, E7.
+    /// A shape of document 02, E7, of the ordinary kind.
     pub const fn at_level(tau: usize, k: usize, w: usize, t: usize, level: usize) -> Shape {
+        Shape::of_kind(tau, k, w, t, level, 0)
+    }
+
+    /// A shape of document 02, E8.
+    pub const fn of_kind(
+        tau: usize,
+        k: usize,
+        w: usize,
+        t: usize,
+        level: usize,
+        kind: usize,
+    ) -> Shape {
         Shape {
             tau,
             k,
             w,
             t,
             level,
+            kind,
         }
     }
 
-    /// Documents 01 and 02 (E2, E7): the shape meant, or nothing where a shape rule
-    /// is broken. Four zeros at level 128 stand for the default before any rule is
-    /// applied.
+    /// Documents 01 and 02 (E2, E7, E8): the shape meant, or nothing where a shape
+    /// rule is broken. Four zeros at level 128 and of kind 0 stand for the default
+    /// before any rule is applied.
     pub fn resolve(self) -> Option<Shape> {
         if self == Shape::new(0, 0, 0, 0) {
             return Some(DEFAULT);
@@ -55,7 +78,8 @@ impl Shape {
             && (1..=12).contains(&self.k)
             && (0..=127).contains(&self.w)
             && (1..=512).contains(&self.t)
-            && [128, 192, 256].contains(&self.level);
+            && [128, 192, 256].contains(&self.level)
+            && self.kind <= 1;
         (in_range && self.k == (self.level - self.w) / self.tau && self.depth(0) <= 12)
             .then_some(self)
     }
@@ -65,9 +89,17 @@ impl Shape {
         self.level / 8
     }
 
+    /// Table 5.1: n_leafcom, 3 for FAEST, 2 for FAEST-EM.
+    fn n_leafcom(&self) -> usize {
+        match self.kind {
+            0 => 3,
+            _ => 2,
+        }
+    }
+
     /// The bytes of a leaf commitment: n_leafcom λ bits.
     pub fn leaf_commitment_bytes(&self) -> usize {
-        3 * self.node_bytes()
+        self.n_leafcom() * self.node_bytes()
     }
 
     /// The bytes of the commitment: 2λ bits.

@@ -59,10 +59,12 @@ def times(level, a, b):
     return product
 
 
-def is_shape(tau, k, w, t, level):
-    """The limits of documents 01 and 02 (E2, E7)."""
+def is_shape(tau, k, w, t, level, kind):
+    """The limits of documents 01 and 02 (E2, E7, E8)."""
     if (tau, k, w, t) == (0, 0, 0, 0):
-        return level == 128
+        return level == 128 and kind == 0
+    if kind > 1:
+        return False
     if level not in (128, 192, 256) or not (1 <= tau <= 32 and 1 <= k <= 12):
         return False
     if not (0 <= w <= 127 and 1 <= t <= 512):
@@ -72,7 +74,7 @@ def is_shape(tau, k, w, t, level):
 
 
 class Shape:
-    def __init__(self, tau, k, w, t, level):
+    def __init__(self, tau, k, w, t, level, kind):
         if (tau, k, w, t) == (0, 0, 0, 0):
             tau, k, w, t = 16, 7, 8, 110
         self.tau, self.k, self.w, self.t, self.level = tau, k, w, t, level
@@ -81,7 +83,8 @@ class Shape:
         self.leaves = (tau + self.r) * 2**k
         self.nodes = 2 * self.leaves - 1
         self.width = level // 8
-        self.com_width = 3 * self.width
+        self.even_mansour = kind == 1
+        self.com_width = (2 if self.even_mansour else 3) * self.width
 
     def leaf(self, i, j):
         near = 2**self.k
@@ -133,7 +136,10 @@ class Signer:
         self.coms, self.seeds = [], []
         for i in range(s.tau):
             keys = [self.tree[s.leaf(i, j)] for j in range(2 ** s.depths[i])]
-            made = self.ordinary_leaves(i, keys)
+            if s.even_mansour:
+                made = self.even_mansour_leaves(i, keys)
+            else:
+                made = self.ordinary_leaves(i, keys)
             self.coms.append([com for _, com in made])
             self.seeds.append([seed for seed, _ in made])
         tops = [self.hash_1(b"".join(coms)) for coms in self.coms]
@@ -153,6 +159,13 @@ class Signer:
             high = times(s.level, hash_key, int.from_bytes(out[:n], "little"))
             made.append((out[:n], xor(high.to_bytes(m, "little"), out[n:])))
         return made
+
+    def even_mansour_leaves(self, i, leaf_keys):
+        """The key itself is the seed; 2 level bits of the generator are the
+        commitment, and there is no hash key."""
+        s = self.shape
+        tweak, length = i + s.leaves - 1, 2 * s.width
+        return [(key, generator(key, self.iv, tweak, length)) for key in leaf_keys]
 
     def hash_1(self, message):
         return hashed(self.shape.level, message + b"\x01", 2 * self.shape.width)
@@ -225,12 +238,11 @@ class Signer:
 
 
 def record(version, numbers, row_bits, fields):
-    """Document 02, E6 and E7: a version byte, then each field behind its length;
-    version 2 has the level in its first field."""
-    tau, k, w, t, level = numbers
+    """Document 02, E6, E7 and E8: a version byte, then each field behind its length;
+    version 2 has the level in its first field, version 3 level and kind."""
+    tau, k, w, t, level, kind = numbers
     head = bytes([tau, k, w]) + t.to_bytes(2, "big") + row_bits.to_bytes(4, "big")
-    if version == 2:
-        head += bytes([level // 8])
+    head += bytes([level // 8, kind])[: version - 1]
     text = bytes([version])
     for field in [head] + fields:
         text += len(field).to_bytes(4, "big") + field
@@ -276,63 +288,95 @@ def challenge_for(shape, label):
 
 
 CASES = [
-    # (tau, k, w, T, level), row length in bits, stretch, IV (None: any), label
+    # (tau, k, w, T, level, kind), row length in bits, stretch, IV (None: any), label
     # (where it is not the shape)
-    ((1, 1, 127, 1, 128), 8, (0, 1), None),
-    ((1, 12, 116, 12, 128), 136, (15, 2), None),
-    ((2, 2, 124, 4, 128), 128, (5, 7), "ff" * 16),
-    ((3, 1, 125, 2, 128), 1680, (13, 37), None),
-    ((5, 3, 113, 9, 128), 65536, (5000, 16), "fdffffff" + "00" * 8 + "f0ffffff"),
-    ((7, 5, 93, 30, 128), 24, (1, 1), "ffffffff" + "00" * 8 + "ffffff7f"),
-    ((9, 7, 65, 40, 128), 264, (16, 17), None),
-    ((32, 4, 0, 512, 128), 1000, (100, 25), None),
-    ((16, 8, 0, 120, 128), 72, (8, 1), None),
-    ((11, 11, 7, 102, 128), 1680, (5, 20), None, "0 0 0 0"),
-    ((10, 12, 8, 110, 128), 8, (0, 1), "ff" * 16),
-    ((2, 1, 125, 4, 128), 128, (15, 1), None),
-    ((3, 1, 123, 6, 128), 24, (0, 2), "ff" * 16),
-    ((32, 3, 1, 512, 128), 72, (4, 3), None),
-    ((16, 7, 8, 110, 128), 1680, (200, 10), None),
-    ((0, 0, 0, 0, 128), 16, (1, 1), None, "default"),
+    ((1, 1, 127, 1, 128, 0), 8, (0, 1), None),
+    ((1, 12, 116, 12, 128, 0), 136, (15, 2), None),
+    ((2, 2, 124, 4, 128, 0), 128, (5, 7), "ff" * 16),
+    ((3, 1, 125, 2, 128, 0), 1680, (13, 37), None),
+    ((5, 3, 113, 9, 128, 0), 65536, (5000, 16), "fdffffff" + "00" * 8 + "f0ffffff"),
+    ((7, 5, 93, 30, 128, 0), 24, (1, 1), "ffffffff" + "00" * 8 + "ffffff7f"),
+    ((9, 7, 65, 40, 128, 0), 264, (16, 17), None),
+    ((32, 4, 0, 512, 128, 0), 1000, (100, 25), None),
+    ((16, 8, 0, 120, 128, 0), 72, (8, 1), None),
+    ((11, 11, 7, 102, 128, 0), 1680, (5, 20), None, "0 0 0 0"),
+    ((10, 12, 8, 110, 128, 0), 8, (0, 1), "ff" * 16),
+    ((2, 1, 125, 4, 128, 0), 128, (15, 1), None),
+    ((3, 1, 123, 6, 128, 0), 24, (0, 2), "ff" * 16),
+    ((32, 3, 1, 512, 128, 0), 72, (4, 3), None),
+    ((16, 7, 8, 110, 128, 0), 1680, (200, 10), None),
+    ((0, 0, 0, 0, 128, 0), 16, (1, 1), None, "default"),
     # the fewest leaves of each level, and other depths
-    ((32, 2, 127, 40, 192), 8, (0, 1), None),
-    ((32, 2, 127, 512, 192), 136, (15, 2), "ff" * 16),
-    ((6, 12, 120, 60, 192), 24, (1, 2), "fdffffff" + "00" * 8 + "f0ffffff"),
-    ((32, 6, 0, 512, 192), 264, (16, 17), None),
-    ((24, 5, 60, 110, 192), 72, (8, 1), None),
-    ((32, 4, 127, 100, 256), 8, (0, 1), None),
-    ((32, 4, 127, 512, 256), 136, (15, 2), "ff" * 16),
-    ((11, 12, 124, 130, 256), 24, (1, 2), "ffffffff" + "00" * 8 + "ffffff7f"),
-    ((32, 8, 0, 512, 256), 264, (16, 17), None),
-    ((31, 5, 100, 170, 256), 72, (8, 1), None),
-    # FAEST-192f and FAEST-256f, with the row lengths of document 000
-    ((24, 7, 8, 163, 192), 3088, (13, 37), None),
-    ((32, 7, 8, 246, 256), 3888, (470, 16), None),
+    ((32, 2, 127, 40, 192, 0), 8, (0, 1), None),
+    ((32, 2, 127, 512, 192, 0), 136, (15, 2), "ff" * 16),
+    ((6, 12, 120, 60, 192, 0), 24, (1, 2), "fdffffff" + "00" * 8 + "f0ffffff"),
+    ((32, 6, 0, 512, 192, 0), 264, (16, 17), None),
+    ((24, 5, 60, 110, 192, 0), 72, (8, 1), None),
+    ((32, 4, 127, 100, 256, 0), 8, (0, 1), None),
+    ((32, 4, 127, 512, 256, 0), 136, (15, 2), "ff" * 16),
+    ((11, 12, 124, 130, 256, 0), 24, (1, 2), "ffffffff" + "00" * 8 + "ffffff7f"),
+    ((32, 8, 0, 512, 256, 0), 264, (16, 17), None),
+    ((31, 5, 100, 170, 256, 0), 72, (8, 1), None),
+    # Even-Mansour leaves
+    ((1, 1, 127, 1, 128, 1), 8, (0, 1), None),
+    ((2, 2, 124, 4, 128, 1), 128, (5, 7), "ff" * 16),
+    ((3, 1, 123, 6, 128, 1), 24, (0, 2), None),
+    ((10, 12, 8, 110, 128, 1), 8, (0, 1), "fdffffff" + "00" * 8 + "f0ffffff"),
+    ((32, 2, 127, 40, 192, 1), 136, (15, 2), "ff" * 16),
+    ((24, 5, 60, 110, 192, 1), 8, (0, 1), None),
+    ((32, 4, 127, 100, 256, 1), 136, (16, 1), "ffffffff" + "00" * 8 + "ffffff7f"),
+    ((31, 5, 100, 170, 256, 1), 24, (1, 2), None),
+    # FAEST-192f and FAEST-256f, FAEST-EM-128s, -128f, -192f and -256f, with the row
+    # lengths of document 000
+    ((24, 7, 8, 163, 192, 0), 3088, (13, 37), None),
+    ((32, 7, 8, 246, 256, 0), 3888, (470, 16), None),
+    ((11, 11, 7, 103, 128, 1), 1360, (5, 20), None),
+    ((16, 7, 8, 112, 128, 1), 1360, (160, 10), None),
+    ((24, 7, 8, 176, 192, 1), 2320, (13, 37), None),
+    ((32, 7, 8, 234, 256, 1), 3472, (418, 16), None),
 ]
 
-# FAEST-192s and FAEST-256s: commit and the round trip alone.
+# FAEST-192s and -256s, FAEST-EM-192s and -256s: commit and the round trip alone.
 LARGE = [
-    ((16, 11, 12, 162, 192), 3088),
-    ((22, 11, 6, 245, 256), 3888),
+    ((16, 11, 12, 162, 192, 0), 3088),
+    ((22, 11, 6, 245, 256, 0), 3888),
+    ((16, 11, 8, 162, 192, 1), 2320),
+    ((22, 11, 6, 218, 256, 1), 3472),
 ]
 
-# Four numbers, for levels that there are not, and such that do not fit a level.
+# Numbers with levels and kinds that there are not, and such that do not fit a level.
 REFUSED = [
-    *[(2, 2, 124, 4, level) for level in (0, 16, 127, 129, 160, 191, 255, 384)],
-    *[(0, 0, 0, 0, level) for level in (0, 16, 127, 160, 192, 256, 384)],
-    *[(0, 0, 0, 1, level) for level in (128, 192, 256)],
-    *[(11, 11, 7, 102, level) for level in (192, 256)],
-    *[(24, 7, 8, 163, level) for level in (128, 256)],
-    *[(32, 7, 8, 246, level) for level in (128, 192)],
-    (16, 12, 0, 512, 191),
-    (16, 11, 0, 512, 192),
-    (15, 12, 11, 162, 192),
-    (32, 2, 128, 40, 192),
-    (33, 5, 27, 162, 192),
-    (32, 4, 127, 0, 256),
-    (32, 4, 127, 513, 256),
-    (21, 12, 3, 245, 256),
-    (19, 13, 9, 245, 256),
+    *[(2, 2, 124, 4, level, 0) for level in (0, 16, 127, 129, 160, 191, 255, 384)],
+    *[(0, 0, 0, 0, level, 0) for level in (0, 16, 127, 160, 192, 256, 384)],
+    *[(0, 0, 0, 1, level, 0) for level in (128, 192, 256)],
+    *[(11, 11, 7, 102, level, 0) for level in (192, 256)],
+    *[(24, 7, 8, 163, level, 0) for level in (128, 256)],
+    *[(32, 7, 8, 246, level, 0) for level in (128, 192)],
+    (16, 12, 0, 512, 191, 0),
+    (16, 11, 0, 512, 192, 0),
+    (15, 12, 11, 162, 192, 0),
+    (32, 2, 128, 40, 192, 0),
+    (33, 5, 27, 162, 192, 0),
+    (32, 4, 127, 0, 256, 0),
+    (32, 4, 127, 513, 256, 0),
+    (21, 12, 3, 245, 256, 0),
+    (19, 13, 9, 245, 256, 0),
+    *[(0, 0, 0, 0, level, 1) for level in (0, 128, 192, 256)],
+    *[(0, 0, 0, 0, 128, kind) for kind in (2, 255)],
+    *[(2, 2, 124, 4, 128, kind) for kind in (2, 3, 255, 256, 2**64 - 1)],
+    *[(32, 7, 8, 234, 256, kind) for kind in (2, 3)],
+    # depths and w add up to the level, which is none
+    (2, 8, 0, 16, 16, 0),
+    (2, 12, 0, 24, 24, 0),
+    (1, 3, 124, 3, 127, 0),
+    (1, 5, 124, 5, 129, 0),
+    (4, 9, 124, 36, 160, 0),
+    (4, 9, 124, 36, 160, 1),
+    (32, 7, 0, 512, 224, 0),
+    (32, 12, 0, 512, 384, 0),
+    (2, 2, 124, 4, 160, 1),
+    (2, 2, 122, 4, 128, 1),
+    (24, 7, 8, 176, 256, 1),
 ]
 
 
@@ -342,8 +386,10 @@ def root_and_iv(label, shape, iv=None):
 
 
 def label_of(numbers):
-    """At level 128 the four numbers, as before there were other levels."""
-    return " ".join(map(str, numbers[:4] if numbers[4] == 128 else numbers))
+    """Without kind 0, and then without level 128, as before there were others."""
+    if numbers[5] == 0:
+        numbers = numbers[:4] if numbers[4] == 128 else numbers[:5]
+    return " ".join(map(str, numbers))
 
 
 def main():
@@ -369,12 +415,13 @@ def main():
         fields = [iv, challenge, committed["corrections"]]
         fields += [value for _, value in signer.open(challenge)] + [signer.commitment]
         work = signer.reconstruct(challenge)[1:]
-        lines = [("record", record(2, numbers, row_bits, fields))] + work
+        version = 3 if shape.even_mansour else 2
+        lines = [("record", record(version, numbers, row_bits, fields))] + work
         show("record", long, len(revealed), lines)
-        if shape.level == 128:
+        if shape.level == 128 and not shape.even_mansour:
             lines = [("record", record(1, numbers, row_bits, fields))] + work
             show("record_version_1", long, len(revealed), lines)
-        if shape.level != 128:
+        else:
             round_trip(shape, long, challenge)
         signer.take(*stretch)
         show("commit_stretch", part, 0, signer.commit())

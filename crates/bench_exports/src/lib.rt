@@ -111,8 +111,8 @@ pub extern "C" fn rattle_grow(
     tree: &mut [u8],
 )
     requires { ⌜ SboxTable (now t) ⌝ }
-    requires { ⌜ (shapeOk (record { tau = tau; k = k; w = w; t = most; level = 128 }) ≡ true) × (length (now root) ≡ nodeBytes (record { tau = tau; k = k; w = w; t = most; level = 128 })) × (length (now tree) ≡ treeBytes (record { tau = tau; k = k; w = w; t = most; level = 128 })) ⌝ }
-    ensures { λ _. ⌜ now (tree .exit) ≡ signerTree faest (record { tau = tau; k = k; w = w; t = most; level = 128 }) (now (root .entry)) (now (iv .entry)) ⌝ }
+    requires { ⌜ (shapeOk (record { tau = tau; k = k; w = w; t = most; level = 128; kind = 0 }) ≡ true) × (length (now root) ≡ nodeBytes (record { tau = tau; k = k; w = w; t = most; level = 128; kind = 0 })) × (length (now tree) ≡ treeBytes (record { tau = tau; k = k; w = w; t = most; level = 128; kind = 0 })) ⌝ }
+    ensures { λ _. ⌜ now (tree .exit) ≡ signerTree faest (record { tau = tau; k = k; w = w; t = most; level = 128; kind = 0 }) (now (root .entry)) (now (iv .entry)) ⌝ }
 {
     let s = Shape {
         tau,
@@ -120,6 +120,7 @@ pub extern "C" fn rattle_grow(
         w,
         t: most,
         level: 128,
+        kind: 0,
     };
     signer_tree::grow(t, s, root, *iv, tree);
 }
@@ -156,7 +157,7 @@ pub extern "C" fn rattle_plan(
     challenge: &[u8],
     nodes: &mut [u32],
 ) -> usize
-    ensures { λ r. ⌜ ((a : Answer) × Plan (record { tau = tau; k = k; w = w; t = t; level = 128 }) (now (challenge .entry)) (now (nodes .entry)) (now (nodes .exit)) a × (r ≡ a .count)) ⌝ }
+    ensures { λ r. ⌜ ((a : Answer) × Plan (record { tau = tau; k = k; w = w; t = t; level = 128; kind = 0 }) (now (challenge .entry)) (now (nodes .entry)) (now (nodes .exit)) a × (r ≡ a .count)) ⌝ }
 {
     count_of(shape::plan(
         Shape {
@@ -165,6 +166,7 @@ pub extern "C" fn rattle_plan(
             w,
             t,
             level: 128,
+            kind: 0,
         },
         challenge,
         nodes,

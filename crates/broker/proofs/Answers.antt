@@ -1,7 +1,7 @@
 -- The record that is the contract of check_record, by the tests that were passed: one law for each way out. x is what the work buffers held, r the answer.
 use Prim.Native.Nat.{ℕ, _/_}
 use mathlib.Core.Path.{_≡_, refl, sym, ap, _∙_}
-use mathlib.Core.Bool.{Bool, true, false}
+use mathlib.Core.Bool.{Bool, true, false, _&&_}
 use mathlib.Core.List.{List, [], _∷_}
 use lib.Dec.{eqb}
 use lib.ListN.{length}
@@ -11,7 +11,7 @@ use Rattle.spec.specs.Shapes.{resolved, hashBytes, plannedCount, shapeOk}
 use Rattle.spec.specs.Primitives.{faest}
 use Rattle.spec.specs.Calls.{firstRefusal, rowOk, countGiven, countWith, Reconstructed}
 use Rattle.record.specs.Fields.{fieldOk}
-use Rattle.record.specs.Record.{versionOf, headBytes, versionOk, recordEnd, restOk, Contents, contentsOf, readNumber}
+use Rattle.record.specs.Record.{versionOf, headBytes, versionOk, recordEnd, restOk, Contents, contentsOf, kindFits, readNumber}
 use Rattle.record.specs.RecordCalls.{answered, Work, workOf, Reconstructs, made, sameBytes, CheckRecord}
 use Rattle.record.proofs.Reconstructing.{fieldsNumber, ran-number, ran-count, ran-made, ran-kept, not-eleven, number-refused, number-steps}
 
@@ -28,7 +28,8 @@ read-quiet rec bad =
     let h = headBytes (versionOf rec) in
     let s = resolved (contentsOf rec .shape) in
     let b = contentsOf rec .row / 8 in
-    go (versionOk rec) (fieldOk rec 1 h) (shapeOk s) (rowOk (contentsOf rec .row)) (restOk h s b rec) (eqb (length rec) (recordEnd h s b)) bad
+    go (versionOk rec) (fieldOk rec 1 h) (shapeOk s && kindFits (versionOf rec) (contentsOf rec .shape .kind)) (rowOk (contentsOf rec .row)) (restOk h s b rec)
+    (eqb (length rec) (recordEnd h s b)) bad
   where
     go : (a b c d e f : Bool) → (First a b c d e f ≡ 0 → ⊥) → (eqb (answered (First a b c d e f)) 0 ≡ false) × (countGiven (answered (First a b c d e f)) ≡ false)
     go false b c d e f n = (refl, refl)

@@ -21,7 +21,7 @@ smallest = refl
 
 -- P3, P4 and P5 of document 01 are lines 0, 12 and 1 of this shape
 abbrev two : Shape
-two = record { tau = 2; k = 2; w = 124; t = 3; level = 128 }
+two = record { tau = 2; k = 2; w = 124; t = 3; level = 128; kind = 0 }
 
 totals : (within 3 (listed two) ≡ 8) × (total (listed two) ≡ 52)
 unfolding tabulate number digits parent isAncestorWithin isAncestor some covered siblingToReveal revealedFrom revealed nodeCount bitAt bitsAt indexAt level challengeBytes deeper depthOf firstBit leaves leafOf hiddenIndex hiddenLeaf hiddenLeaves plannedCount openBits challengeAt listedAt listed sumOf within total

@@ -50,6 +50,7 @@ pub fn read(input: &[u8]) -> Reading
             w: 0,
             t: 0,
             level: 128,
+            kind: 0,
         };
         return Reading {
             number: 7,

@@ -1,14 +1,14 @@
-// FAEST.LeafCommit of document 000, section 5.1: from the leaf of an entry its seed and its commitment.
+// FAEST.LeafCommit and FAEST-EM.LeafCommit of document 000, section 5.1: from the leaf of an entry its seed and its commitment. The leaf kind is seen here alone.
 ghost use mathlib.Core.Path.{_≡_};
-ghost use mathlib.Core.Bool.{true};
+ghost use mathlib.Core.Bool.{true, false};
 ghost use mathlib.Core.List.{List};
-ghost use Prim.Native.Nat.{ℕ, _+_, _-_, _^_, _≤_};
+ghost use Prim.Native.Nat.{ℕ, _+_, _-_, _*_, _^_, _≤_};
 ghost use lib.ListN.{length};
 ghost use Rattle.spec.specs.Gf256.{SboxTable};
-ghost use Rattle.spec.specs.Shapes.{nodeBytes, leafCommitmentBytes, leaves, shapeOk};
+ghost use Rattle.spec.specs.Shapes.{ordinary, nodeBytes, leafCommitmentBytes, leaves, shapeOk};
 ghost use Rattle.spec.specs.Primitives.{faest};
 ghost use Rattle.spec.specs.Leaves.{hashKey, leafSeed, leafCommitment};
-ghost use Rattle.leaf.specs.HashKeys.{HashMultiples};
+ghost use Rattle.leaf.specs.HashKeys.{HashKeys, HashMultiples};
 use spec::Shape;
 
 // The tweak of the leaves of vector i, in a tree of n leaves.
@@ -19,15 +19,28 @@ pub fn leaf_tweak(i: usize, n: usize) -> u32
     (i + n - 1) as u32
 }
 
-// The multiples of a vector's hash key.
-pub fn hash_multiples(s: Shape, key: &[u8]) -> [[u64; 12]; 16]
-    requires { ⌜ (shapeOk s ≡ true) × (length (now key) ≡ leafCommitmentBytes s) ⌝ }
-    ensures { λ r. ⌜ ((iv : List ℕ) (i : ℕ) → now (key .entry) ≡ hashKey faest s iv i → HashMultiples s iv i r) ⌝ }
+// The hash keys of all vectors, which ordinary leaves need.
+pub fn hash_keys(s: Shape, iv: &[u8], keys: &mut [u8])
+    requires { ⌜ (shapeOk s ≡ true) × (length (now keys) ≡ leafCommitmentBytes s * s .tau) ⌝ }
+    ensures { λ _. ⌜ HashKeys s (now (iv .entry)) (now (keys .exit)) ⌝ }
 {
-    leaf_hash::multiples(s, key)
+    if rules::is_ordinary(s) {
+        shake::h0(rules::rate_bytes(s), iv, keys);
+    }
 }
 
-// The seed and the commitment of the leaf `key` of vector i, with room for the stretched leaf lent; m has the multiples of the vector's hash key.
+// The multiples of a vector's hash key; of leaves that have none any table will do.
+pub fn hash_multiples(s: Shape, key: &[u8]) -> [[u64; 12]; 16]
+    requires { ⌜ (shapeOk s ≡ true) × (length (now key) ≡ leafCommitmentBytes s) ⌝ }
+    ensures { λ r. ⌜ ((iv : List ℕ) (i : ℕ) → (ordinary s ≡ true → now (key .entry) ≡ hashKey faest s iv i) → HashMultiples s iv i r) ⌝ }
+{
+    if rules::is_ordinary(s) {
+        return leaf_hash::multiples(s, key);
+    }
+    [[0u64; 12]; 16]
+}
+
+// The seed and the commitment of the ordinary leaf `key` of vector i, with room for the stretched leaf lent; m has the multiples of the vector's hash key.
 fn stretch_leaf(
     t: &[u8; 256],
     m: &[[u64; 12]; 16],
@@ -40,7 +53,7 @@ fn stretch_leaf(
     out: &mut [u8],
 )
     requires { ⌜ SboxTable (now t) ⌝ }
-    requires { ⌜ (shapeOk s ≡ true) × (length (now key) ≡ nodeBytes s) × (length (now stretched) ≡ nodeBytes s + leafCommitmentBytes s) × (length (now seed) ≡ nodeBytes s) × (length (now out) ≡ leafCommitmentBytes s) ⌝ }
+    requires { ⌜ (shapeOk s ≡ true) × (ordinary s ≡ true) × (length (now key) ≡ nodeBytes s) × (length (now stretched) ≡ nodeBytes s + leafCommitmentBytes s) × (length (now seed) ≡ nodeBytes s) × (length (now out) ≡ leafCommitmentBytes s) ⌝ }
     ensures { λ _. ⌜ ((i : ℕ) → tweak ≡ i + leaves s - 1 → HashMultiples s iv i (now (m .entry))
         → (now (seed .exit) ≡ leafSeed faest s iv i (now (key .entry))) × (now (out .exit) ≡ leafCommitment faest s iv i (now (key .entry)))) ⌝ }
 {
@@ -50,7 +63,26 @@ fn stretch_leaf(
     buffers::copy_part(stretched, 0, n, seed, 0);
 }
 
-// The same, with room of its own.
+// The same of an Even-Mansour leaf: it is its own seed.
+fn em_leaf(
+    t: &[u8; 256],
+    s: Shape,
+    key: &[u8],
+    iv: [u8; 16],
+    tweak: u32,
+    seed: &mut [u8],
+    out: &mut [u8],
+)
+    requires { ⌜ SboxTable (now t) ⌝ }
+    requires { ⌜ (shapeOk s ≡ true) × (ordinary s ≡ false) × (length (now key) ≡ nodeBytes s) × (length (now seed) ≡ nodeBytes s) × (length (now out) ≡ leafCommitmentBytes s) ⌝ }
+    ensures { λ _. ⌜ ((i : ℕ) → tweak ≡ i + leaves s - 1
+        → (now (seed .exit) ≡ leafSeed faest s iv i (now (key .entry))) × (now (out .exit) ≡ leafCommitment faest s iv i (now (key .entry)))) ⌝ }
+{
+    generator::fill(t, key, iv, tweak, 0, out);
+    buffers::copy_part(key, 0, key.len(), seed, 0);
+}
+
+// The same of a leaf of the shape's kind; m has the multiples of the vector's hash key, where it has one.
 pub fn commit_leaf(
     t: &[u8; 256],
     m: &[[u64; 12]; 16],
@@ -66,6 +98,10 @@ pub fn commit_leaf(
     ensures { λ _. ⌜ ((i : ℕ) → tweak ≡ i + leaves s - 1 → HashMultiples s iv i (now (m .entry))
         → (now (seed .exit) ≡ leafSeed faest s iv i (now (key .entry))) × (now (out .exit) ≡ leafCommitment faest s iv i (now (key .entry)))) ⌝ }
 {
+    if !rules::is_ordinary(s) {
+        em_leaf(t, s, key, iv, tweak, seed, out);
+        return;
+    }
     let n = rules::node_bytes(s) + rules::commitment_bytes(s);
     let mut stretched = [0u8; 128];
     stretch_leaf(t, m, s, key, iv, tweak, &mut stretched[0..n], seed, out);

@@ -77,7 +77,7 @@ pub record ShortNumbers (input : List ℕ) : Type 0 where
   pub w : digitRun (behind 2 input) ≤ 5
   pub t : digitRun (behind 3 input) ≤ 5
 
--- at level 128 (document 02, E7 and E10)
+-- at level 128 and kind 0 (document 02, E7, E8 and E10)
 unfoldable pub shapeOf : List ℕ → Shape
 shapeOf input =
     record {
@@ -86,4 +86,5 @@ shapeOf input =
       w = numberOf (behind 2 input);
       t = numberOf (behind 3 input);
       level = 128;
+      kind = 0;
     }

@@ -171,7 +171,7 @@ pub fn shape_line_ok(input: &[u8]) -> bool
         & last_number_ok(behind(input, 3))
 }
 
-// The shape that a line gives, at level 128.
+// The shape that a line gives, at level 128 and with ordinary leaves.
 pub fn shape_of(input: &[u8]) -> Shape
     requires { ⌜ ShortNumbers (now input) ⌝ }
     ensures { λ r. ⌜ r ≡ shapeOf (now (input .entry)) ⌝ }
@@ -182,5 +182,6 @@ pub fn shape_of(input: &[u8]) -> Shape
         w: number_of(behind(input, 2)),
         t: number_of(behind(input, 3)),
         level: 128,
+        kind: 0,
     }
 }

@@ -12,3 +12,4 @@ pub mod ShapeFacts
 pub mod HiddenLeaves
 pub mod ExpandTree
 pub mod ShapeLaws
+pub mod LeafCommitments

@@ -34,7 +34,7 @@ fn write_all(
     let r = rules::rate_bytes(s);
     let t = aes::table();
     let x = generator::load_iv(iv);
-    shake::h0(r, iv, keys);
+    leaf::hash_keys(s, iv, keys);
     verifier_tree::reconstruct_tree(&t, s, ch, x, n, opening, tree);
     verifier_vectors::write_vectors(
         &t,

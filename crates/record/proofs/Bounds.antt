@@ -1,5 +1,5 @@
 -- The numbers that a head and its fields have room for. By the shape rules and the row rule.
-use Prim.Native.Nat.{ℕ, _-_, _*_, _/_, _%_, _≤_, _<_}
+use Prim.Native.Nat.{ℕ, _+_, _-_, _*_, _/_, _%_, _≤_, _<_}
 use mathlib.Core.Path.{_≡_, refl, ap}
 use mathlib.Core.Bool.{Bool, true, false, _&&_, cond}
 use mathlib.Core.List.{[], _∷_}
@@ -9,39 +9,50 @@ use lib.Dec.{eqb, leb}
 use borrow.Author.Tests.{eqb-true, leb-true, ne-eqb}
 use Rattle.spec.specs.declared.Shape.{Shape}
 use Rattle.spec.specs.Bytes.{allZero}
-use Rattle.spec.specs.Shapes.{faest128f, resolved, level, nodeBytes, leafCommitmentBytes, shapeOk, openingBytes, correctionsBytes}
+use Rattle.spec.specs.Shapes.{faest128f, ordinary, resolved, level, nodeBytes, leafCommitmentBytes, shapeOk, openingBytes, correctionsBytes}
 use Rattle.spec.specs.Calls.{rowOk}
 use Rattle.laws.proofs.Conjunctions.{both-true}
 use Rattle.laws.proofs.Concat.{mul-limit}
 use Rattle.planning_laws.proofs.ShapeFacts.{ShapeFacts, shape-facts, widths}
-use Rattle.record.specs.Record.{headBytes}
+use Rattle.record.specs.Record.{headBytes, correctionsPlace, openingPlace, commitmentPlace, recordEnd, versionFor, recordBytes}
 
-pub head-small : (version : ℕ) → headBytes version ≤ 10
+-- the version that is written for ordinary leaves, and for others
+abbrev pub versionBy : Bool → ℕ
+versionBy o = cond o 2 3
+
+pub head-small : (version : ℕ) → headBytes version ≤ 11
 unfolding headBytes
-head-small version = go (eqb version 1) (eqb version 2)
+head-small version = go (eqb version 1) (eqb version 2) (eqb version 3)
   where
-    go : (a b : Bool) → cond a 9 (cond b 10 0) ≤ 10
-    go true b = omega arith
-    go false true = omega arith
-    go false false = omega arith
+    go : (a b c : Bool) → cond a 9 (cond b 10 (cond c 11 0)) ≤ 11
+    go true b c = omega arith
+    go false true c = omega arith
+    go false false true = omega arith
+    go false false false = omega arith
 
--- a head has nine bytes at least, and in a version other than 1 the level behind them
+-- a head has nine bytes at least, in a version other than 1 the level behind them, and in version 3 the kind behind that
 pub head-nine : (version : ℕ) → 0 < headBytes version → 9 ≤ headBytes version
 unfolding headBytes
-head-nine version = go (eqb version 1) (eqb version 2)
+head-nine version = go (eqb version 1) (eqb version 2) (eqb version 3)
   where
-    go : (a b : Bool) → 0 < cond a 9 (cond b 10 0) → 9 ≤ cond a 9 (cond b 10 0)
-    go true b h = omega arith
-    go false true h = omega arith
-    go false false h = omega arith
+    go : (a b c : Bool) → 0 < cond a 9 (cond b 10 (cond c 11 0)) → 9 ≤ cond a 9 (cond b 10 (cond c 11 0))
+    go true b c h = omega arith
+    go false true c h = omega arith
+    go false false true h = omega arith
+    go false false false h = omega arith
 
 pub head-level : (version : ℕ) → (version ≡ 1 → ⊥) → 0 < headBytes version → 10 ≤ headBytes version
 unfolding headBytes
-head-level version n = rw (ne-eqb version 1 n) (go (eqb version 2))
+head-level version n = rw (ne-eqb version 1 n) (go (eqb version 2) (eqb version 3))
   where
-    go : (b : Bool) → 0 < cond b 10 0 → 10 ≤ cond b 10 0
-    go true h = omega arith
-    go false h = omega arith
+    go : (b c : Bool) → 0 < cond b 10 (cond c 11 0) → 10 ≤ cond b 10 (cond c 11 0)
+    go true c h = omega arith
+    go false true h = omega arith
+    go false false h = omega arith
+
+pub head-kind : (version : ℕ) → version ≡ 3 → headBytes version ≡ 11
+unfolding headBytes
+head-kind version e = rw e refl
 
 -- the numbers of a shape as given, which is resolved to an allowed one
 pub record Small (s : Shape) : Type 0 where
@@ -51,14 +62,16 @@ pub record Small (s : Shape) : Type 0 where
   pub t : s .t ≤ 512
   pub level-max : s .level ≤ 256
   pub level-eight : s .level ≡ 8 * (s .level / 8)
+  pub kind : s .kind ≤ 1
 
 pub given-small : (s : Shape) → shapeOk (resolved s) ≡ true → Small s
 unfolding resolved allZero level nodeBytes
-given-small s ok = go (allZero (s .tau ∷ s .k ∷ s .w ∷ s .t ∷ []) && eqb (s .level) 128) refl
+given-small s ok = go (allZero (s .tau ∷ s .k ∷ s .w ∷ s .t ∷ []) && eqb (s .level) 128 && ordinary s) refl
   where
-    go : (z : Bool) → (allZero (s .tau ∷ s .k ∷ s .w ∷ s .t ∷ []) && eqb (s .level) 128) ≡ z → Small s
+    go : (z : Bool) → (allZero (s .tau ∷ s .k ∷ s .w ∷ s .t ∷ []) && eqb (s .level) 128 && ordinary s) ≡ z → Small s
     go true e =
-        let z = both-true (allZero (s .tau ∷ s .k ∷ s .w ∷ s .t ∷ [])) (eqb (s .level) 128) e in
+        let y = both-true _ (ordinary s) e in
+        let z = both-true (allZero (s .tau ∷ s .k ∷ s .w ∷ s .t ∷ [])) (eqb (s .level) 128) (y .0) in
         let a = both-true (eqb (s .tau) 0) _ (z .0) in
         let b = both-true (eqb (s .k) 0) _ (a .1) in
         let c = both-true (eqb (s .w) 0) _ (b .1) in
@@ -68,12 +81,13 @@ given-small s ok = go (allZero (s .tau ∷ s .k ∷ s .w ∷ s .t ∷ []) && eqb
         let r = eqb-true (s .w) 0 (c .0) in
         let t = eqb-true (s .t) 0 (d .0) in
         let l = eqb-true (s .level) 128 (z .1) in
-        record { tau = omega arith; k = omega arith; w = omega arith; t = omega arith; level-max = omega arith; level-eight = omega arith }
+        let o = eqb-true (s .kind) 0 (y .1) in
+        record { tau = omega arith; k = omega arith; w = omega arith; t = omega arith; level-max = omega arith; level-eight = omega arith; kind = omega arith }
     go false e =
         let same : resolved s ≡ s = ap (λ (z : Bool). cond z faest128f s) e in
         let f : ShapeFacts s = shape-facts s (rw same at ok) in
         let v = widths s f in
-        record { tau = f .tau-max; k = f .k-max; w = f .w-max; t = f .t-max; level-max = v .level-max; level-eight = v .node-bits }
+        record { tau = f .tau-max; k = f .k-max; w = f .w-max; t = f .t-max; level-max = v .level-max; level-eight = v .node-bits; kind = f .kind-max }
 
 pub row-small : (n : ℕ) → rowOk n ≡ true → n ≤ 65536
 unfolding rowOk
@@ -94,3 +108,26 @@ opening-small s ok =
     let a = mul-limit (leafCommitmentBytes s) (s .tau) 96 32 (v .commitment-max) (f .tau-max) in
     let b = mul-limit (nodeBytes s) (s .t) 32 512 (v .node-max) (f .t-max) in
     omega arith
+
+-- a head with the kind is a byte longer, and the opening behind it shorter
+em-opening : (s : Shape) → shapeOk s ≡ true → ordinary s ≡ false → openingBytes s ≤ 18432
+unfolding openingBytes leafCommitmentBytes
+em-opening s ok e =
+    let f = shape-facts s ok in
+    let v = widths s f in
+    let k : leafCommitmentBytes s ≡ 2 * nodeBytes s = ap (λ (o : Bool). cond o 3 2 * nodeBytes s) e in
+    let a = mul-limit (leafCommitmentBytes s) (s .tau) 64 32 (omega arith) (f .tau-max) in
+    let b = mul-limit (nodeBytes s) (s .t) 32 512 (v .node-max) (f .t-max) in
+    omega arith
+
+pub record-small : (s : Shape) (b : ℕ) → shapeOk s ≡ true → b ≤ 8192 → recordBytes s b ≤ 273555
+unfolding headBytes correctionsPlace openingPlace commitmentPlace recordEnd versionFor recordBytes
+record-small s b ok h =
+    let v = widths s (shape-facts s ok) in
+    let c = corrections-small s b ok h in
+    let o = go (ordinary s) refl in
+    omega arith
+  where
+    go : (o : Bool) → ordinary s ≡ o → headBytes (versionBy o) + openingBytes s ≤ 19466
+    go true e = (let l = opening-small s ok in omega arith)
+    go false e = (let l = em-opening s ok e in omega arith)

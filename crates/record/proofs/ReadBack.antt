@@ -1,16 +1,16 @@
--- A record is read back as what was written, in either version, and a record that is read is what is written of its contents. Field by field, by the laws of a field.
+-- A record is read back as what was written, in each version, and a record that is read is what is written of its contents. Field by field, by the laws of a field.
 use Prim.Native.Nat.{ℕ, _+_, _*_, _/_, _≤_, _<_, _^_}
 use mathlib.Core.Path.{_≡_, refl, sym, ap, ap₂, _∙_}
-use mathlib.Core.Bool.{Bool, true, false, cond, true≢false}
+use mathlib.Core.Bool.{Bool, true, false, _&&_, cond, true≢false}
 use mathlib.Core.List.{List, [], _∷_, _++_, append-nil}
 use native.Mathlib.Omega.{arith}
 use lib.Dec.{eqb, ltb}
 use lib.ListN.{length, take, drop, getD, length-append, take-append-drop, drop-of-length-le}
 use lib.Seq.{take-at, drop-at, drop-drop, drop-cons, getD-drop}
-use borrow.Author.Tests.{eq-eqb, eqb-true}
+use borrow.Author.Tests.{eq-eqb, eqb-true, eqb-false}
 use Rattle.spec.specs.declared.Shape.{Shape}
-use Rattle.spec.specs.Bytes.{part}
-use Rattle.spec.specs.Shapes.{resolved, challengeBytes, hashBytes, shapeOk, ivBytes, openingBytes, correctionsBytes}
+use Rattle.spec.specs.Bytes.{part, allZero}
+use Rattle.spec.specs.Shapes.{faest128f, ordinary, resolved, challengeBytes, hashBytes, shapeOk, ivBytes, openingBytes, correctionsBytes}
 use Rattle.spec.specs.Calls.{rowOk}
 use Rattle.laws.specs.Lengths.{Sized}
 use Rattle.laws.proofs.Conjunctions.{both-true}
@@ -20,12 +20,16 @@ use Rattle.laws.proofs.Strings.{digits-part}
 use Rattle.laws.proofs.Refusals.{Passed, none-failed, all-passed}
 use Rattle.planning_laws.proofs.ShapeFacts.{shape-facts, widths}
 use Rattle.record.specs.Fields.{bigEndian, bigEndianBytes, fieldOk, fieldOf}
-use Rattle.record.specs.Record.{versionOf, headBytes, versionOk, headOf, shapeIn, rowIn, ivPlace, challengePlace, correctionsPlace, openingPlace, commitmentPlace, recordEnd, restOk, Contents, contentsOf, headTests, restTests, readNumber, versionFor, headFor, restOf, recordOf, headOfVersion1, recordOfVersion1}
+use Rattle.record.specs.Record.{versionOf, headBytes, versionOk, headOf, shapeIn, rowIn, ivPlace, challengePlace, correctionsPlace, openingPlace, commitmentPlace, recordEnd, restOk, Contents, contentsOf, kindFits, headTests, restTests, readNumber, versionFor, headFor, restOf, recordOf, headOfVersion1, recordOfVersion1}
 use Rattle.record.proofs.Numbers.{big-endian-bytes, length-big-endian, bytes-big-endian}
 use Rattle.record.proofs.Fields.{field-stands, field-read, field-behind, field-end, field-room, field-length, field-written}
-use Rattle.record.proofs.Bounds.{head-small, given-small, row-small, corrections-small, opening-small}
+use Rattle.record.proofs.Bounds.{versionBy, head-small, given-small, row-small, corrections-small, opening-small}
 
 -- ---- the head: nine bytes of numbers, and what stands behind them
+
+-- the level that a level byte x says in version v
+abbrev levelIn : ℕ → ℕ → ℕ
+levelIn v x = cond (eqb v 1) 128 (8 * x)
 
 abbrev numbers : Shape → ℕ → List ℕ → List ℕ
 numbers s n xs = (s .tau ∷ s .k ∷ s .w ∷ bigEndianBytes 2 (s .t)) ++ (bigEndianBytes 4 n ++ xs)
@@ -56,6 +60,17 @@ module _ (s : Shape) (n : ℕ) (xs : List ℕ) where
       ∙ ap (drop 4) (drop-at (bigEndianBytes 2 (s .t)) (bigEndianBytes 4 n ++ xs) 2 (length-big-endian 2 (s .t)))
       ∙ drop-at (bigEndianBytes 4 n) xs 4 (length-big-endian 4 n)
 
+  numbers-after : (i : ℕ) → getD (numbers s n xs) (9 + i) 0 ≡ getD xs i 0
+  numbers-after i = sym (getD-drop 9 (numbers s n xs) i 0) ∙ ap (λ (l : List ℕ). getD l i 0) numbers-behind
+
+  -- the shape is read that was written, where what stands behind the numbers says its level and kind
+  numbers-shape : (v : ℕ) → s .t < 65536 → levelIn v (getD xs 0 0) ≡ s .level → cond (eqb v 3) (getD xs 1 0) 0 ≡ s .kind → shapeIn v (numbers s n xs) ≡ s
+  unfolding shapeIn
+  numbers-shape v h e f =
+      let l : levelIn v (getD (numbers s n xs) 9 0) ≡ s .level = ap (levelIn v) (numbers-after 0) ∙ e in
+      let k : cond (eqb v 3) (getD (numbers s n xs) 10 0) 0 ≡ s .kind = ap (λ (x : ℕ). cond (eqb v 3) x 0) (numbers-after 1) ∙ f in
+      rw (allowance-back h, l, k) refl
+
 -- the numbers of a head are what is written of them
 numbers-only : (h : List ℕ) (s : Shape) → 9 ≤ length h → Digits 8 h → s .tau ≡ getD h 0 0 → s .k ≡ getD h 1 0 → s .w ≡ getD h 2 0 → s .t ≡ bigEndian (part h 3 2)
     → h ≡ numbers s (rowIn h) (drop 9 h)
@@ -76,29 +91,55 @@ numbers-only h s e bytes e₁ e₂ e₃ e₄ =
 
 -- ---- the head of the version that is written for a shape
 
+-- the level, and for the Even-Mansour kind the kind
+abbrev last : Shape → Bool → List ℕ
+last s o = (s .level / 8) ∷ cond o [] (s .kind ∷ [])
+
 pub head-length : (s : Shape) (n : ℕ) → length (headFor s n) ≡ headBytes (versionFor s)
 unfolding headFor versionFor headBytes
-head-length s n = numbers-length s n ((s .level / 8) ∷ [])
+head-length s n = numbers-length s n (last s (ordinary s)) ∙ go (ordinary s)
+  where
+    go : (o : Bool) → 9 + length (last s o) ≡ headBytes (versionBy o)
+    go true = refl
+    go false = refl
 
 version-known : (s : Shape) → ltb 0 (headBytes (versionFor s)) ≡ true
 unfolding versionFor headBytes
-version-known s = refl
+version-known s = go (ordinary s)
+  where
+    go : (o : Bool) → ltb 0 (headBytes (versionBy o)) ≡ true
+    go true = refl
+    go false = refl
 
 pub version-resolved : (s : Shape) → versionFor (resolved s) ≡ versionFor s
+unfolding versionFor resolved faest128f
+version-resolved s = go (allZero (s .tau ∷ s .k ∷ s .w ∷ s .t ∷ []) && eqb (s .level) 128) (ordinary s) refl
+  where
+    go : (z o : Bool) → ordinary s ≡ o → versionBy (ordinary (cond (z && o) faest128f s)) ≡ versionBy (ordinary s)
+    go true true e = sym (ap versionBy e)
+    go true false e = refl
+    go false o e = refl
+
+-- an allowed kind is that of the version
+kind-written : (s : Shape) → s .kind ≤ 1 → kindFits (versionFor s) (s .kind) ≡ true
 unfolding versionFor
-version-resolved s = refl
+kind-written s h = go (ordinary s) refl
+  where
+    go : (o : Bool) → ordinary s ≡ o → kindFits (versionBy o) (s .kind) ≡ true
+    go true e = refl
+    go false e = eq-eqb (s .kind) 1 (let n = eqb-false (s .kind) 0 e in omega arith)
 
 shape-back : (s : Shape) (n : ℕ) → s .t < 65536 → s .level ≡ 8 * (s .level / 8) → shapeIn (versionFor s) (headFor s n) ≡ s
-unfolding headFor versionFor shapeIn
-shape-back s n h e =
-    let tail = (s .level / 8) ∷ [] in
-    let level : 8 * getD (numbers s n tail) 9 0 ≡ s .level =
-    ap (λ (m : ℕ). 8 * m) (sym (getD-drop 9 (numbers s n tail) 0 0) ∙ ap (λ (l : List ℕ). getD l 0 0) (numbers-behind s n tail)) ∙ sym e in
-    ap₂ (λ (t l : ℕ). record { tau = s .tau; k = s .k; w = s .w; t = t; level = l }) (allowance-back s n tail h) level
+unfolding headFor versionFor
+shape-back s n h e = go (ordinary s) refl
+  where
+    go : (o : Bool) → ordinary s ≡ o → shapeIn (versionBy o) (numbers s n (last s o)) ≡ s
+    go true f = numbers-shape s n (last s true) 2 h (sym e) (sym (eqb-true (s .kind) 0 f))
+    go false f = numbers-shape s n (last s false) 3 h (sym e) refl
 
 head-back : (s : Shape) (n : ℕ) → n < 2 ^ 32 → rowIn (headFor s n) ≡ n
 unfolding headFor
-head-back s n h = row-back s n ((s .level / 8) ∷ []) h
+head-back s n h = row-back s n (last s (ordinary s)) h
 
 -- ---- the head of version 1
 
@@ -110,10 +151,8 @@ first-length : (s : Shape) (n : ℕ) → length (headOfVersion1 s n) ≡ headByt
 unfolding headBytes
 first-length s n = ap length (first-is s n) ∙ numbers-length s n []
 
-first-shape : (s : Shape) (n : ℕ) → s .t < 65536 → s .level ≡ 128 → shapeIn 1 (headOfVersion1 s n) ≡ s
-unfolding shapeIn
-first-shape s n h e =
-    ap (shapeIn 1) (first-is s n) ∙ ap₂ (λ (t l : ℕ). record { tau = s .tau; k = s .k; w = s .w; t = t; level = l }) (allowance-back s n [] h) (sym e)
+first-shape : (s : Shape) (n : ℕ) → s .t < 65536 → s .level ≡ 128 → s .kind ≡ 0 → shapeIn 1 (headOfVersion1 s n) ≡ s
+first-shape s n h e f = ap (shapeIn 1) (first-is s n) ∙ numbers-shape s n [] 1 h (sym e) (sym f)
 
 first-row : (s : Shape) (n : ℕ) → n < 2 ^ 32 → rowIn (headOfVersion1 s n) ≡ n
 first-row s n h = ap rowIn (first-is s n) ∙ row-back s n [] h
@@ -127,13 +166,29 @@ first-only v h e bytes =
     ∙ ap (numbers (shapeIn v h) (rowIn h)) (drop-of-length-le h {i = 9} (omega arith))
     ∙ sym (first-is (shapeIn v h) (rowIn h))
 
-second-only : (v : ℕ) (h : List ℕ) → eqb v 1 ≡ false → length h ≡ 10 → Digits 8 h → h ≡ headFor (shapeIn v h) (rowIn h)
-unfolding shapeIn headFor
-second-only v h other e bytes =
+-- xs is the head behind its level
+level-only : (v : ℕ) (h xs : List ℕ) → eqb v 1 ≡ false → 10 ≤ length h → Digits 8 h → drop 10 h ≡ xs → h ≡ numbers (shapeIn v h) (rowIn h) ((shapeIn v h .level / 8) ∷ xs)
+unfolding shapeIn
+level-only v h xs other e bytes behind =
     let level : shapeIn v h .level / 8 ≡ getD h 9 0 = ap (λ (a : Bool). cond a 128 (8 * getD h 9 0) / 8) other ∙ omega arith in
     numbers-only h (shapeIn v h) (omega arith) bytes refl refl refl refl
-    ∙ ap (numbers (shapeIn v h) (rowIn h))
-    (drop-cons h 9 0 (omega arith) ∙ ap₂ (λ (x : ℕ) (l : List ℕ). x ∷ l) (sym level) (drop-of-length-le h {i = 10} (omega arith)))
+    ∙ ap (numbers (shapeIn v h) (rowIn h)) (drop-cons h 9 0 (omega arith) ∙ ap₂ (λ (x : ℕ) (l : List ℕ). x ∷ l) (sym level) behind)
+
+second-only : (v : ℕ) (h : List ℕ) → v ≡ 2 → length h ≡ 10 → Digits 8 h → h ≡ headFor (shapeIn v h) (rowIn h)
+unfolding shapeIn headFor
+second-only v h two e bytes =
+    level-only v h [] (rw two refl) (omega arith) bytes (drop-of-length-le h {i = 10} (omega arith))
+    ∙ ap (λ (xs : List ℕ). numbers (shapeIn v h) (rowIn h) ((shapeIn v h .level / 8) ∷ xs)) (rw two refl)
+
+third-only : (v : ℕ) (h : List ℕ) → v ≡ 3 → shapeIn v h .kind ≡ 1 → length h ≡ 11 → Digits 8 h → h ≡ headFor (shapeIn v h) (rowIn h)
+unfolding shapeIn headFor
+third-only v h three one e bytes =
+    level-only v h (getD h 10 0 ∷ []) (rw three refl) (omega arith) bytes
+    (drop-cons h 10 0 (omega arith) ∙ ap (λ (l : List ℕ). getD h 10 0 ∷ l) (drop-of-length-le h {i = 11} (omega arith)))
+    ∙ ap (λ (xs : List ℕ). numbers (shapeIn v h) (rowIn h) ((shapeIn v h .level / 8) ∷ xs)) tail
+  where
+    tail : getD h 10 0 ∷ [] ≡ cond (ordinary (shapeIn v h)) [] (shapeIn v h .kind ∷ [])
+    tail = sym (rw (ap (λ (k : ℕ). eqb k 0) one) (rw three refl))
 
 -- ---- the fields of the rest, one by one
 
@@ -231,7 +286,7 @@ module _ (v : ℕ) (head : List ℕ) (c : Contents) (long : length head ≡ head
       )
       refl
 
-  module _ (known : ltb 0 (headBytes v) ≡ true) (ok : shapeOk (resolved (c .shape)) ≡ true) (allowed : rowOk (c .row) ≡ true) where
+  module _ (known : ltb 0 (headBytes v) ≡ true) (ok : shapeOk (resolved (c .shape)) ≡ true) (fitting : kindFits v (c .shape .kind) ≡ true) (allowed : rowOk (c .row) ≡ true) where
     rest-back : restOk h s b rec ≡ true
     unfolding restOk
     rest-back =
@@ -254,7 +309,8 @@ module _ (v : ℕ) (head : List ℕ) (c : Contents) (long : length head ≡ head
         let front = field-stands rec head (restOf c) 1 h refl long (let m = head-small v in omega arith) in
         let end = eq-eqb (length rec) (recordEnd h s b) parts-length in
         let said = parts-contents in
-        all-passed (headTests rec ++ restTests rec) (known, (front, (rw said ok, (rw said allowed, (rw said rest-back, (rw said end, tt))))))
+        let both = ap₂ _&&_ ok fitting in
+        all-passed (headTests rec ++ restTests rec) (known, (front, (rw said both, (rw said allowed, (rw said rest-back, (rw said end, tt))))))
 
 -- ---- the record of c, in the version that is written and in version 1
 
@@ -277,19 +333,19 @@ module _ (c : Contents) (ok : shapeOk (resolved (c .shape)) ≡ true) (row : row
   unfolding recordOf
   reads-back =
       parts-read (versionFor (c .shape)) (headFor (c .shape) (c .row)) c (head-length (c .shape) (c .row)) said-shape (head-back (c .shape) (c .row) short) sized
-      (version-known (c .shape)) ok row
+      (version-known (c .shape)) ok (kind-written (c .shape) (given-small (c .shape) ok .kind)) row
 
-  pub first-contents : c .shape .level ≡ 128 → contentsOf (recordOfVersion1 c) ≡ c
+  pub first-contents : c .shape .level ≡ 128 → c .shape .kind ≡ 0 → contentsOf (recordOfVersion1 c) ≡ c
   unfolding recordOfVersion1
-  first-contents e =
-      parts-contents 1 (headOfVersion1 (c .shape) (c .row)) c (first-length (c .shape) (c .row)) (first-shape (c .shape) (c .row) few e)
+  first-contents e f =
+      parts-contents 1 (headOfVersion1 (c .shape) (c .row)) c (first-length (c .shape) (c .row)) (first-shape (c .shape) (c .row) few e f)
       (first-row (c .shape) (c .row) short) sized
 
-  pub first-reads : c .shape .level ≡ 128 → readNumber (recordOfVersion1 c) ≡ 0
+  pub first-reads : c .shape .level ≡ 128 → c .shape .kind ≡ 0 → readNumber (recordOfVersion1 c) ≡ 0
   unfolding recordOfVersion1 headBytes
-  first-reads e =
-      parts-read 1 (headOfVersion1 (c .shape) (c .row)) c (first-length (c .shape) (c .row)) (first-shape (c .shape) (c .row) few e)
-      (first-row (c .shape) (c .row) short) sized refl ok row
+  first-reads e f =
+      parts-read 1 (headOfVersion1 (c .shape) (c .row)) c (first-length (c .shape) (c .row)) (first-shape (c .shape) (c .row) few e f)
+      (first-row (c .shape) (c .row) short) sized refl ok refl row
 
 -- ---- a record that is read
 
@@ -313,8 +369,25 @@ module _ (rec : List ℕ) (ok : readNumber rec ≡ 0) where
   unfolding readNumber
   tests = none-failed (headTests rec ++ restTests rec) (refl, (refl, (refl, (refl, (refl, (refl, tt)))))) ok
 
+  pub read-said : (shapeOk (resolved (contentsOf rec .shape)) && kindFits (versionOf rec) (contentsOf rec .shape .kind)) ≡ true
+  read-said = tests .1 .1 .0
+
   pub read-shape : shapeOk (resolved (contentsOf rec .shape)) ≡ true
-  read-shape = tests .1 .1 .0
+  read-shape = both-true _ (kindFits v (Said .shape .kind)) read-said .0
+
+  kind-0 : eqb v 3 ≡ false → Said .shape .kind ≡ 0
+  unfolding contentsOf shapeIn
+  kind-0 e = ap (λ (a : Bool). cond a (getD (headOf rec) 10 0) 0) e
+
+  -- the version says the kind
+  pub read-kind : contentsOf rec .shape .kind ≡ cond (eqb (versionOf rec) 3) 1 0
+  read-kind = go (eqb v 3) refl
+    where
+      go : (a : Bool) → eqb v 3 ≡ a → Said .shape .kind ≡ cond a 1 0
+      go true e =
+          let fitting = both-true (shapeOk r) (kindFits v (Said .shape .kind)) read-said .1 in
+          eqb-true (Said .shape .kind) 1 (sym (ap (λ (a : Bool). cond a (eqb (Said .shape .kind) 1) true) e) ∙ fitting)
+      go false e = kind-0 e
 
   pub read-row : rowOk (contentsOf rec .row) ≡ true
   read-row = tests .1 .1 .1 .0
@@ -363,8 +436,8 @@ module _ (rec : List ℕ) (ok : readNumber rec ≡ 0) where
 
   -- it is the record of what it says, in version 1 or in the version that is written
   pub read-only : Digits 8 rec → rec ≡ cond (eqb (versionOf rec) 1) (recordOfVersion1 (contentsOf rec)) (recordOf (contentsOf rec))
-  unfolding versionOk headBytes contentsOf recordOfVersion1 recordOf versionFor
-  read-only bytes = go (eqb v 1) (eqb v 2) refl refl
+  unfolding versionOk headBytes shapeIn contentsOf recordOfVersion1 recordOf versionFor
+  read-only bytes = go (eqb v 1) (eqb v 2) (eqb v 3) refl refl refl
     where
       digits : Digits 8 (headOf rec)
       digits = digits-part 8 rec 5 m bytes
@@ -372,11 +445,21 @@ module _ (rec : List ℕ) (ok : readNumber rec ≡ 0) where
       long : length (headOf rec) ≡ m
       long = field-length rec 1 m read-head
 
-      go : (a b : Bool) → eqb v 1 ≡ a → eqb v 2 ≡ b → rec ≡ cond a (recordOfVersion1 (contentsOf rec)) (recordOf (contentsOf rec))
-      go true b e f =
-          let nine = long ∙ ap (λ (a : Bool). cond a 9 (cond (eqb v 2) 10 0)) e in
-          read-parts bytes ∙ ap₂ (λ (x : ℕ) (l : List ℕ). x ∷ (fieldOf l ++ restOf (contentsOf rec))) (eqb-true v 1 e) (first-only v (headOf rec) nine digits)
-      go false true e f =
-          let ten = long ∙ ap₂ (λ (a b : Bool). cond a 9 (cond b 10 0)) e f in
-          read-parts bytes ∙ ap₂ (λ (x : ℕ) (l : List ℕ). x ∷ (fieldOf l ++ restOf (contentsOf rec))) (eqb-true v 2 f) (second-only v (headOf rec) e ten digits)
-      go false false e f = absurd (true≢false (sym read-version ∙ ap₂ (λ (a b : Bool). ltb 0 (cond a 9 (cond b 10 0))) e f))
+      -- version x, which is written for the shape
+      by-version : (x : ℕ) → v ≡ x → versionFor (Said .shape) ≡ x → headOf rec ≡ headFor (Said .shape) (Said .row) → rec ≡ recordOf (contentsOf rec)
+      by-version x e f is = read-parts bytes ∙ ap₂ (λ (x : ℕ) (l : List ℕ). x ∷ (fieldOf l ++ restOf (contentsOf rec))) (e ∙ sym f) is
+
+      go : (a b d : Bool) → eqb v 1 ≡ a → eqb v 2 ≡ b → eqb v 3 ≡ d → rec ≡ cond a (recordOfVersion1 (contentsOf rec)) (recordOf (contentsOf rec))
+      go true q d e f g =
+          let nine : m ≡ 9 = rw (eqb-true v 1 e) refl in
+          read-parts bytes ∙ ap₂ (λ (x : ℕ) (l : List ℕ). x ∷ (fieldOf l ++ restOf (contentsOf rec))) (eqb-true v 1 e) (first-only v (headOf rec) (long ∙ nine) digits)
+      go false true d e f g =
+          let two = eqb-true v 2 f in
+          let ten : m ≡ 10 = rw two refl in
+          by-version 2 two (rw two refl) (second-only v (headOf rec) two (long ∙ ten) digits)
+      go false false true e f g =
+          let three = eqb-true v 3 g in
+          let eleven : m ≡ 11 = rw three refl in
+          let one = read-kind ∙ ap (λ (a : Bool). cond a 1 0) g in
+          by-version 3 three (rw (ap (λ (k : ℕ). eqb k 0) one) refl) (third-only v (headOf rec) three one (long ∙ eleven) digits)
+      go false false false e f g = absurd (true≢false (sym read-version ∙ rw (e, f, g) refl))

@@ -1,12 +1,12 @@
--- Document 02, E6 and E7: a signing record is a version byte and six fields: shape and row length (the head), IV, challenge, corrections, opening, commitment.
+-- Document 02, E6, E7 and E8: a signing record is a version byte and six fields: shape and row length (the head), IV, challenge, corrections, opening, commitment.
 use Prim.Native.Nat.{ℕ, _*_, _/_}
-use mathlib.Core.Bool.{Bool, _&&_, cond}
+use mathlib.Core.Bool.{Bool, true, _&&_, cond}
 use mathlib.Core.List.{List, [], _∷_, _++_}
 use lib.Dec.{ltb, eqb}
 use lib.ListN.{length, getD}
 use Rattle.spec.specs.declared.Shape.{Shape}
 use Rattle.spec.specs.Bytes.{part}
-use Rattle.spec.specs.Shapes.{resolved, shapeOk, challengeBytes, hashBytes, ivBytes, openingBytes, correctionsBytes}
+use Rattle.spec.specs.Shapes.{ordinary, resolved, shapeOk, challengeBytes, hashBytes, ivBytes, openingBytes, correctionsBytes}
 use Rattle.spec.specs.Calls.{firstRefusal, rowOk}
 use Rattle.record.specs.Fields.{bigEndian, bigEndianBytes, fieldOk, fieldAt, behind, fieldOf}
 
@@ -15,9 +15,10 @@ use Rattle.record.specs.Fields.{bigEndian, bigEndianBytes, fieldOk, fiel
 abbrev pub versionOf : List ℕ → ℕ
 versionOf rec = getD rec 0 0
 
--- the bytes of a head by its version: tau, k and w in one byte each, T in two, the row length in four; in version 2 the level / 8 in one more. 0 for any other version
+-- the bytes of a head by its version: tau, k and w in one byte each, T in two, the row length in four; from version 2 on the level / 8 in one more; in version 3 the leaf kind in
+-- one more. 0 for any other version
 unfoldable pub headBytes : ℕ → ℕ
-headBytes version = cond (eqb version 1) 9 (cond (eqb version 2) 10 0)
+headBytes version = cond (eqb version 1) 9 (cond (eqb version 2) 10 (cond (eqb version 3) 11 0))
 
 unfoldable pub versionOk : List ℕ → Bool
 versionOk rec = ltb 0 (headBytes (versionOf rec))
@@ -25,7 +26,7 @@ versionOk rec = ltb 0 (headBytes (versionOf rec))
 abbrev pub headOf : List ℕ → List ℕ
 headOf rec = fieldAt rec 1 (headBytes (versionOf rec))
 
--- version 1 means level 128
+-- version 1 means level 128, versions 1 and 2 kind 0
 unfoldable pub shapeIn : ℕ → List ℕ → Shape
 shapeIn version head =
     record {
@@ -34,6 +35,7 @@ shapeIn version head =
       w = getD head 2 0;
       t = bigEndian (part head 3 2);
       level = cond (eqb version 1) 128 (8 * getD head 9 0);
+      kind = cond (eqb version 3) (getD head 10 0) 0;
     }
 
 unfoldable pub rowIn : List ℕ → ℕ
@@ -93,11 +95,15 @@ contentsOf rec =
 
 -- ---- reading: the tests of the front, then those of the rest, and that the record ends
 
+-- a version 3 record has kind 1
+abbrev pub kindFits : ℕ → ℕ → Bool
+kindFits version kind = cond (eqb version 3) (eqb kind 1) true
+
 abbrev pub headTests : List ℕ → List (Bool × ℕ)
 headTests rec =
     (versionOk rec, 9)
     ∷ (fieldOk rec 1 (headBytes (versionOf rec)), 10)
-    ∷ (shapeOk (resolved (contentsOf rec .shape)), 1)
+    ∷ (shapeOk (resolved (contentsOf rec .shape)) && kindFits (versionOf rec) (contentsOf rec .shape .kind), 1)
     ∷ (rowOk (contentsOf rec .row), 2)
     ∷ []
 
@@ -118,10 +124,10 @@ readNumber rec = firstRefusal (headTests rec ++ restTests rec)
 
 -- the version that is written for a shape
 unfoldable pub versionFor : Shape → ℕ
-versionFor s = 2
+versionFor s = cond (ordinary s) 2 3
 
 unfoldable pub headFor : Shape → ℕ → List ℕ
-headFor s n = (s .tau ∷ s .k ∷ s .w ∷ bigEndianBytes 2 (s .t)) ++ (bigEndianBytes 4 n ++ ((s .level / 8) ∷ []))
+headFor s n = (s .tau ∷ s .k ∷ s .w ∷ bigEndianBytes 2 (s .t)) ++ (bigEndianBytes 4 n ++ ((s .level / 8) ∷ cond (ordinary s) [] (s .kind ∷ [])))
 
 -- fields two to six
 abbrev pub restOf : Contents → List ℕ

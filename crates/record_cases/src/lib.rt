@@ -247,8 +247,9 @@ pub fn flips_version_1(
     );
 }
 
-// The record at any level: the challenge is four words, of which the level takes the first.
-pub fn record_at_level(
+// The record at any level and of any kind: the challenge is four words, of which the level takes the first.
+pub fn record_at_kind(
+    kind: usize,
     level: usize,
     tau: usize,
     k: usize,
@@ -268,6 +269,7 @@ pub fn record_at_level(
             w,
             t,
             level,
+            kind,
         },
         row_bits,
         known,
@@ -275,4 +277,21 @@ pub fn record_at_level(
         WHOLE,
         false,
     );
+}
+
+// The same with ordinary leaves.
+pub fn record_at_level(
+    level: usize,
+    tau: usize,
+    k: usize,
+    w: usize,
+    t: usize,
+    row_bits: usize,
+    known: usize,
+    c0: u64,
+    c1: u64,
+    c2: u64,
+    c3: u64,
+) {
+    record_at_kind(0, level, tau, k, w, t, row_bits, known, c0, c1, c2, c3);
 }

@@ -7,7 +7,7 @@ ghost use lib.ListN.{length};
 ghost use Rattle.spec.specs.Bytes.{part};
 ghost use Rattle.spec.specs.Shapes.{challengeBytes, shapeOk};
 ghost use Rattle.record.specs.Fields.{bigEndian, fieldOk, fieldAt};
-ghost use Rattle.record.specs.Record.{versionOf, headBytes, versionOk, shapeIn, rowIn, ivPlace, challengePlace, correctionsPlace, openingPlace, commitmentPlace, recordEnd, versionFor, recordBytes};
+ghost use Rattle.record.specs.Record.{versionOf, headBytes, versionOk, shapeIn, rowIn, ivPlace, challengePlace, correctionsPlace, openingPlace, commitmentPlace, recordEnd, kindFits, versionFor, recordBytes};
 ghost use Rattle.record.specs.RecordCalls.{sameBytes};
 use spec::Shape;
 
@@ -65,14 +65,17 @@ pub fn field_at(bytes: &[u8], at: usize, n: usize) -> &[u8]
 // ---- versions
 
 // The bytes of the head of a version, 0 where the version is not known.
-fn head_length(version: u8) -> usize
-    ensures { λ r. ⌜ (r ≡ headBytes version) × (r ≤ 10) ⌝ }
+pub fn head_length(version: u8) -> usize
+    ensures { λ r. ⌜ (r ≡ headBytes version) × (r ≤ 11) ⌝ }
 {
     if version == 1 {
         return 9;
     }
     if version == 2 {
         return 10;
+    }
+    if version == 3 {
+        return 11;
     }
     0
 }
@@ -89,7 +92,7 @@ pub fn version_of(bytes: &[u8]) -> u8
 
 // The bytes of the head of a record.
 pub fn head_bytes(bytes: &[u8]) -> usize
-    ensures { λ r. ⌜ (r ≡ headBytes (versionOf (now (bytes .entry)))) × (r ≤ 10) ⌝ }
+    ensures { λ r. ⌜ (r ≡ headBytes (versionOf (now (bytes .entry)))) × (r ≤ 11) ⌝ }
 {
     head_length(version_of(bytes))
 }
@@ -112,6 +115,17 @@ fn level_in(version: u8, head: &[u8]) -> usize
     8 * wide(head[9])
 }
 
+// The leaf kind in the head of a version.
+fn kind_in(version: u8, head: &[u8]) -> usize
+    requires { ⌜ (0 < headBytes version) × (length (now head) ≡ headBytes version) ⌝ }
+    ensures { λ r. ⌜ r ≡ shapeIn version (now (head .entry)) .kind ⌝ }
+{
+    if version != 3 {
+        return 0;
+    }
+    wide(head[10])
+}
+
 // The shape in the head of a version.
 pub fn shape_in(version: u8, head: &[u8]) -> Shape
     requires { ⌜ (0 < headBytes version) × (length (now head) ≡ headBytes version) ⌝ }
@@ -123,6 +137,7 @@ pub fn shape_in(version: u8, head: &[u8]) -> Shape
         w: wide(head[2]),
         t: number2(head, 3),
         level: level_in(version, head),
+        kind: kind_in(version, head),
     }
 }
 
@@ -134,11 +149,21 @@ pub fn row_in(head: &[u8]) -> usize
     number4(head, 5)
 }
 
-// The version that is written for a shape.
+// Whether a record of a version may have a leaf kind.
+pub fn kind_fits(version: u8, kind: usize) -> bool
+    ensures { λ r. ⌜ r ≡ kindFits version kind ⌝ }
+{
+    if version != 3 {
+        return true;
+    }
+    kind == 1
+}
+
+// The version that is written for a shape, by its leaf kind.
 pub fn version_for(s: Shape) -> u8
     ensures { λ r. ⌜ r ≡ versionFor s ⌝ }
 {
-    2
+    if rules::is_ordinary(s) { 2 } else { 3 }
 }
 
 // ---- places of the fields behind a head of h bytes, of a resolved shape with rows of b bytes

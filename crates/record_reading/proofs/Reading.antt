@@ -11,11 +11,12 @@ use Rattle.spec.specs.Shapes.{resolved, shapeOk}
 use Rattle.spec.specs.Calls.{firstRefusal}
 use Rattle.rules.proofs.RowLength.{row-max}
 use Rattle.record.specs.Fields.{fieldOk}
-use Rattle.record.specs.Record.{versionOf, headBytes, versionOk, headOf, recordEnd, restOk, contentsOf, headTests, restTests, headNumber, readNumber}
+use Rattle.record.specs.Record.{versionOf, headBytes, versionOk, headOf, recordEnd, restOk, contentsOf, kindFits, headTests, restTests, headNumber, readNumber}
+use Rattle.laws.proofs.Conjunctions.{both-true}
 use Rattle.laws.proofs.Refusals.{Numbered, Passed, none-failed, all-passed, then}
 use Rattle.record.proofs.Bounds.{head-nine}
 use Rattle.record.proofs.Fields.{field-length}
-use Rattle.record.proofs.ReadBack.{read-version, read-head, read-shape, read-row}
+use Rattle.record.proofs.ReadBack.{read-version, read-head, read-said, read-row}
 
 -- the version is known and the head is there
 module _ (rec : List ℕ) (known : versionOk rec ≡ true) (there : fieldOk rec 1 (headBytes (versionOf rec)) ≡ true) where
@@ -46,7 +47,7 @@ module _ (rec : List ℕ) where
     front-head = tests .1 .0
 
     pub front-shape : shapeOk (resolved (contentsOf rec .shape)) ≡ true
-    front-shape = tests .1 .1 .0
+    front-shape = both-true (shapeOk (resolved (contentsOf rec .shape))) (kindFits (versionOf rec) (contentsOf rec .shape .kind)) (tests .1 .1 .0) .0
 
     pub front-row : contentsOf rec .row / 8 ≤ 8192
     front-row = row-max (contentsOf rec .row) (tests .1 .1 .1 .0)
@@ -65,7 +66,7 @@ module _ (rec : List ℕ) where
   -- the record is read, so its front is
   pub read-front : readNumber rec ≡ 0 → headNumber rec ≡ 0
   unfolding headNumber
-  read-front ok = all-passed (headTests rec) (read-version rec ok, (read-head rec ok, (read-shape rec ok, (read-row rec ok, tt))))
+  read-front ok = all-passed (headTests rec) (read-version rec ok, (read-head rec ok, (read-said rec ok, (read-row rec ok, tt))))
 
 -- its front is read; h, s and b are the bytes of the head, the resolved shape and the bytes of a row
 module _ (rec : List ℕ) (h : ℕ) (s : Shape) (b : ℕ) (ok : headNumber rec ≡ 0) (e : h ≡ headBytes (versionOf rec)) (f : s ≡ resolved (contentsOf rec .shape)) (g : b ≡ contentsOf rec .row / 8) where

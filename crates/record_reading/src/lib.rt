@@ -36,13 +36,15 @@ pub fn row_of(bytes: &[u8]) -> usize
 pub fn head_number(bytes: &[u8]) -> usize
     ensures { λ r. ⌜ r ≡ headNumber (now (bytes .entry)) ⌝ }
 {
+    let version = record_fields::version_of(bytes);
     if !record_fields::version_ok(bytes) {
         return 9;
     }
     if !record_fields::field_fits(bytes, 1, record_fields::head_bytes(bytes)) {
         return 10;
     }
-    if !rules::is_shape(rules::resolve(shape_of(bytes))) {
+    let shape = shape_of(bytes);
+    if !(rules::is_shape(rules::resolve(shape)) & record_fields::kind_fits(version, shape.kind)) {
         return 1;
     }
     if !rules::is_row_length(row_of(bytes)) {

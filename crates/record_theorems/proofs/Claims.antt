@@ -28,7 +28,7 @@ use Rattle.record.specs.HostRecordCalls.{HostCheckRecord, workWords}
 use Rattle.laws.proofs.Words.{count-slice}
 use Rattle.laws.proofs.Refusals.{none-failed, all-passed}
 use Rattle.record.proofs.SameBytes.{same-refl, same-equal}
-use Rattle.record.proofs.ReadBack.{Lengths, contents-back, reads-back, first-contents, first-reads, read-only}
+use Rattle.record.proofs.ReadBack.{Lengths, contents-back, reads-back, first-contents, first-reads, read-kind, read-only}
 use Rattle.record.proofs.Reconstructing.{lent, fieldsNumber, ran-number, ran-made, reconstructs, fields-fit, number-steps}
 use Rattle.record_theorems.specs.Claims.{ReadBack, Version1Read, Ran, Steps, Accepts, AcceptedMeans, Honest, HonestAccepted, Exported}
 
@@ -68,12 +68,15 @@ read-back =
     record {
       back = back;
       only = λ rec c bytes ok e. read-only rec ok bytes ∙ ap (λ (x : Contents). cond (eqb (versionOf rec) 1) (recordOfVersion1 x) (recordOf x)) e;
+      kind = read-kind;
     }
 
 pub version-1-read : Version1Read
 version-1-read =
     record {
-      back = λ c before after r w z e. let t = wrote c before after r w z in (first-reads c (t .0) (t .1) (t .2) e, first-contents c (t .0) (t .1) (t .2) e);
+      back = λ c before after r w z e f.
+          let t = wrote c before after r w z in
+          (first-reads c (t .0) (t .1) (t .2) e f, first-contents c (t .0) (t .1) (t .2) e f);
     }
 
 -- ---- the steps of check_record

@@ -1,4 +1,4 @@
--- Document 02, E6, over the contracts of write_record and check_record, alone and with those of commit, open and reconstruct. ../proofs/Claims.antt proves all.
+-- Document 02, E6, with the versions of E7 and E8, over the contracts of write_record and check_record, alone and with those of commit, open and reconstruct. ../proofs/Claims.antt proves all.
 use Prim.Native.Nat.{ℕ, _/_, _≤_}
 use mathlib.Core.Path.{_≡_}
 use mathlib.Core.Bool.{true, cond}
@@ -19,7 +19,7 @@ use Rattle.record.specs.Record.{versionOf, Contents, contentsOf, readNumber, re
 use Rattle.record.specs.RecordCalls.{Work, workLengths, WorkLengths, Reconstructs, sameBytes, answered, CheckRecord, LengthOf, WriteRecord}
 use Rattle.record.specs.HostRecordCalls.{HostCheckRecord, HostWorkLengths, HostRecordLength}
 
--- a written record is read back as the same fields, and no other string of bytes is read so but the record of version 1
+-- a written record is read back as the same fields, and no other string of bytes is read so but the record of version 1; version 3 means kind 1, any other kind 0
 pub record ReadBack : Type 0 where
   pub back : (c : Contents) (before after : List ℕ) (r : Answer) → WriteRecord c before after r → r .number ≡ 0 → (readNumber after ≡ 0) × (contentsOf after ≡ c)
   pub only :
@@ -28,14 +28,16 @@ pub record ReadBack : Type 0 where
       → readNumber rec ≡ 0
       → contentsOf rec ≡ c
       → rec ≡ cond (eqb (versionOf rec) 1) (recordOfVersion1 c) (recordOf c)
+  pub kind : (rec : List ℕ) → readNumber rec ≡ 0 → contentsOf rec .shape .kind ≡ cond (eqb (versionOf rec) 3) 1 0
 
--- what is written at level 128 is read, as the same fields, from its record of version 1 too
+-- what is written at level 128 with ordinary leaves is read, as the same fields, from its record of version 1 too
 pub record Version1Read : Type 0 where
   pub back :
       (c : Contents) (before after : List ℕ) (r : Answer)
       → WriteRecord c before after r
       → r .number ≡ 0
       → c .shape .level ≡ 128
+      → c .shape .kind ≡ 0
       → (readNumber (recordOfVersion1 c) ≡ 0) × (contentsOf (recordOfVersion1 c) ≡ c)
 
 -- reconstruct on the fields of a record, with the lent work buffers and any buffer for the commitment that has its length

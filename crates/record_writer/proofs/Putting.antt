@@ -1,7 +1,7 @@
 -- Strings put one behind another, and the numbers and parts of a record put so. By the laws of `take` and `++`.
 use Prim.Native.Nat.{ℕ, _+_, _/_, _%_, _≤_, _<_}
 use mathlib.Core.Path.{_≡_, refl, sym, ap, _∙_}
-use mathlib.Core.Bool.{true}
+use mathlib.Core.Bool.{Bool, true, false, cond}
 use mathlib.Core.List.{List, [], _∷_, _++_, append-assoc}
 use native.Mathlib.Omega.{arith}
 use native.Mathlib.Nat.{div-one, zero-add}
@@ -9,11 +9,11 @@ use lib.ListN.{length, getD, take, set, length-append}
 use lib.Seq.{take-all, take-suc-set}
 use Rattle.spec.specs.declared.Shape.{Shape}
 use Rattle.spec.specs.Bytes.{part, tabulate, digits}
-use Rattle.spec.specs.Shapes.{resolved, shapeOk}
+use Rattle.spec.specs.Shapes.{ordinary, resolved, shapeOk}
 use Rattle.laws.proofs.Concat.{part-whole}
 use Rattle.laws.proofs.Putting.{put-take}
 use Rattle.record.specs.Fields.{bigEndianBytes, fieldOf}
-use Rattle.record.specs.Record.{Contents, versionFor, headFor, recordOf}
+use Rattle.record.specs.Record.{headBytes, Contents, versionFor, headFor, recordOf}
 use Rattle.record.proofs.Fields.{length-field}
 use Rattle.record.proofs.Bounds.{given-small}
 use Rattle.record_writer.specs.Put.{Put}
@@ -62,20 +62,30 @@ pub four-of : (n : ℕ) → bigEndianBytes 4 n ≡ n / 16777216 % 256 ∷ n / 65
 unfolding bigEndianBytes digits tabulate
 four-of n = ap (λ (m : ℕ). n / 16777216 % 256 ∷ n / 65536 % 256 ∷ n / 256 % 256 ∷ m % 256 ∷ []) (div-one n)
 
--- the head's bytes: its numbers fit them
-pub head-bytes : (s : Shape) (n a b d hi lo l : ℕ) (row : List ℕ) → shapeOk (resolved s) ≡ true → a ≡ s .tau % 256 → b ≡ s .k % 256 → d ≡ s .w % 256 → hi ≡ s .t / 256 % 256
-    → lo ≡ s .t % 256 → l ≡ s .level / 8 % 256 → row ≡ bigEndianBytes 4 n
-    → _≡_ {A = List ℕ} (a ∷ b ∷ d ∷ hi ∷ lo ∷ getD row 0 0 ∷ getD row 1 0 ∷ getD row 2 0 ∷ getD row 3 0 ∷ l ∷ []) (headFor s n)
-unfolding headFor
-head-bytes s n a b d hi lo l row ok e₁ e₂ e₃ e₄ e₅ e₆ e₇ =
+-- the head's bytes: its numbers fit them, and the kind is among them where the version has it
+pub head-bytes : (s : Shape) (n a b d hi lo l m : ℕ) (row : List ℕ) → shapeOk (resolved s) ≡ true → a ≡ s .tau % 256 → b ≡ s .k % 256 → d ≡ s .w % 256 → hi ≡ s .t / 256 % 256
+    → lo ≡ s .t % 256 → l ≡ s .level / 8 % 256 → m ≡ s .kind % 256 → row ≡ bigEndianBytes 4 n
+    → take (headBytes (versionFor s)) (a ∷ b ∷ d ∷ hi ∷ lo ∷ getD row 0 0 ∷ getD row 1 0 ∷ getD row 2 0 ∷ getD row 3 0 ∷ l ∷ m ∷ []) ≡ headFor s n
+unfolding headBytes versionFor headFor
+head-bytes s n a b d hi lo l m row ok e₁ e₂ e₃ e₄ e₅ e₆ e₇ e₈ =
     let f = given-small s ok in
     let g₁ : a ≡ s .tau = omega arith in
     let g₂ : b ≡ s .k = omega arith in
     let g₃ : d ≡ s .w = omega arith in
     let g₄ : l ≡ s .level / 8 = omega arith in
-    rw (g₁, g₂, g₃, e₄, e₅, g₄, e₇, two-of (s .t), four-of n) refl
+    let g₅ : m ≡ s .kind = omega arith in
+    rw (g₁, g₂, g₃, e₄, e₅, g₄, g₅, e₈, two-of (s .t), four-of n) (go (ordinary s) _ _ _ _ _ _ _ _ _ _)
+  where
+    go : (o : Bool) (x₀ x₁ x₂ x₃ x₄ x₅ x₆ x₇ x₈ x₉ : ℕ)
+        → take (headBytes (cond o 2 3)) (x₀ ∷ x₁ ∷ x₂ ∷ x₃ ∷ x₄ ∷ x₅ ∷ x₆ ∷ x₇ ∷ x₈ ∷ x₉ ∷ s .kind ∷ []) ≡ x₀ ∷ x₁ ∷ x₂ ∷ x₃ ∷ x₄ ∷ x₅ ∷ x₆ ∷ x₇ ∷ x₈ ∷ x₉ ∷ cond o [] (s .kind ∷ [])
+    go true x₀ x₁ x₂ x₃ x₄ x₅ x₆ x₇ x₈ x₉ = refl
+    go false x₀ x₁ x₂ x₃ x₄ x₅ x₆ x₇ x₈ x₉ = refl
 
 -- ---- the whole
+
+-- a version v and a head h
+pub put-version : (s : Shape) (n : ℕ) {v : ℕ} {h x y z : List ℕ} → v ≡ versionFor s → h ≡ headFor s n → Put (v ∷ []) 0 x y → Put (fieldOf h) 1 y z → Put (versionFor s ∷ fieldOf (headFor s n)) 0 x z
+put-version s n e f p q = put-then 1 refl (rw e at p) (rw f at q)
 
 -- a₁, .., a₅ are the places behind fields one to five
 pub put-record : (c : Contents) (a₁ a₂ a₃ a₄ a₅ : ℕ) {x x₁ x₂ x₃ x₄ x₅ y : List ℕ} → a₁ ≡ 5 + length (headFor (c .shape) (c .row)) → a₂ ≡ a₁ + 4 + length (c .iv)

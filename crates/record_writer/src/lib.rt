@@ -3,11 +3,11 @@ ghost use mathlib.Core.Path.{_≡_};
 ghost use mathlib.Core.Bool.{true};
 ghost use mathlib.Core.List.{[], _∷_};
 ghost use Prim.Native.Nat.{_+_, _%_, _<_, _≤_};
-ghost use lib.ListN.{length};
+ghost use lib.ListN.{length, take};
 ghost use Rattle.spec.specs.Shapes.{resolved, challengeBytes, hashBytes, shapeOk, openingBytes, correctionsBytes};
 ghost use Rattle.spec.specs.Calls.{fits};
 ghost use Rattle.record.specs.Fields.{bigEndianBytes, fieldOf};
-ghost use Rattle.record.specs.Record.{versionFor, headFor, recordOf, recordBytes};
+ghost use Rattle.record.specs.Record.{headBytes, versionFor, headFor, recordOf, recordBytes};
 ghost use Rattle.record.specs.RecordCalls.{LengthOf, WriteRecord};
 ghost use Rattle.record_writer.specs.Put.{Put};
 use record::RecordLength;
@@ -32,10 +32,10 @@ fn four_bytes(n: usize) -> [u8; 4]
     ]
 }
 
-// The head: the shape as given, the row length, and the level in bytes.
-fn head_of(s: Shape, n: usize) -> [u8; 10]
+// The head: the shape as given, the row length, the level in bytes and the leaf kind, which is the head's last byte only where it is not 0.
+fn head_of(s: Shape, n: usize) -> [u8; 11]
     requires { ⌜ shapeOk (resolved s) ≡ true ⌝ }
-    ensures { λ r. ⌜ r ≡ headFor s n ⌝ }
+    ensures { λ r. ⌜ take (headBytes (versionFor s)) r ≡ headFor s n ⌝ }
 {
     let row = four_bytes(n);
     [
@@ -49,6 +49,7 @@ fn head_of(s: Shape, n: usize) -> [u8; 10]
         row[2],
         row[3],
         low_byte(s.level / 8),
+        low_byte(s.kind),
     ]
 }
 
@@ -77,8 +78,10 @@ fn put_front(out: &mut [u8], s: Shape, n: usize) -> usize
     ensures { λ r. ⌜ (r ≡ 5 + length (headFor s n)) × Put (versionFor s ∷ fieldOf (headFor s n)) 0 (now (out .entry)) (now (out .exit)) ⌝ }
 {
     let head = head_of(s, n);
-    put_version(out, record_fields::version_for(s));
-    put_field(out, 1, &head)
+    let version = record_fields::version_for(s);
+    let h = record_fields::head_length(version);
+    put_version(out, version);
+    put_field(out, 1, &head[..h])
 }
 
 // The record, part by part.

@@ -2,7 +2,7 @@
 ghost use mathlib.Core.Path.{_≡_};
 ghost use mathlib.Core.Bool.{true};
 ghost use Prim.Native.Nat.{_+_, _-_, _*_, _^_, _<_, _≤_};
-ghost use Rattle.spec.specs.Shapes.{resolved, level, nodeBytes, leafCommitmentBytes, hashBytes, rate, levelOk, shapeOk, deeper, depthOf, entriesOf, firstBit, firstEntry, leaves, leafOf};
+ghost use Rattle.spec.specs.Shapes.{ordinary, resolved, level, nodeBytes, leafCommitmentBytes, hashBytes, rate, levelOk, shapeOk, deeper, depthOf, entriesOf, firstBit, firstEntry, leaves, leafOf};
 ghost use mathlib.Core.List.{[], _∷_};
 ghost use Rattle.spec.specs.Calls.{rowOk, stretchOk, fits};
 use spec::Answer;
@@ -16,7 +16,7 @@ pub fn answer(number: usize, count: usize) -> Answer
     Answer { number, count }
 }
 
-// Four zeros at level 128 stand for the default, FAEST-128f.
+// Four zeros at level 128, with ordinary leaves, stand for the default, FAEST-128f.
 pub fn resolve(s: Shape) -> Shape
     ensures { λ r. ⌜ r ≡ resolved s ⌝ }
 {
@@ -35,12 +35,16 @@ pub fn resolve(s: Shape) -> Shape
     if s.level != 128 {
         return s;
     }
+    if s.kind != 0 {
+        return s;
+    }
     Shape {
         tau: 16,
         k: 7,
         w: 8,
         t: 110,
         level: 128,
+        kind: 0,
     }
 }
 
@@ -56,6 +60,9 @@ pub fn is_shape(s: Shape) -> bool
     ensures { λ r. ⌜ r ≡ shapeOk s ⌝ }
 {
     let n = s.level;
+    if 1 < s.kind {
+        return false;
+    }
     if !is_level(n) {
         return false;
     }
@@ -175,12 +182,20 @@ pub fn node_bytes(s: Shape) -> usize
     level_bits(s) / 8
 }
 
-// The bytes of a leaf commitment and of a hash key.
+// Whether the leaves are ordinary ones.
+pub fn is_ordinary(s: Shape) -> bool
+    ensures { λ r. ⌜ r ≡ ordinary s ⌝ }
+{
+    s.kind == 0
+}
+
+// The bytes of a leaf commitment, and of a hash key where there is one.
 pub fn commitment_bytes(s: Shape) -> usize
     requires { ⌜ shapeOk s ≡ true ⌝ }
     ensures { λ r. ⌜ (r ≡ leafCommitmentBytes s) × (r ≤ 96) ⌝ }
 {
-    3 * node_bytes(s)
+    let n = node_bytes(s);
+    if is_ordinary(s) { 3 * n } else { 2 * n }
 }
 
 // The bytes of a hash of leaf commitments and of the commitment.

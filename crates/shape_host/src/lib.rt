@@ -47,11 +47,12 @@ pub extern "C" fn rachnoel_decode(
     w: usize,
     t: usize,
     level: usize,
+    kind: usize,
     challenge: &[u8],
     indices: &mut [u8],
     count: &mut [u8],
 ) -> usize
-    ensures { λ r. ⌜ HostDecode (record { tau = tau; k = k; w = w; t = t; level = level }) (now (challenge .entry)) (now (indices .entry)) (now (indices .exit)) (now (count .entry)) (now (count .exit)) r ⌝ }
+    ensures { λ r. ⌜ HostDecode (record { tau = tau; k = k; w = w; t = t; level = level; kind = kind }) (now (challenge .entry)) (now (indices .entry)) (now (indices .exit)) (now (count .entry)) (now (count .exit)) r ⌝ }
 {
     let mut list = [0u32; 33];
     decode_by(
@@ -61,6 +62,7 @@ pub extern "C" fn rachnoel_decode(
             w,
             t,
             level,
+            kind,
         },
         challenge,
         &mut list,
@@ -77,11 +79,12 @@ pub extern "C" fn rachnoel_plan(
     w: usize,
     t: usize,
     level: usize,
+    kind: usize,
     challenge: &[u8],
     nodes: &mut [u8],
     count: &mut [u8],
 ) -> usize
-    ensures { λ r. ⌜ HostPlan (record { tau = tau; k = k; w = w; t = t; level = level }) (now (challenge .entry)) (now (nodes .entry)) (now (nodes .exit)) (now (count .entry)) (now (count .exit)) r ⌝ }
+    ensures { λ r. ⌜ HostPlan (record { tau = tau; k = k; w = w; t = t; level = level; kind = kind }) (now (challenge .entry)) (now (nodes .entry)) (now (nodes .exit)) (now (count .entry)) (now (count .exit)) r ⌝ }
 {
     let mut list = [0u32; 513];
     plan_by(
@@ -91,6 +94,7 @@ pub extern "C" fn rachnoel_plan(
             w,
             t,
             level,
+            kind,
         },
         challenge,
         &mut list,

@@ -70,7 +70,7 @@ fn write_all(
     let r = rules::rate_bytes(s);
     let t = aes::table();
     let x = generator::load_iv(iv);
-    shake::h0(r, iv, keys);
+    leaf::hash_keys(s, iv, keys);
     signer_tree::grow(&t, s, root, x, tree);
     signer_vectors::write_vectors(&t, s, z, x, keys, tree, lcs, u, v, corrections, hashes);
     shake::h1(r, hashes, commitment);

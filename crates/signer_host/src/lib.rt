@@ -12,6 +12,7 @@ pub extern "C" fn rachnoel_commit(
     w: usize,
     t: usize,
     level: usize,
+    kind: usize,
     row_bits: usize,
     root: &[u8],
     iv: &[u8],
@@ -23,7 +24,7 @@ pub extern "C" fn rachnoel_commit(
     corrections: &mut [u8],
     count: &mut [u8],
 ) -> usize
-    ensures { λ r. ⌜ HostCommit faest (record { tau = tau; k = k; w = w; t = t; level = level }) «row_bits» (now (root .entry)) (now (iv .entry))
+    ensures { λ r. ⌜ HostCommit faest (record { tau = tau; k = k; w = w; t = t; level = level; kind = kind }) «row_bits» (now (root .entry)) (now (iv .entry))
         (record { commitment = now (commitment .entry); tree = now (tree .entry); leafCommitments = now («leaf_commitments» .entry); u = now (u .entry); v = now (v .entry); corrections = now (corrections .entry) })
         (record { commitment = now (commitment .exit); tree = now (tree .exit); leafCommitments = now («leaf_commitments» .exit); u = now (u .exit); v = now (v .exit); corrections = now (corrections .exit) })
         (now (count .entry)) (now (count .exit)) r ⌝ }
@@ -36,6 +37,7 @@ pub extern "C" fn rachnoel_commit(
             w,
             t,
             level,
+            kind,
         },
         row_bits,
         &root[..n],
@@ -58,6 +60,7 @@ pub extern "C" fn rachnoel_commit_stretch(
     w: usize,
     t: usize,
     level: usize,
+    kind: usize,
     row_bits: usize,
     first: usize,
     width: usize,
@@ -71,7 +74,7 @@ pub extern "C" fn rachnoel_commit_stretch(
     corrections: &mut [u8],
     count: &mut [u8],
 ) -> usize
-    ensures { λ r. ⌜ HostCommitStretch faest (record { tau = tau; k = k; w = w; t = t; level = level }) «row_bits» (record { first = first; width = width }) (now (root .entry)) (now (iv .entry))
+    ensures { λ r. ⌜ HostCommitStretch faest (record { tau = tau; k = k; w = w; t = t; level = level; kind = kind }) «row_bits» (record { first = first; width = width }) (now (root .entry)) (now (iv .entry))
         (record { commitment = now (commitment .entry); tree = now (tree .entry); leafCommitments = now («leaf_commitments» .entry); u = now (u .entry); v = now (v .entry); corrections = now (corrections .entry) })
         (record { commitment = now (commitment .exit); tree = now (tree .exit); leafCommitments = now («leaf_commitments» .exit); u = now (u .exit); v = now (v .exit); corrections = now (corrections .exit) })
         (now (count .entry)) (now (count .exit)) r ⌝ }
@@ -84,6 +87,7 @@ pub extern "C" fn rachnoel_commit_stretch(
             w,
             t,
             level,
+            kind,
         },
         row_bits,
         Stretch { first, width },
@@ -107,13 +111,14 @@ pub extern "C" fn rachnoel_open(
     w: usize,
     t: usize,
     level: usize,
+    kind: usize,
     challenge: &[u8],
     tree: &[u8],
     leaf_commitments: &[u8],
     opening: &mut [u8],
     count: &mut [u8],
 ) -> usize
-    ensures { λ r. ⌜ HostOpen (record { tau = tau; k = k; w = w; t = t; level = level }) (now (challenge .entry)) (now (tree .entry)) (now («leaf_commitments» .entry))
+    ensures { λ r. ⌜ HostOpen (record { tau = tau; k = k; w = w; t = t; level = level; kind = kind }) (now (challenge .entry)) (now (tree .entry)) (now («leaf_commitments» .entry))
         (now (opening .entry)) (now (opening .exit)) (now (count .entry)) (now (count .exit)) r ⌝ }
 {
     let n = host_words::passed_on(challenge.len(), count.len());
@@ -124,6 +129,7 @@ pub extern "C" fn rachnoel_open(
             w,
             t,
             level,
+            kind,
         },
         &challenge[..n],
         tree,

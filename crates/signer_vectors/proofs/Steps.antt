@@ -9,6 +9,7 @@ use lib.Bits.{bitXor, xor-zero-l, xor-zero-r}
 use lib.Pow.{pow-pos}
 use lib.ListN.{length, getD, take, drop, drop-of-length-le}
 use lib.Seq.{take-length, take-at}
+use Rattle.planning_laws.proofs.LeafCommitments.{commitment-length}
 use Rattle.spec.specs.declared.Shape.{Shape}
 use Rattle.spec.specs.declared.Stretch.{Stretch}
 use Rattle.spec.specs.Bytes.{bit, tabulate, concat, zeros}
@@ -81,8 +82,9 @@ module _ (s : Shape) (z : Stretch) (iv tree : List ℕ) where
   -- ---- lengths
 
   leaves-length : (i : ℕ) → length (vectorCommitments s (signerLeafCommitment faest s iv tree) i) ≡ leafCommitmentBytes s * entriesOf s i
-  unfolding leafCommitment vectorCommitments signerLeafCommitment
-  leaves-length i = even-length (signerLeafCommitment faest s iv tree i) (leafCommitmentBytes s) (entriesOf s i) (λ j h. rw length-tabulate)
+  unfolding vectorCommitments signerLeafCommitment
+  leaves-length i =
+      even-length (signerLeafCommitment faest s iv tree i) (leafCommitmentBytes s) (entriesOf s i) (λ j h. commitment-length faest s iv i (leafKey s tree i j))
 
   columns-length : (i : ℕ) → length (concat (depthOf s i) (signerColumn s b row i)) ≡ b * depthOf s i
   unfolding signerColumn

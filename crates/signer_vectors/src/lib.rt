@@ -7,6 +7,7 @@ ghost use Rattle.spec.specs.Bytes.{concat, zeros};
 ghost use Rattle.spec.specs.Gf256.{SboxTable};
 ghost use Rattle.spec.specs.Shapes.{leafCommitmentBytes, hashBytes, shapeOk, depthOf, entriesOf, treeBytes, leafCommitmentsBytes, matrixBytes, correctionsBytes};
 ghost use Rattle.spec.specs.Primitives.{faest};
+ghost use Rattle.leaf.specs.HashKeys.{HashKeys};
 ghost use Rattle.spec.specs.Leaves.{leafCommitments, vectorHash};
 ghost use Rattle.spec.specs.Rows.{stretchByte, matrixOf};
 ghost use Rattle.spec.specs.Signer.{signerLeafCommitment, signerU, signerColumn};
@@ -30,7 +31,7 @@ fn convert(
     hash: &mut [u8],
 )
     requires { ⌜ SboxTable (now t) ⌝ }
-    requires { ⌜ (shapeOk s ≡ true) × (i < s .tau) × (z .first + z .width ≤ 8192) × (now keys ≡ faest .h0 s iv (leafCommitmentBytes s * s .tau)) × (length (now tree) ≡ treeBytes s) ⌝ }
+    requires { ⌜ (shapeOk s ≡ true) × (i < s .tau) × (z .first + z .width ≤ 8192) × HashKeys s iv (now keys) × (length (now tree) ≡ treeBytes s) ⌝ }
     requires { ⌜ (length (now lcs) ≡ leafCommitmentBytes s * entriesOf s i) × (length (now total) ≡ z .width) × (length (now cols) ≡ z .width * depthOf s i) × (length (now hash) ≡ hashBytes s) ⌝ }
     ensures { λ _. ⌜ Converted s z iv (now (tree .entry)) i (now (total .entry)) (now (total .exit)) (now (lcs .exit)) (now (cols .exit)) (now (hash .exit)) ⌝ }
 {
@@ -56,7 +57,7 @@ fn vector_of_u(
     hashes: &mut [u8],
 )
     requires { ⌜ SboxTable (now t) ⌝ }
-    requires { ⌜ (shapeOk s ≡ true) × (i < s .tau) × (z .first + z .width ≤ 8192) × (now keys ≡ faest .h0 s iv (leafCommitmentBytes s * s .tau)) × (length (now tree) ≡ treeBytes s) ⌝ }
+    requires { ⌜ (shapeOk s ≡ true) × (i < s .tau) × (z .first + z .width ≤ 8192) × HashKeys s iv (now keys) × (length (now tree) ≡ treeBytes s) ⌝ }
     requires { ⌜ (leafCommitmentBytes s * entriesOf s i ≤ length (now lcs)) × (length (now u) ≡ z .width) × (z .width * depthOf s i ≤ length (now v)) × (hashBytes s ≤ length (now hashes)) ⌝ }
     ensures { λ _. ⌜ Converted s z iv (now (tree .entry)) i (zeros (z .width)) (now (u .exit)) (take (leafCommitmentBytes s * entriesOf s i) (now (lcs .exit))) (take (z .width * depthOf s i) (now (v .exit))) (take (hashBytes s) (now (hashes .exit))) ⌝ }
 {
@@ -96,7 +97,7 @@ fn correct(
     hash: &mut [u8],
 )
     requires { ⌜ SboxTable (now t) ⌝ }
-    requires { ⌜ (shapeOk s ≡ true) × (i < s .tau) × (z .first + z .width ≤ 8192) × (now keys ≡ faest .h0 s iv (leafCommitmentBytes s * s .tau)) × (length (now tree) ≡ treeBytes s) ⌝ }
+    requires { ⌜ (shapeOk s ≡ true) × (i < s .tau) × (z .first + z .width ≤ 8192) × HashKeys s iv (now keys) × (length (now tree) ≡ treeBytes s) ⌝ }
     requires { ⌜ (length (now u) ≡ z .width) × (length (now lcs) ≡ leafCommitmentBytes s * entriesOf s i) × (length (now correction) ≡ z .width) × (length (now cols) ≡ z .width * depthOf s i) × (length (now hash) ≡ hashBytes s) ⌝ }
     ensures { λ _. ⌜ Converted s z iv (now (tree .entry)) i (now (u .entry)) (now (correction .exit)) (now (lcs .exit)) (now (cols .exit)) (now (hash .exit)) ⌝ }
 {
@@ -120,7 +121,7 @@ fn other_vector(
     hashes: &mut [u8],
 )
     requires { ⌜ SboxTable (now t) ⌝ }
-    requires { ⌜ (shapeOk s ≡ true) × (j + 1 < s .tau) × (z .first + z .width ≤ 8192) × (now keys ≡ faest .h0 s iv (leafCommitmentBytes s * s .tau)) × (length (now tree) ≡ treeBytes s) × (now u ≡ signerU s (z .width) (stretchByte faest s z iv (now tree))) ⌝ }
+    requires { ⌜ (shapeOk s ≡ true) × (j + 1 < s .tau) × (z .first + z .width ≤ 8192) × HashKeys s iv (now keys) × (length (now tree) ≡ treeBytes s) × (now u ≡ signerU s (z .width) (stretchByte faest s z iv (now tree))) ⌝ }
     requires { ⌜ (length (now lcs) ≡ leafCommitmentsBytes s) × (length (now corrections) ≡ correctionsBytes s (z .width)) × (length (now v) ≡ matrixBytes s (z .width)) × (length (now hashes) ≡ hashBytes s * s .tau) ⌝ }
     ensures { λ _. ⌜ (UpTo s z iv (now (tree .entry)) j (now (lcs .entry)) (now (corrections .entry)) (now (v .entry)) (now (hashes .entry))
         → UpTo s z iv (now (tree .entry)) (j + 1) (now (lcs .exit)) (now (corrections .exit)) (now (v .exit)) (now (hashes .exit))) ⌝ }
@@ -164,7 +165,7 @@ fn other_vectors(
     hashes: &mut [u8],
 )
     requires { ⌜ SboxTable (now t) ⌝ }
-    requires { ⌜ (shapeOk s ≡ true) × (last < s .tau) × (z .first + z .width ≤ 8192) × (now keys ≡ faest .h0 s iv (leafCommitmentBytes s * s .tau)) × (length (now tree) ≡ treeBytes s) × (now u ≡ signerU s (z .width) (stretchByte faest s z iv (now tree))) ⌝ }
+    requires { ⌜ (shapeOk s ≡ true) × (last < s .tau) × (z .first + z .width ≤ 8192) × HashKeys s iv (now keys) × (length (now tree) ≡ treeBytes s) × (now u ≡ signerU s (z .width) (stretchByte faest s z iv (now tree))) ⌝ }
     requires { ⌜ (length (now lcs) ≡ leafCommitmentsBytes s) × (length (now corrections) ≡ correctionsBytes s (z .width)) × (length (now v) ≡ matrixBytes s (z .width)) × (length (now hashes) ≡ hashBytes s * s .tau) ⌝ }
     ensures { λ _. ⌜ (UpTo s z iv (now (tree .entry)) 0 (now (lcs .entry)) (now (corrections .entry)) (now (v .entry)) (now (hashes .entry))
         → UpTo s z iv (now (tree .entry)) last (now (lcs .exit)) (now (corrections .exit)) (now (v .exit)) (now (hashes .exit))) ⌝ }
@@ -189,7 +190,7 @@ pub fn write_vectors(
     hashes: &mut [u8],
 )
     requires { ⌜ SboxTable (now t) ⌝ }
-    requires { ⌜ (shapeOk s ≡ true) × (z .first + z .width ≤ 8192) × (now keys ≡ faest .h0 s iv (leafCommitmentBytes s * s .tau)) × (length (now tree) ≡ treeBytes s) ⌝ }
+    requires { ⌜ (shapeOk s ≡ true) × (z .first + z .width ≤ 8192) × HashKeys s iv (now keys) × (length (now tree) ≡ treeBytes s) ⌝ }
     requires { ⌜ (length (now lcs) ≡ leafCommitmentsBytes s) × (length (now u) ≡ z .width) × (length (now v) ≡ matrixBytes s (z .width)) × (length (now corrections) ≡ correctionsBytes s (z .width)) × (length (now hashes) ≡ hashBytes s * s .tau) ⌝ }
     ensures { λ _. ⌜ now (lcs .exit) ≡ leafCommitments s (signerLeafCommitment faest s iv (now (tree .entry))) ⌝ }
     ensures { λ _. ⌜ now (u .exit) ≡ signerU s (z .width) (stretchByte faest s z iv (now (tree .entry))) ⌝ }

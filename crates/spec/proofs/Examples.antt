@@ -33,7 +33,7 @@ Planned r =
 
 pub row : ℕ → ℕ → ℕ → ℕ → ℕ → ℕ → ℕ → List ℕ → Row
 row tau k w t first number count nodes =
-    record { shape = record { tau = tau; k = k; w = w; t = t; level = 128 }; first = first; number = number; count = count; nodes = nodes }
+    record { shape = record { tau = tau; k = k; w = w; t = t; level = 128; kind = 0 }; first = first; number = number; count = count; nodes = nodes }
 
 abbrev pub P1 : Type 0
 P1 = Planned (row 1 1 127 1 0x00 0 1 (2 ∷ []))
@@ -65,13 +65,13 @@ P9 = Planned (row 2 2 124 4 0x10 4 0 (0 ∷ 0 ∷ 0 ∷ 0 ∷ []))
 -- FAEST-128s: its L, and its last leaf, entry 2,047 of vector 10
 abbrev pub P10 : Type 0
 P10 =
-    let s : Shape = record { tau = 11; k = 11; w = 7; t = 102; level = 128 } in
+    let s : Shape = record { tau = 11; k = 11; w = 7; t = 102; level = 128; kind = 0 } in
     (faest128s ≡ s) × (leaves s ≡ 22528) × (leafOf s 10 2047 ≡ 45054)
 
 -- P3 and P4 differ in the hidden index of vector 1 only: with L 8, the counts 2 and 4
 abbrev pub OneIndex : Type 0
 OneIndex =
-    let s : Shape = record { tau = 2; k = 2; w = 124; t = 4; level = 128 } in
+    let s : Shape = record { tau = 2; k = 2; w = 124; t = 4; level = 128; kind = 0 } in
     (leaves s ≡ 8)
     × (hiddenIndex s (0x00 ∷ zeros 15) 0 ≡ 0) × (hiddenIndex s (0x00 ∷ zeros 15) 1 ≡ 0)
     × (hiddenIndex s (0x0c ∷ zeros 15) 0 ≡ 0) × (hiddenIndex s (0x0c ∷ zeros 15) 1 ≡ 3)
@@ -80,7 +80,7 @@ OneIndex =
 
 -- what four zeros stand for
 abbrev pub Default : Type 0
-Default = resolved (record { tau = 0; k = 0; w = 0; t = 0; level = 128 }) ≡ record { tau = 16; k = 7; w = 8; t = 110; level = 128 }
+Default = resolved (record { tau = 0; k = 0; w = 0; t = 0; level = 128; kind = 0 }) ≡ record { tau = 16; k = 7; w = 8; t = 110; level = 128; kind = 0 }
 
 pub table : P1 × P2 × P3 × P4 × P5 × P6 × P7 × P8 × P9 × P10 × OneIndex × Default
 unfolding challengeOf Planned row tabulate zeros allZero number parent isAncestorWithin isAncestor some covered siblingToReveal revealedFrom revealed nodeCount bitAt bitsAt indexAt clearAt faest128s faest128f resolved level challengeBytes depthOf firstBit firstEntry leaves leafOf shapeOk hiddenIndex hiddenLeaf hiddenLeaves grindingOk planned plannedCount countWith nodesOk planNumber deeper
@@ -119,7 +119,7 @@ Uneven =
     × Planned (row 2 1 125 4 0x02 0 3 (10 ∷ 5 ∷ 3 ∷ 0 ∷ []))
     × Planned (row 2 1 125 2 0x02 5 3 (0 ∷ 0 ∷ []))
     × Planned (row 2 1 125 4 0x08 4 0 (0 ∷ 0 ∷ 0 ∷ 0 ∷ []))
-    × (let s : Shape = record { tau = 16; k = 7; w = 8; t = 110; level = 128 } in (leaves s ≡ 3072) × (leafOf s 15 127 ≡ 5118) × (leafOf s 7 255 ≡ 6142))
+    × (let s : Shape = record { tau = 16; k = 7; w = 8; t = 110; level = 128; kind = 0 } in (leaves s ≡ 3072) × (leafOf s 15 127 ≡ 5118) × (leafOf s 7 255 ≡ 6142))
 
 pub uneven : Uneven
 unfolding challengeOf Planned row tabulate zeros allZero number parent isAncestorWithin isAncestor some covered siblingToReveal revealedFrom revealed nodeCount bitAt bitsAt indexAt clearAt faest128s faest128f resolved level challengeBytes deeper depthOf firstBit leaves leafOf shapeOk hiddenIndex hiddenLeaf hiddenLeaves grindingOk planned plannedCount countWith nodesOk planNumber

@@ -2,6 +2,7 @@
 pub mod PrimitiveInputs
 pub mod Examples
 pub mod Refusals
+pub mod LeafKinds
 pub mod HostExamples
 pub mod StandIns
 pub mod WorkedExample

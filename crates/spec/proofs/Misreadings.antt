@@ -26,7 +26,7 @@ apart xs ys i t e =
 
 -- that shape with one slot too few for that challenge, which reveals five nodes
 abbrev pub tight : Shape
-tight = record { tau = 3; k = 2; w = 122; t = 4; level = 128 }
+tight = record { tau = 3; k = 2; w = 122; t = 4; level = 128; kind = 0 }
 
 -- ---- leaves laid vector after vector instead of interleaved
 

@@ -94,7 +94,7 @@ alpha-384 = refl
 
 -- the same of alpha^575 and alpha^767 at levels 192 and 256
 abbrev pub levelOnly : ℕ → Shape
-levelOnly n = record { tau = 32; k = n / 32; w = 0; t = 1; level = n }
+levelOnly n = record { tau = 32; k = n / 32; w = 0; t = 1; level = n; kind = 0 }
 
 pub alpha-576 : fieldProduct (fieldWidth (levelOnly 192)) (fieldPolynomial (levelOnly 192)) 8 (2 ^ 575) 2 ≡ 2 ^ 13 + 2 ^ 4 + 2 ^ 3 + 1
 unfolding product remainder fieldProduct level fieldWidth fieldPolynomial

@@ -16,7 +16,7 @@ use Rattle.spec.specs.Verifier.{slotsOk}
 use Rattle.spec.specs.Calls.{rowOk, stretchOk, nodesOk, countWith, decodeLengths, decodeNumber, planLengths, planNumber, Committed, commitLengths, commitNumber, commitStretchNumber, openLengths, Reconstructed, reconstructLengths, reconstructNumber, reconstructStretchNumber}
 
 abbrev pub shape : ℕ → ℕ → ℕ → ℕ → Shape
-shape tau k w t = record { tau = tau; k = k; w = w; t = t; level = 128 }
+shape tau k w t = record { tau = tau; k = k; w = w; t = t; level = 128; kind = 0 }
 
 -- ---- limits
 
@@ -47,7 +47,7 @@ limits = (refl, refl, refl, refl, refl, refl, refl, refl, refl, refl, refl, refl
 -- ---- levels (document 02, E7)
 
 abbrev pub at : ℕ → ℕ → ℕ → ℕ → ℕ → Shape
-at level tau k w t = record { tau = tau; k = k; w = w; t = t; level = level }
+at level tau k w t = record { tau = tau; k = k; w = w; t = t; level = level; kind = 0 }
 
 -- depths and w add up to the level, and there are three levels
 abbrev pub Levels : Type 0
@@ -87,6 +87,48 @@ pub sets : Sets
 unfolding level nodeBytes leafCommitmentBytes shapeOk openingBytes deeper depthOf leaves
 sets = ((refl, refl, refl), (refl, refl, refl), (refl, refl, refl), (refl, refl, refl))
 
+-- ---- kinds (document 02, E8)
+
+abbrev pub em : ℕ → ℕ → ℕ → ℕ → ℕ → Shape
+em level tau k w t = record { tau = tau; k = k; w = w; t = t; level = level; kind = 1 }
+
+abbrev pub ofKind : ℕ → Shape
+ofKind kind = record { tau = 2; k = 2; w = 124; t = 4; level = 128; kind = kind }
+
+-- 0 and 1; four zeros are no shape with kind 1
+abbrev pub Kinds : Type 0
+Kinds =
+    (shapeOk (ofKind 0) ≡ true)
+    × (shapeOk (ofKind 1) ≡ true)
+    × (shapeOk (ofKind 2) ≡ false)
+    × (shapeOk (ofKind 255) ≡ false)
+    × (resolved (em 128 0 0 0 0) ≡ em 128 0 0 0 0)
+    × (shapeOk (em 128 0 0 0 0) ≡ false)
+
+pub kinds : Kinds
+unfolding allZero faest128f resolved level shapeOk deeper depthOf
+kinds = (refl, refl, refl, refl, refl, refl)
+
+-- the sets of document 000, section 3.1, with kind 1: allowed, their leaves, and the bytes of an opening
+abbrev pub EmSets : Type 0
+EmSets =
+    let s = em 128 11 11 7 103 in
+    let f = em 128 16 7 8 112 in
+    let s192 = em 192 16 11 8 162 in
+    let f192 = em 192 24 7 8 176 in
+    let s256 = em 256 22 11 6 218 in
+    let f256 = em 256 32 7 8 234 in
+    ((shapeOk s ≡ true) × (leaves s ≡ 22528) × (openingBytes s ≡ 2000))
+    × ((shapeOk f ≡ true) × (leaves f ≡ 3072) × (openingBytes f ≡ 2304))
+    × ((shapeOk s192 ≡ true) × (leaves s192 ≡ 49152) × (openingBytes s192 ≡ 4656))
+    × ((shapeOk f192 ≡ true) × (leaves f192 ≡ 5120) × (openingBytes f192 ≡ 5376))
+    × ((shapeOk s256 ≡ true) × (leaves s256 ≡ 61440) × (openingBytes s256 ≡ 8384))
+    × ((shapeOk f256 ≡ true) × (leaves f256 ≡ 7168) × (openingBytes f256 ≡ 9536))
+
+pub em-sets : EmSets
+unfolding level nodeBytes leafCommitmentBytes shapeOk openingBytes deeper depthOf leaves
+em-sets = ((refl, refl, refl), (refl, refl, refl), (refl, refl, refl), (refl, refl, refl), (refl, refl, refl), (refl, refl, refl))
+
 -- bytes of a node, a challenge, a leaf commitment, a commitment, and of Q for rows of one byte
 abbrev pub WidthsAt : ℕ → ℕ → ℕ → ℕ → ℕ → Shape → Type 0
 WidthsAt node leaf hash columns blocks s =
@@ -94,8 +136,16 @@ WidthsAt node leaf hash columns blocks s =
 
 pub level-widths :
     WidthsAt 16 48 32 128 168 (at 128 32 4 0 1) × WidthsAt 24 72 48 192 136 (at 192 32 6 0 1) × WidthsAt 32 96 64 256 136 (at 256 32 8 0 1)
+    × WidthsAt 16 32 32 128 168 (em 128 32 4 0 1) × WidthsAt 24 48 48 192 136 (em 192 32 6 0 1) × WidthsAt 32 64 64 256 136 (em 256 32 8 0 1)
 unfolding level nodeBytes challengeBytes leafCommitmentBytes hashBytes matrixBytes rate
-level-widths = ((refl, refl, refl, refl, refl, refl), (refl, refl, refl, refl, refl, refl), (refl, refl, refl, refl, refl, refl))
+level-widths = (
+  (refl, refl, refl, refl, refl, refl),
+  (refl, refl, refl, refl, refl, refl),
+  (refl, refl, refl, refl, refl, refl),
+  (refl, refl, refl, refl, refl, refl),
+  (refl, refl, refl, refl, refl, refl),
+  (refl, refl, refl, refl, refl, refl),
+)
 
 -- four zeros are the default, at level 128; three are not, wherever the fourth number stands
 abbrev pub Defaults : Type 0

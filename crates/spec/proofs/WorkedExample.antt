@@ -18,7 +18,7 @@ use Rattle.spec.specs.Calls.{committed, reconstructed}
 use Rattle.spec.proofs.StandIns.{standIn}
 
 abbrev pub shape : Shape
-shape = record { tau = 3; k = 2; w = 122; t = 7; level = 128 }
+shape = record { tau = 3; k = 2; w = 122; t = 7; level = 128; kind = 0 }
 
 abbrev pub whole : Stretch
 whole = record { first = 0; width = 2 }

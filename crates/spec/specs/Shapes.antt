@@ -1,4 +1,4 @@
--- Document 01, "The shape and the tree", and document 02, E2 and E7: shapes, the numbers and widths that a shape gives, and what it makes of a challenge. Behind `resolved`,
+-- Document 01, "The shape and the tree", and document 02, E2, E7 and E8: shapes, the numbers and widths that a shape gives, and what it makes of a challenge. Behind `resolved`,
 -- s is a resolved shape. What a level changes of FAEST's definitions stands in this file: all others use its names.
 use Prim.Native.Nat.{ℕ, _+_, _-_, _*_, _/_, _^_, min}
 use mathlib.Core.Bool.{Bool, _&&_, _||_, cond}
@@ -11,14 +11,18 @@ use Rattle.spec.specs.Tree.{revealed, nodeCount}
 
 -- FAEST-128s and FAEST-128f (document 000, tables 3.2 and 5.1, whose k is k + 1 here)
 unfoldable pub faest128s : Shape
-faest128s = record { tau = 11; k = 11; w = 7; t = 102; level = 128 }
+faest128s = record { tau = 11; k = 11; w = 7; t = 102; level = 128; kind = 0 }
 
 unfoldable pub faest128f : Shape
-faest128f = record { tau = 16; k = 7; w = 8; t = 110; level = 128 }
+faest128f = record { tau = 16; k = 7; w = 8; t = 110; level = 128; kind = 0 }
 
--- four zeros stand for the default, FAEST-128f (document 02, E3), at level 128 only (E7)
+-- document 02, E8: the leaf kind, 0 ordinary, 1 Even-Mansour
+abbrev pub ordinary : Shape → Bool
+ordinary s = eqb (s .kind) 0
+
+-- four zeros stand for the default, FAEST-128f (document 02, E3), at level 128 (E7) and with ordinary leaves (E8) only
 unfoldable pub resolved : Shape → Shape
-resolved s = cond (allZero (s .tau ∷ s .k ∷ s .w ∷ s .t ∷ []) && eqb (s .level) 128) faest128f s
+resolved s = cond (allZero (s .tau ∷ s .k ∷ s .w ∷ s .t ∷ []) && eqb (s .level) 128 && ordinary s) faest128f s
 
 -- ---- widths
 
@@ -33,9 +37,9 @@ nodeBytes s = level s / 8
 unfoldable pub challengeBytes : Shape → ℕ
 challengeBytes s = level s / 8
 
--- bytes of a leaf commitment and of a hash key
+-- bytes of a leaf commitment: document 000, table 5.1, n_leafcom blocks of lambda bits. A hash key, which ordinary leaves have, is as long
 unfoldable pub leafCommitmentBytes : Shape → ℕ
-leafCommitmentBytes s = 3 * nodeBytes s
+leafCommitmentBytes s = cond (ordinary s) 3 2 * nodeBytes s
 
 -- bytes of H1 and of the commitment
 unfoldable pub hashBytes : Shape → ℕ
@@ -101,7 +105,7 @@ levelOk n = eqb n 128 || (eqb n 192 || eqb n 256)
 unfoldable pub shapeOk : Shape → Bool
 shapeOk s =
     leb 1 (s .tau) && leb (s .tau) 32 && leb 1 (s .k) && leb (depthOf s 0) 12 && leb (s .w) 127 && leb 1 (s .t) && leb (s .t) 512
-    && leb (s .tau * s .k + s .w) (level s) && ltb (deeper s) (s .tau) && levelOk (s .level)
+    && leb (s .tau * s .k + s .w) (level s) && ltb (deeper s) (s .tau) && levelOk (s .level) && leb (s .kind) 1
 
 -- ---- what a challenge hides
 

@@ -17,7 +17,7 @@ use Rattle.theorems.specs.Planning.{RevealedAt, LeastPower}
 -- ---- E9: shape 2, 2, 124, 4 and challenge 0c hide leaves 7 and 14 of the eight
 
 abbrev pub shape4 : Shape
-shape4 = record { tau = 2; k = 2; w = 124; t = 4; level = 128 }
+shape4 = record { tau = 2; k = 2; w = 124; t = 4; level = 128; kind = 0 }
 
 abbrev pub challenge4 : List ℕ
 challenge4 = 0x0c ∷ zeros 15
@@ -75,6 +75,6 @@ unfolding faest128s leaves deeper level
 least-power-128s = power-between 22528 14 (omega arith) (omega arith)
 
 -- and of FAEST-128f
-pub least-power-128f : LeastPower (leaves (record { tau = 16; k = 7; w = 8; t = 110; level = 128 })) 12
+pub least-power-128f : LeastPower (leaves (record { tau = 16; k = 7; w = 8; t = 110; level = 128; kind = 0 })) 12
 unfolding leaves deeper level
 least-power-128f = power-between 3072 11 (omega arith) (omega arith)

@@ -29,6 +29,7 @@ use Rattle.planning_laws.proofs.Covered.{covered-leaf, covered-inner, root-hidd
 use Rattle.planning_laws.proofs.Revealed.{left-revealed, right-revealed}
 use Rattle.planning_laws.proofs.HiddenLeaves.{hidden-count, hidden-leaves}
 use Rattle.planning_laws.proofs.ExpandTree.{expand-length, expand-front, expand-left, expand-right}
+use Rattle.planning_laws.proofs.LeafCommitments.{commitment-length}
 use Rattle.planning_laws.proofs.ShapeLaws.{ShapeLaws, hidden-at}
 use Rattle.theorems.proofs.Buffers.{commitments-length, commitments-at, opening-hidden, opening-slot}
 
@@ -65,8 +66,7 @@ module _ (P : Primitives) (s : Shape) (f : ShapeLaws s) (root iv : List ℕ) (ro
       ∙ ap (λ (n : ℕ). nodeBytes s * n) (let p = f .leaves-pos in let z : 2 * (leaves s - 1) + 1 ≡ 2 * leaves s - 1 = omega arith in z)
 
   commitment-long : (i : ℕ) (key : List ℕ) → length (leafCommitment P s iv i key) ≡ leafCommitmentBytes s
-  unfolding leafCommitment
-  commitment-long i key = length-tabulate (leafCommitmentBytes s) _
+  commitment-long = commitment-length P s iv
 
   signer-long : (i j : ℕ) → i < s .tau → j < entriesOf s i → length (signerLeafCommitment P s iv Tree i j) ≡ leafCommitmentBytes s
   unfolding signerLeafCommitment

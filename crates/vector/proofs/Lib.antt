@@ -1,5 +1,4 @@
 -- Laws that the proofs of this crate, and of the crates above it, cite.
-pub mod HashKeys
 pub mod Buffers
 pub mod Numbers
 pub mod Entries

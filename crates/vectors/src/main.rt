@@ -7,11 +7,13 @@
 //     probe_commit(..), probe_open(..), probe_reconstruct(..)   one call, on buffers of which one may have a wrong length
 //     at_level(LEVEL, TAU, K, W, T, ROWBITS, ROOTIV, C0, C1, C2, C3)  the three calls at a level: the challenge is the four words, of which the level takes the first bytes, and
 //                                                               so it does of the root, whose 16 bytes stand there twice
+//     at_kind(KIND, LEVEL, ..)                                  the same with leaves of a kind
 //     decode(TAU, K, W, T, CHALLENGE, CHALLENGE)                decode; plan(..) in the same way
 //     probe_decode(..), probe_plan(..)                          these, on a list or a challenge that may have a wrong length
 //
 // ROOTIV has a digit for the root and one for the IV: 0 zeros, 1 the bytes 00 to 0f, 2 mixed bytes, 3 the bytes 10 to 1f, 4 words that wrap at the first sum, 5 words
 // that wrap later, 9 ones.
+use vectors_calls::at_kind;
 use vectors_calls::at_level;
 use vectors_calls::case;
 use vectors_calls::decode;
@@ -438,6 +440,95 @@ fn refused_levels() {
     at_level(128, 0, 0, 0, 0, 8, 13, 0, 0, 0, 0);
 }
 
+// Even-Mansour leaves: FAEST-EM-128s and the fast sets whole.
+fn even_mansour_sets() {
+    at_kind(
+        1,
+        128,
+        11,
+        11,
+        7,
+        103,
+        1360,
+        13,
+        0xac793f519af685d,
+        0x4aef83fd42e044,
+        0,
+        0,
+    );
+    at_kind(
+        1,
+        128,
+        16,
+        7,
+        8,
+        112,
+        1360,
+        24,
+        0x7108e02236971e1b,
+        0x27385421e7a60,
+        0,
+        0,
+    );
+    at_kind(
+        1,
+        192,
+        24,
+        7,
+        8,
+        176,
+        2320,
+        13,
+        0x9c3ecb54c5cefdd8,
+        0xd48dd9f354366c21,
+        0x62dc084bdbf090,
+        0,
+    );
+    at_kind(
+        1,
+        256,
+        32,
+        7,
+        8,
+        234,
+        3472,
+        25,
+        0x1304145212ca3f70,
+        0x356f8bd11711eb57,
+        0xa2f7647a952e1b8b,
+        0x3f8673e361858,
+    );
+}
+
+// Small trees of this kind at each level, its refusals, and kinds that are none.
+fn kinds() {
+    at_kind(1, 128, 2, 2, 124, 4, 16, 13, 0xc, 0, 0, 0);
+    at_kind(1, 128, 1, 1, 127, 1, 65536, 24, 1, 0, 0, 0);
+    at_kind(1, 128, 3, 1, 123, 6, 128, 95, 0x1f, 0, 0, 0);
+    at_kind(1, 192, 32, 2, 127, 70, 136, 24, 0x5e617f8e99edbce7, 0, 0, 0);
+    at_kind(
+        1,
+        256,
+        32,
+        4,
+        127,
+        140,
+        136,
+        13,
+        0x740572419f452c07,
+        0xf589d99a20918fa7,
+        1,
+        0,
+    );
+    at_kind(1, 128, 2, 2, 124, 3, 16, 13, 0xc, 0, 0, 0);
+    at_kind(1, 128, 2, 2, 124, 4, 16, 13, 0x10, 0, 0, 0);
+    at_kind(1, 128, 2, 2, 124, 4, 12, 13, 0, 0, 0, 0);
+    at_kind(1, 128, 0, 0, 0, 0, 8, 13, 0, 0, 0, 0);
+    at_kind(2, 128, 2, 2, 124, 4, 16, 13, 0, 0, 0, 0);
+    at_kind(256, 192, 32, 2, 127, 70, 16, 13, 0, 0, 0, 0);
+    at_kind(0, 128, 2, 2, 124, 4, 16, 13, 0xc, 0, 0, 0);
+}
+
 fn main() {
     worked_examples();
     faest_128s();
@@ -461,4 +552,6 @@ fn main() {
     fast_sets();
     small_trees_at_levels();
     refused_levels();
+    even_mansour_sets();
+    kinds();
 }

@@ -5,7 +5,7 @@ use test_support::lengths::product;
 use test_support::parts::both;
 use test_support::parts::words;
 
-// A shape at level 128.
+// A shape at level 128 with ordinary leaves.
 pub fn at_128(tau: usize, k: usize, w: usize, t: usize) -> Shape {
     Shape {
         tau,
@@ -13,6 +13,7 @@ pub fn at_128(tau: usize, k: usize, w: usize, t: usize) -> Shape {
         w,
         t,
         level: 128,
+        kind: 0,
     }
 }
 

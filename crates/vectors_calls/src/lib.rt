@@ -92,8 +92,9 @@ pub fn stretch(
     );
 }
 
-// A case at any level: the challenge is four words, of which the level takes the first, and those of a root likewise.
-pub fn at_level(
+// A case at any level and of any kind: the challenge is four words, of which the level takes the first, and those of a root likewise.
+pub fn at_kind(
+    kind: usize,
     level: usize,
     tau: usize,
     k: usize,
@@ -113,6 +114,7 @@ pub fn at_level(
             w,
             t,
             level,
+            kind,
         },
         whole(row_bits),
         known,
@@ -121,8 +123,26 @@ pub fn at_level(
     );
 }
 
-// The same of a stretch of the rows.
-pub fn stretch_at_level(
+// The same with ordinary leaves.
+pub fn at_level(
+    level: usize,
+    tau: usize,
+    k: usize,
+    w: usize,
+    t: usize,
+    row_bits: usize,
+    known: usize,
+    c0: u64,
+    c1: u64,
+    c2: u64,
+    c3: u64,
+) {
+    at_kind(0, level, tau, k, w, t, row_bits, known, c0, c1, c2, c3);
+}
+
+// A case at any level and of any kind, of a stretch of the rows.
+pub fn stretch_at_kind(
+    kind: usize,
     level: usize,
     tau: usize,
     k: usize,
@@ -144,11 +164,46 @@ pub fn stretch_at_level(
             w,
             t,
             level,
+            kind,
         },
         part(row_bits, first, width),
         known,
         both(words(c0, c1), words(c2, c3)),
         NONE,
+    );
+}
+
+// The same with ordinary leaves.
+pub fn stretch_at_level(
+    level: usize,
+    tau: usize,
+    k: usize,
+    w: usize,
+    t: usize,
+    row_bits: usize,
+    first: usize,
+    width: usize,
+    known: usize,
+    c0: u64,
+    c1: u64,
+    c2: u64,
+    c3: u64,
+) {
+    stretch_at_kind(
+        0,
+        level,
+        tau,
+        k,
+        w,
+        t,
+        row_bits,
+        first,
+        width,
+        known,
+        c0,
+        c1,
+        c2,
+        c3,
     );
 }
 

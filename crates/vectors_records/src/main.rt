@@ -8,6 +8,7 @@
 //
 //     record_version_1(..), prefixes_version_1(..), flips_version_1(..)  the same of a record of version 1
 //     record_at_level(LEVEL, TAU, K, W, T, ROWBITS, ROOTIV, C0, C1, C2, C3)  the record at a level; the challenge is four words, of which the level takes the first bytes
+//     record_at_kind(KIND, LEVEL, ..)                                the same with leaves of a kind
 //
 // ROOTIV is that of crates/vectors; the challenge is two words, the least byte first.
 use record_cases::flips;
@@ -16,6 +17,7 @@ use record_cases::pairs;
 use record_cases::prefixes;
 use record_cases::prefixes_version_1;
 use record_cases::record;
+use record_cases::record_at_kind;
 use record_cases::record_at_level;
 use record_cases::record_version_1;
 
@@ -150,6 +152,43 @@ fn other_levels() {
     record_at_level(160, 4, 9, 124, 36, 8, 13, 0, 0, 0, 0);
 }
 
+// Even-Mansour leaves: version 3.
+fn even_mansour() {
+    record_at_kind(1, 128, 2, 2, 124, 4, 8, 13, 0xc, 0, 0, 0);
+    record_at_kind(1, 128, 1, 1, 127, 1, 8, 13, 0, 0, 0, 0);
+    record_at_kind(
+        1,
+        128,
+        11,
+        11,
+        7,
+        103,
+        1360,
+        13,
+        0xac793f519af685d,
+        0x4aef83fd42e044,
+        0,
+        0,
+    );
+    record_at_kind(1, 192, 32, 2, 127, 70, 16, 24, 0x5e617f8e99edbce7, 0, 0, 0);
+    record_at_kind(
+        1,
+        256,
+        32,
+        7,
+        8,
+        234,
+        3472,
+        13,
+        0x1304145212ca3f70,
+        0x356f8bd11711eb57,
+        0xa2f7647a952e1b8b,
+        0x3f8673e361858,
+    );
+    record_at_kind(1, 128, 0, 0, 0, 0, 8, 13, 0, 0, 0, 0);
+    record_at_kind(2, 128, 2, 2, 124, 4, 8, 13, 0, 0, 0, 0);
+}
+
 fn main() {
     small_records();
     named_sets();
@@ -158,6 +197,7 @@ fn main() {
     edited_records();
     first_version();
     other_levels();
+    even_mansour();
     prefixes(1, 1, 127, 1, 8, 13, 0, 0);
     prefixes(2, 2, 124, 4, 8, 13, 0, 0);
     flips(1, 1, 127, 1, 8, 13, 0, 0);

@@ -3,10 +3,12 @@
 //
 //     stretch(TAU, K, W, T, ROWBITS, FIRST, WIDTH, ROOTIV, CHALLENGE, CHALLENGE)    the three calls, with the bytes FIRST to FIRST + WIDTH - 1 of every row
 //     stretch_at_level(LEVEL, TAU, K, W, T, ROWBITS, FIRST, WIDTH, ROOTIV, C0, C1, C2, C3)  the same at a level, as at_level of crates/vectors
+//     stretch_at_kind(KIND, LEVEL, ..)                                              the same with leaves of a kind
 //     probe_commit_stretch(..), probe_reconstruct_stretch(..)                       one call, on buffers of which one may have a wrong length
 //
 // ROOTIV and the challenge are as in crates/vectors.
 use vectors_calls::stretch;
+use vectors_calls::stretch_at_kind;
 use vectors_calls::stretch_at_level;
 use vectors_probes::probe_commit_stretch;
 use vectors_probes::probe_reconstruct_stretch;
@@ -316,6 +318,59 @@ fn other_levels() {
     stretch_at_level(160, 4, 9, 124, 36, 512, 63, 2, 24, 0, 0, 0, 0);
 }
 
+// Even-Mansour leaves.
+fn even_mansour() {
+    stretch_at_kind(
+        1,
+        128,
+        16,
+        7,
+        8,
+        112,
+        1360,
+        10,
+        30,
+        13,
+        0x7108e02236971e1b,
+        0x27385421e7a60,
+        0,
+        0,
+    );
+    stretch_at_kind(
+        1,
+        192,
+        32,
+        2,
+        127,
+        70,
+        512,
+        15,
+        20,
+        24,
+        0x5e617f8e99edbce7,
+        0,
+        0,
+        0,
+    );
+    stretch_at_kind(
+        1,
+        256,
+        32,
+        4,
+        127,
+        140,
+        512,
+        63,
+        1,
+        13,
+        0x740572419f452c07,
+        0xf589d99a20918fa7,
+        1,
+        0,
+    );
+    stretch_at_kind(2, 128, 2, 2, 124, 4, 512, 63, 2, 13, 0, 0, 0, 0);
+}
+
 fn main() {
     faest_128f();
     faest_128s();
@@ -329,4 +384,5 @@ fn main() {
     lengths_of_reconstruct();
     order_of_reconstruct();
     other_levels();
+    even_mansour();
 }

@@ -12,6 +12,7 @@ pub extern "C" fn rachnoel_reconstruct(
     w: usize,
     t: usize,
     level: usize,
+    kind: usize,
     row_bits: usize,
     iv: &[u8],
     challenge: &[u8],
@@ -23,7 +24,7 @@ pub extern "C" fn rachnoel_reconstruct(
     q: &mut [u8],
     count: &mut [u8],
 ) -> usize
-    ensures { λ r. ⌜ HostReconstruct faest (record { tau = tau; k = k; w = w; t = t; level = level }) «row_bits» (now (iv .entry)) (now (challenge .entry)) (now (corrections .entry)) (now (opening .entry))
+    ensures { λ r. ⌜ HostReconstruct faest (record { tau = tau; k = k; w = w; t = t; level = level; kind = kind }) «row_bits» (now (iv .entry)) (now (challenge .entry)) (now (corrections .entry)) (now (opening .entry))
         (record { commitment = now (commitment .entry); tree = now (tree .entry); leafCommitments = now («leaf_commitments» .entry); q = now (q .entry) })
         (record { commitment = now (commitment .exit); tree = now (tree .exit); leafCommitments = now («leaf_commitments» .exit); q = now (q .exit) })
         (now (count .entry)) (now (count .exit)) r ⌝ }
@@ -36,6 +37,7 @@ pub extern "C" fn rachnoel_reconstruct(
             w,
             t,
             level,
+            kind,
         },
         row_bits,
         &iv[..n],
@@ -58,6 +60,7 @@ pub extern "C" fn rachnoel_reconstruct_stretch(
     w: usize,
     t: usize,
     level: usize,
+    kind: usize,
     row_bits: usize,
     first: usize,
     width: usize,
@@ -71,7 +74,7 @@ pub extern "C" fn rachnoel_reconstruct_stretch(
     q: &mut [u8],
     count: &mut [u8],
 ) -> usize
-    ensures { λ r. ⌜ HostReconstructStretch faest (record { tau = tau; k = k; w = w; t = t; level = level }) «row_bits» (record { first = first; width = width }) (now (iv .entry)) (now (challenge .entry)) (now (corrections .entry)) (now (opening .entry))
+    ensures { λ r. ⌜ HostReconstructStretch faest (record { tau = tau; k = k; w = w; t = t; level = level; kind = kind }) «row_bits» (record { first = first; width = width }) (now (iv .entry)) (now (challenge .entry)) (now (corrections .entry)) (now (opening .entry))
         (record { commitment = now (commitment .entry); tree = now (tree .entry); leafCommitments = now («leaf_commitments» .entry); q = now (q .entry) })
         (record { commitment = now (commitment .exit); tree = now (tree .exit); leafCommitments = now («leaf_commitments» .exit); q = now (q .exit) })
         (now (count .entry)) (now (count .exit)) r ⌝ }
@@ -84,6 +87,7 @@ pub extern "C" fn rachnoel_reconstruct_stretch(
             w,
             t,
             level,
+            kind,
         },
         row_bits,
         Stretch { first, width },

@@ -14,7 +14,7 @@ ghost use Rattle.spec.specs.Primitives.{faest};
 ghost use Rattle.spec.specs.Leaves.{leafKey, leafCommitment};
 ghost use Rattle.spec.specs.Rows.{stretchByte, columnByte};
 ghost use Rattle.spec.specs.Verifier.{hiddenLeafCommitment};
-ghost use Rattle.leaf.specs.HashKeys.{HashMultiples};
+ghost use Rattle.leaf.specs.HashKeys.{HashKeys, HashMultiples};
 ghost use Rattle.verifier_vector.specs.Vector.{given, Converted};
 use spec::Shape;
 use spec::Stretch;
@@ -76,7 +76,7 @@ pub fn convert(
     hash: &mut [u8],
 )
     requires { ⌜ SboxTable (now t) ⌝ }
-    requires { ⌜ (shapeOk s ≡ true) × (i < s .tau) × (d < entriesOf s i) × (z .first + z .width ≤ 8192) × (now keys ≡ faest .h0 s iv (leafCommitmentBytes s * s .tau)) × (length (now tree) ≡ treeBytes s) ⌝ }
+    requires { ⌜ (shapeOk s ≡ true) × (i < s .tau) × (d < entriesOf s i) × (z .first + z .width ≤ 8192) × HashKeys s iv (now keys) × (length (now tree) ≡ treeBytes s) ⌝ }
     requires { ⌜ (length (now hidden) ≡ leafCommitmentBytes s) × (length (now lcs) ≡ leafCommitmentBytes s * entriesOf s i) × (length (now cols) ≡ z .width * depthOf s i) × (length (now hash) ≡ hashBytes s) ⌝ }
     ensures { λ _. ⌜ ((ch opening : List ℕ) → d ≡ hiddenIndex s ch i → now (hidden .entry) ≡ hiddenLeafCommitment s opening i
         → Converted s z iv ch opening (now (tree .entry)) i (now (lcs .exit)) (now (cols .exit)) (now (hash .exit))) ⌝ }

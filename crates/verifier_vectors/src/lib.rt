@@ -9,6 +9,7 @@ ghost use Rattle.spec.specs.Bytes.{concat};
 ghost use Rattle.spec.specs.Gf256.{SboxTable};
 ghost use Rattle.spec.specs.Shapes.{challengeBytes, leafCommitmentBytes, hashBytes, shapeOk, depthOf, entriesOf, hiddenIndex, treeBytes, leafCommitmentsBytes, openingBytes, matrixBytes, correctionsBytes};
 ghost use Rattle.spec.specs.Primitives.{faest};
+ghost use Rattle.leaf.specs.HashKeys.{HashKeys};
 ghost use Rattle.spec.specs.Leaves.{leafCommitments, vectorHash};
 ghost use Rattle.spec.specs.Rows.{stretchByte, matrixOf};
 ghost use Rattle.spec.specs.Verifier.{hiddenLeafCommitment, verifierLeafCommitment, correctionByte, verifierColumn};
@@ -45,7 +46,7 @@ fn corrected_vector(
     hash: &mut [u8],
 )
     requires { ⌜ SboxTable (now t) ⌝ }
-    requires { ⌜ (shapeOk s ≡ true) × (i < s .tau) × (z .first + z .width ≤ 8192) × (now keys ≡ faest .h0 s iv (leafCommitmentBytes s * s .tau)) × (length (now ch) ≡ challengeBytes s) × (length (now tree) ≡ treeBytes s) × (length (now corrections) ≡ correctionsBytes s (z .width)) ⌝ }
+    requires { ⌜ (shapeOk s ≡ true) × (i < s .tau) × (z .first + z .width ≤ 8192) × HashKeys s iv (now keys) × (length (now ch) ≡ challengeBytes s) × (length (now tree) ≡ treeBytes s) × (length (now corrections) ≡ correctionsBytes s (z .width)) ⌝ }
     requires { ⌜ (length (now hidden) ≡ leafCommitmentBytes s) × (length (now lcs) ≡ leafCommitmentBytes s * entriesOf s i) × (length (now cols) ≡ z .width * depthOf s i) × (length (now hash) ≡ hashBytes s) ⌝ }
     ensures { λ _. ⌜ ((opening : List ℕ) → now (hidden .entry) ≡ hiddenLeafCommitment s opening i
         → Reconstructed s z iv (now (ch .entry)) (now (corrections .entry)) opening (now (tree .entry)) i (now (lcs .exit)) (now (cols .exit)) (now (hash .exit))) ⌝ }
@@ -73,7 +74,7 @@ fn next_vector(
     hashes: &mut [u8],
 )
     requires { ⌜ SboxTable (now t) ⌝ }
-    requires { ⌜ (shapeOk s ≡ true) × (i < s .tau) × (z .first + z .width ≤ 8192) × (now keys ≡ faest .h0 s iv (leafCommitmentBytes s * s .tau)) × (length (now ch) ≡ challengeBytes s) × (length (now tree) ≡ treeBytes s) × (length (now corrections) ≡ correctionsBytes s (z .width)) × (length (now opening) ≡ openingBytes s) ⌝ }
+    requires { ⌜ (shapeOk s ≡ true) × (i < s .tau) × (z .first + z .width ≤ 8192) × HashKeys s iv (now keys) × (length (now ch) ≡ challengeBytes s) × (length (now tree) ≡ treeBytes s) × (length (now corrections) ≡ correctionsBytes s (z .width)) × (length (now opening) ≡ openingBytes s) ⌝ }
     requires { ⌜ (length (now lcs) ≡ leafCommitmentsBytes s) × (length (now q) ≡ matrixBytes s (z .width)) × (length (now hashes) ≡ hashBytes s * s .tau) ⌝ }
     ensures { λ _. ⌜ (Before s z iv (now (ch .entry)) (now (corrections .entry)) (now (opening .entry)) (now (tree .entry)) i (now (lcs .entry)) (now (q .entry)) (now (hashes .entry))
         → Before s z iv (now (ch .entry)) (now (corrections .entry)) (now (opening .entry)) (now (tree .entry)) (i + 1) (now (lcs .exit)) (now (q .exit)) (now (hashes .exit))) ⌝ }
@@ -118,7 +119,7 @@ fn each_vector(
     hashes: &mut [u8],
 )
     requires { ⌜ SboxTable (now t) ⌝ }
-    requires { ⌜ (shapeOk s ≡ true) × (z .first + z .width ≤ 8192) × (now keys ≡ faest .h0 s iv (leafCommitmentBytes s * s .tau)) × (length (now ch) ≡ challengeBytes s) × (length (now tree) ≡ treeBytes s) × (length (now corrections) ≡ correctionsBytes s (z .width)) × (length (now opening) ≡ openingBytes s) ⌝ }
+    requires { ⌜ (shapeOk s ≡ true) × (z .first + z .width ≤ 8192) × HashKeys s iv (now keys) × (length (now ch) ≡ challengeBytes s) × (length (now tree) ≡ treeBytes s) × (length (now corrections) ≡ correctionsBytes s (z .width)) × (length (now opening) ≡ openingBytes s) ⌝ }
     requires { ⌜ (length (now lcs) ≡ leafCommitmentsBytes s) × (length (now q) ≡ matrixBytes s (z .width)) × (length (now hashes) ≡ hashBytes s * s .tau) ⌝ }
     ensures { λ _. ⌜ Before s z iv (now (ch .entry)) (now (corrections .entry)) (now (opening .entry)) (now (tree .entry)) (s .tau) (now (lcs .exit)) (now (q .exit)) (now (hashes .exit)) ⌝ }
 {
@@ -158,7 +159,7 @@ pub fn write_vectors(
     hashes: &mut [u8],
 )
     requires { ⌜ SboxTable (now t) ⌝ }
-    requires { ⌜ (shapeOk s ≡ true) × (z .first + z .width ≤ 8192) × (now keys ≡ faest .h0 s iv (leafCommitmentBytes s * s .tau)) × (length (now ch) ≡ challengeBytes s) × (length (now tree) ≡ treeBytes s) × (length (now corrections) ≡ correctionsBytes s (z .width)) × (length (now opening) ≡ openingBytes s) ⌝ }
+    requires { ⌜ (shapeOk s ≡ true) × (z .first + z .width ≤ 8192) × HashKeys s iv (now keys) × (length (now ch) ≡ challengeBytes s) × (length (now tree) ≡ treeBytes s) × (length (now corrections) ≡ correctionsBytes s (z .width)) × (length (now opening) ≡ openingBytes s) ⌝ }
     requires { ⌜ (length (now lcs) ≡ leafCommitmentsBytes s) × (length (now q) ≡ matrixBytes s (z .width)) × (length (now hashes) ≡ hashBytes s * s .tau) ⌝ }
     ensures { λ _. ⌜ now (lcs .exit) ≡ leafCommitments s (verifierLeafCommitment faest s iv (now (ch .entry)) (now (opening .entry)) (now (tree .entry))) ⌝ }
     ensures { λ _. ⌜ now (q .exit) ≡ matrixOf s (z .width) (verifierColumn s (z .width) (stretchByte faest s z iv (now (tree .entry))) (now (ch .entry)) (now (corrections .entry))) ⌝ }

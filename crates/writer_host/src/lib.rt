@@ -11,10 +11,11 @@ pub extern "C" fn rachnoel_record_length(
     w: usize,
     t: usize,
     level: usize,
+    kind: usize,
     row_bits: usize,
     length: &mut [u8],
 ) -> usize
-    ensures { λ r. ⌜ HostRecordLength (record { tau = tau; k = k; w = w; t = t; level = level }) «row_bits» (now (length .entry)) (now (length .exit)) r ⌝ }
+    ensures { λ r. ⌜ HostRecordLength (record { tau = tau; k = k; w = w; t = t; level = level; kind = kind }) «row_bits» (now (length .entry)) (now (length .exit)) r ⌝ }
 {
     let n = record_writer::record_length(
         Shape {
@@ -23,6 +24,7 @@ pub extern "C" fn rachnoel_record_length(
             w,
             t,
             level,
+            kind,
         },
         row_bits,
     );
@@ -45,6 +47,7 @@ pub extern "C" fn rachnoel_write_record(
     w: usize,
     t: usize,
     level: usize,
+    kind: usize,
     row_bits: usize,
     iv: &[u8],
     challenge: &[u8],
@@ -54,7 +57,7 @@ pub extern "C" fn rachnoel_write_record(
     record: &mut [u8],
 ) -> usize
     ensures { λ r. ⌜ HostWriteRecord
-        (record { shape = record { tau = tau; k = k; w = w; t = t; level = level }; row = «row_bits»; iv = now (iv .entry); challenge = now (challenge .entry); corrections = now (corrections .entry); opening = now (opening .entry); commitment = now (commitment .entry) })
+        (record { shape = record { tau = tau; k = k; w = w; t = t; level = level; kind = kind }; row = «row_bits»; iv = now (iv .entry); challenge = now (challenge .entry); corrections = now (corrections .entry); opening = now (opening .entry); commitment = now (commitment .entry) })
         (now («record» .entry)) (now («record» .exit)) r ⌝ }
 {
     let a = record_writer::write_record(
@@ -64,6 +67,7 @@ pub extern "C" fn rachnoel_write_record(
             w,
             t,
             level,
+            kind,
         },
         row_bits,
         iv,

@@ -99,6 +99,12 @@ fn main() {
         ("FAEST-192f", rachnoel::FAEST_192F, 3088),
         ("FAEST-256s", rachnoel::FAEST_256S, 3888),
         ("FAEST-256f", rachnoel::FAEST_256F, 3888),
+        ("FAEST-EM-128s", rachnoel::FAEST_EM_128S, 1360),
+        ("FAEST-EM-128f", rachnoel::FAEST_EM_128F, 1360),
+        ("FAEST-EM-192s", rachnoel::FAEST_EM_192S, 2320),
+        ("FAEST-EM-192f", rachnoel::FAEST_EM_192F, 2320),
+        ("FAEST-EM-256s", rachnoel::FAEST_EM_256S, 3472),
+        ("FAEST-EM-256f", rachnoel::FAEST_EM_256F, 3472),
     ];
     let mut right = true;
     for (name, shape, row_bits) in sets {

@@ -4,7 +4,7 @@
 //! A call returns 0, or the number of the first refusal that applies. With 0 the outputs and the count are written, and so they are with 11; with 5 and 6 the count
 //! alone; with any other number nothing.
 
-/// tau, k, w, t and level are no shape.
+/// tau, k, w, t, level and kind are no shape.
 pub const SHAPE: usize = 1;
 /// The row length is no multiple of 8 from 8 to 65,536.
 pub const ROW: usize = 2;
@@ -39,7 +39,8 @@ pub const RECORD_MOST: usize = 273_555;
 /// Bytes of stack for any call at any shape.
 pub const STACK: usize = 16 * 1024;
 
-/// A shape: tau vectors, the first level - w - tau k of depth k + 1 and the others of depth k, w grinding bits, at most t nodes, and the security level in bits.
+/// A shape: tau vectors, the first level - w - tau k of depth k + 1 and the others of depth k, w grinding bits, at most t nodes, the security level in bits, and the leaf kind, 0 ordinary
+/// or 1 Even-Mansour.
 #[derive(Clone, Copy, Debug, PartialEq, Eq)]
 pub struct Shape {
     pub tau: usize,
@@ -47,9 +48,10 @@ pub struct Shape {
     pub w: usize,
     pub t: usize,
     pub level: usize,
+    pub kind: usize,
 }
 
-/// Four zeros at level 128 stand for FAEST-128f.
+/// Four zeros at level 128 with ordinary leaves stand for FAEST-128f.
 pub const DEFAULT: Shape = Shape::new(0, 0, 0, 0, 128);
 pub const FAEST_128S: Shape = Shape::new(11, 11, 7, 102, 128);
 pub const FAEST_128F: Shape = Shape::new(16, 7, 8, 110, 128);
@@ -57,6 +59,12 @@ pub const FAEST_192S: Shape = Shape::new(16, 11, 12, 162, 192);
 pub const FAEST_192F: Shape = Shape::new(24, 7, 8, 163, 192);
 pub const FAEST_256S: Shape = Shape::new(22, 11, 6, 245, 256);
 pub const FAEST_256F: Shape = Shape::new(32, 7, 8, 246, 256);
+pub const FAEST_EM_128S: Shape = Shape::new(11, 11, 7, 103, 128).even_mansour();
+pub const FAEST_EM_128F: Shape = Shape::new(16, 7, 8, 112, 128).even_mansour();
+pub const FAEST_EM_192S: Shape = Shape::new(16, 11, 8, 162, 192).even_mansour();
+pub const FAEST_EM_192F: Shape = Shape::new(24, 7, 8, 176, 192).even_mansour();
+pub const FAEST_EM_256S: Shape = Shape::new(22, 11, 6, 218, 256).even_mansour();
+pub const FAEST_EM_256F: Shape = Shape::new(32, 7, 8, 234, 256).even_mansour();
 
 /// The lengths of a shape's slices, in bytes.
 #[derive(Clone, Copy, Debug, PartialEq, Eq)]
@@ -76,14 +84,20 @@ pub struct Lengths {
 }
 
 impl Shape {
+    /// With ordinary leaves.
     pub const fn new(tau: usize, k: usize, w: usize, t: usize, level: usize) -> Shape {
-        Shape { tau, k, w, t, level }
+        Shape { tau, k, w, t, level, kind: 0 }
+    }
+
+    /// The same with Even-Mansour leaves.
+    pub const fn even_mansour(self) -> Shape {
+        Shape { kind: 1, ..self }
     }
 
     /// The lengths with rows of so many bytes: row_bits / 8, or the width of a stretch. None where this is no shape.
     pub fn lengths(self, row_bytes: usize) -> Option<Lengths> {
-        let Shape { tau, k, w, t, level } = if self == DEFAULT { FAEST_128F } else { self };
-        if !(1..=32).contains(&tau) || !(1..=12).contains(&k) || w > 127 || !(1..=512).contains(&t) || ![128, 192, 256].contains(&level) {
+        let Shape { tau, k, w, t, level, kind } = if self == DEFAULT { FAEST_128F } else { self };
+        if !(1..=32).contains(&tau) || !(1..=12).contains(&k) || w > 127 || !(1..=512).contains(&t) || ![128, 192, 256].contains(&level) || kind > 1 {
             return None;
         }
         let deeper = level.checked_sub(w + tau * k)?;
@@ -91,17 +105,18 @@ impl Shape {
             return None;
         }
         let (leaves, node) = ((tau + deeper) << k, level / 8);
+        let leaf = (3 - kind) * node;
         Some(Lengths {
             node,
             commitment: 2 * node,
             indices: 4 * tau,
             nodes: 4 * t,
             tree: node * (2 * leaves - 1),
-            leaf_commitments: 3 * node * leaves,
+            leaf_commitments: leaf * leaves,
             u: row_bytes,
             matrix: level * row_bytes,
             corrections: (tau - 1) * row_bytes,
-            opening: 3 * node * tau + node * t,
+            opening: leaf * tau + node * t,
         })
     }
 }
@@ -125,6 +140,7 @@ macro_rules! call {
                     w: usize,
                     t: usize,
                     level: usize,
+                    kind: usize,
                     $($number: usize,)*
                     $($read: *const u8, $read_len: usize,)*
                     $($write: *mut u8, $write_len: usize,)*
@@ -138,6 +154,7 @@ macro_rules! call {
                     shape.w,
                     shape.t,
                     shape.level,
+                    shape.kind,
                     $($number,)*
                     $($read.as_ptr(), $read.len(),)*
                     $($write.as_mut_ptr(), $write.len(),)*

@@ -3,7 +3,7 @@
 use rachnoel::{number, Shape};
 use reference::record::{self, Record};
 
-const SHAPES: [(Shape, usize); 14] = [
+const SHAPES: [(Shape, usize); 18] = [
     (Shape::new(1, 1, 127, 1, 128), 8),
     (Shape::new(2, 2, 124, 4, 128), 8),
     (Shape::new(2, 1, 125, 300, 128), 16),
@@ -18,10 +18,14 @@ const SHAPES: [(Shape, usize); 14] = [
     (rachnoel::FAEST_256F, 3_888),
     (rachnoel::FAEST_192S, 3_088),
     (rachnoel::FAEST_256S, 8),
+    (Shape::new(2, 2, 124, 4, 128).even_mansour(), 8),
+    (rachnoel::FAEST_EM_128S, 1_360),
+    (rachnoel::FAEST_EM_192F, 2_320),
+    (rachnoel::FAEST_EM_256F, 3_472),
 ];
 
 fn reference_shape(s: Shape) -> reference::shape::Shape {
-    reference::shape::Shape::at_level(s.tau, s.k, s.w, s.t, s.level)
+    reference::shape::Shape::of_kind(s.tau, s.k, s.w, s.t, s.level, s.kind)
 }
 
 #[test]

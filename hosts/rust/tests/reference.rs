@@ -45,6 +45,7 @@ impl Dice {
         if self.one_in(5) {
             return self.wide_shape();
         }
+        let kind = usize::from(self.one_in(3));
         let k = 1 + self.below(6);
         let tau = 1 + self.below((128 / k).min(32));
         let left = 128 - tau * k;
@@ -53,11 +54,13 @@ impl Dice {
         let t = if self.one_in(4) { 1 + self.below(tau * k) } else { tau * k + 1 + self.below(8) };
         match self.below(60) {
             0 => Shape::new(tau, k, w + 1, t, 128),
+            5 => Shape { kind: 2 + self.below(300), ..Shape::new(tau, k, w, t, 128) },
+            6 => Shape { kind: 1, ..rachnoel::DEFAULT },
             1 => Shape::new(tau, k, w, 512 * self.below(3), 128),
             2 => rachnoel::DEFAULT,
             3 => Shape::new(tau, k, w, t, 64 * self.below(8)),
             4 => Shape { level: 64 * self.below(5), ..rachnoel::DEFAULT },
-            _ => Shape::new(tau, k, w, t, 128),
+            _ => Shape { kind, ..Shape::new(tau, k, w, t, 128) },
         }
     }
 
@@ -68,7 +71,8 @@ impl Dice {
         let tau = 27 + self.below(6);
         let k = bits / tau;
         let t = if self.one_in(4) { 1 + self.below(tau * k) } else { tau * k + 1 + self.below(8) };
-        Shape::new(tau, k, level - bits, t, level)
+        let kind = usize::from(self.one_in(3));
+        Shape { kind, ..Shape::new(tau, k, level - bits, t, level) }
     }
 
     /// A challenge whose grinding bits are mostly clear.
@@ -111,7 +115,7 @@ impl Dice {
 // ---- what is compared
 
 fn theirs(s: Shape) -> reference::shape::Shape {
-    reference::shape::Shape::at_level(s.tau, s.k, s.w, s.t, s.level)
+    reference::shape::Shape::of_kind(s.tau, s.k, s.w, s.t, s.level, s.kind)
 }
 
 /// The bytes of a root and of a challenge; of what is no shape any number will do.
@@ -160,8 +164,8 @@ fn lengths() {
     for tau in 0..35 {
         for k in 0..15 {
             for w in 0..131 {
-                for (t, level) in [0, 1, 110, 512, 513].into_iter().flat_map(|t| [128, 192, 256, 0, 160].map(|level| (t, level))) {
-                    let shape = Shape::new(tau, k, w, t, level);
+                for (t, (level, kind)) in [0, 1, 110, 512, 513].into_iter().flat_map(|t| [(128, 0), (192, 0), (256, 0), (0, 0), (160, 0), (128, 1), (256, 1), (128, 2)].map(|of| (t, of))) {
+                    let shape = Shape { kind, ..Shape::new(tau, k, w, t, level) };
                     let ours = shape.lengths(7);
                     let theirs = theirs(shape).resolve();
                     assert_eq!(ours.is_some(), theirs.is_some(), "{shape:?}");
@@ -349,7 +353,7 @@ fn stretches() {
     seen[1].all(&[0, 1, 2, 3, 4, 5, 6, 8], 10);
 }
 
-/// The sets of document 000 with kind 0, at their row lengths.
+/// The sets of document 000, at their row lengths.
 #[test]
 fn named_sets() {
     let mut dice = Dice(5);
@@ -360,6 +364,12 @@ fn named_sets() {
         (rachnoel::FAEST_192F, 3088),
         (rachnoel::FAEST_256S, 3888),
         (rachnoel::FAEST_256F, 3888),
+        (rachnoel::FAEST_EM_128S, 1360),
+        (rachnoel::FAEST_EM_128F, 1360),
+        (rachnoel::FAEST_EM_192S, 2320),
+        (rachnoel::FAEST_EM_192F, 2320),
+        (rachnoel::FAEST_EM_256S, 3472),
+        (rachnoel::FAEST_EM_256F, 3472),
     ];
     for (shape, bits) in sets {
         let m = shape.lengths(bits / 8).unwrap();

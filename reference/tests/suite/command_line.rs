@@ -41,11 +41,11 @@ fn list_and_plan() {
     assert!(program("list_challenges", last).1.ends_with("\n8 52\n"));
     assert_eq!(program("list_challenges", ""), (0, "refused 7\n".into()));
     assert_eq!(
-        program(&format!("plan 2 2 124 4 128 {CHALLENGE_0C}"), ""),
+        program(&format!("plan 2 2 124 4 128 0 {CHALLENGE_0C}"), ""),
         (0, "number 0\ncount 4\nnodes 4 13 8 5 4\n".into())
     );
     assert_eq!(
-        program(&format!("decode 2 2 124 4 128 {CHALLENGE_0C}"), ""),
+        program(&format!("decode 2 2 124 4 128 0 {CHALLENGE_0C}"), ""),
         (0, "number 0\ncount 0\nindices 2 0 3\n".into())
     );
 }
@@ -53,7 +53,7 @@ fn list_and_plan() {
 #[test]
 fn roundtrip() {
     let expected = "number 0\ncount 4\ncommitments agree\ncolumns 128 of 128\n";
-    let args = format!("roundtrip 2 2 124 4 128 200 {ROOT} {ROOT} {CHALLENGE_0C}");
+    let args = format!("roundtrip 2 2 124 4 128 0 200 {ROOT} {ROOT} {CHALLENGE_0C}");
     assert_eq!(program(&args, ""), (0, expected.into()));
 }
 
@@ -62,8 +62,8 @@ fn stretches() {
     // The whole row is the stretch 0, b.
     let tail = format!("{ROOT} {ROOT} {CHALLENGE_0C}");
     for command in ["open", "reconstruct", "roundtrip"] {
-        let whole = program(&format!("{command} 2 2 124 4 128 200 {tail}"), "");
-        let stretch = format!("{command}_stretch 2 2 124 4 128 200 0 25 {tail}");
+        let whole = program(&format!("{command} 2 2 124 4 128 0 200 {tail}"), "");
+        let stretch = format!("{command}_stretch 2 2 124 4 128 0 200 0 25 {tail}");
         assert_eq!(program(&stretch, ""), whole, "{command}");
         assert_eq!(whole.0, 0);
     }
@@ -74,9 +74,9 @@ fn stretches() {
         let words = |line: &str| line.split(' ').map(String::from).collect();
         text.lines().map(words).collect::<Vec<Vec<String>>>()
     };
-    let whole = lines(format!("commit 2 2 124 4 128 200 {ROOT} {ROOT}"));
+    let whole = lines(format!("commit 2 2 124 4 128 0 200 {ROOT} {ROOT}"));
     let part = lines(format!(
-        "commit_stretch 2 2 124 4 128 200 13 5 {ROOT} {ROOT}"
+        "commit_stretch 2 2 124 4 128 0 200 13 5 {ROOT} {ROOT}"
     ));
     assert_eq!(part[..5], whole[..5]);
     for line in [5, 7] {
@@ -88,11 +88,11 @@ fn stretches() {
     // A refused stretch, with each of the numbers in its turn.
     let refused = |number: u32| (0, format!("number {number}\ncount 0\n"));
     for (shape, bits, challenge, number) in [
-        ("2 2 124 4 128", 200, CHALLENGE_0C, 8),
-        ("2 2 124 4 128", 200, CHALLENGE_10, 8),
-        ("2 2 124 4 128", 200, &ROOT[2..], 8),
-        ("2 2 124 4 128", 201, CHALLENGE_0C, 2),
-        ("2 2 122 4 128", 200, CHALLENGE_0C, 1),
+        ("2 2 124 4 128 0", 200, CHALLENGE_0C, 8),
+        ("2 2 124 4 128 0", 200, CHALLENGE_10, 8),
+        ("2 2 124 4 128 0", 200, &ROOT[2..], 8),
+        ("2 2 124 4 128 0", 201, CHALLENGE_0C, 2),
+        ("2 2 122 4 128 0", 200, CHALLENGE_0C, 1),
     ] {
         let huge = usize::MAX;
         for stretch in ["0 0", "1 25", &format!("{huge} 1"), &format!("1 {huge}")] {
@@ -111,28 +111,28 @@ fn refusals() {
     let short = &ROOT[2..];
     for (rest, answer) in [
         (
-            format!("2 2 122 4 128 200 {ROOT} {ROOT} {CHALLENGE_0C}"),
+            format!("2 2 122 4 128 0 200 {ROOT} {ROOT} {CHALLENGE_0C}"),
             (1, 0),
         ),
         (
-            format!("2 2 124 4 128 201 {ROOT} {ROOT} {CHALLENGE_0C}"),
+            format!("2 2 124 4 128 0 201 {ROOT} {ROOT} {CHALLENGE_0C}"),
             (2, 0),
         ),
         (
-            format!("2 2 124 4 128 200 {ROOT} {short} {CHALLENGE_0C}"),
+            format!("2 2 124 4 128 0 200 {ROOT} {short} {CHALLENGE_0C}"),
             (3, 0),
         ),
         (
-            format!("2 2 124 4 128 200 {short} {ROOT} {CHALLENGE_0C}"),
+            format!("2 2 124 4 128 0 200 {short} {ROOT} {CHALLENGE_0C}"),
             (3, 0),
         ),
-        (format!("2 2 124 4 128 200 {ROOT} {ROOT} {short}"), (3, 0)),
+        (format!("2 2 124 4 128 0 200 {ROOT} {ROOT} {short}"), (3, 0)),
         (
-            format!("2 2 124 4 128 200 {ROOT} {ROOT} {CHALLENGE_10}"),
+            format!("2 2 124 4 128 0 200 {ROOT} {ROOT} {CHALLENGE_10}"),
             (4, 0),
         ),
         (
-            format!("2 2 124 3 128 200 {ROOT} {ROOT} {CHALLENGE_0C}"),
+            format!("2 2 124 3 128 0 200 {ROOT} {ROOT} {CHALLENGE_0C}"),
             (5, 4),
         ),
     ] {
@@ -141,17 +141,17 @@ fn refusals() {
             assert_eq!(output, refused(answer.0, answer.1), "{command} {rest}");
         }
     }
-    let huge = format!("commit 2 2 124 4 128 {} {ROOT} {ROOT}", usize::MAX);
+    let huge = format!("commit 2 2 124 4 128 0 {} {ROOT} {ROOT}", usize::MAX);
     assert_eq!(program(&huge, ""), refused(2, 0));
-    let huge = format!("commit {0} 2 130 4 128 {0} {ROOT} {ROOT}", usize::MAX);
+    let huge = format!("commit {0} 2 130 4 128 0 {0} {ROOT} {ROOT}", usize::MAX);
     assert_eq!(program(&huge, ""), refused(1, 0));
-    let plan = format!("plan 2 2 124 3 128 {CHALLENGE_0C}");
+    let plan = format!("plan 2 2 124 3 128 0 {CHALLENGE_0C}");
     assert_eq!(program(&plan, ""), refused(5, 4));
 }
 
 #[test]
 fn a_flipped_byte_of_the_opening() {
-    let args = format!("reconstruct 2 2 124 4 128 200 {ROOT} {ROOT} {CHALLENGE_ZERO}");
+    let args = format!("reconstruct 2 2 124 4 128 0 200 {ROOT} {ROOT} {CHALLENGE_ZERO}");
     let (_, straight) = program(&args, "");
     // Two nodes are revealed: bytes 96 to 127 are used, the slots behind them are not.
     for at in [0, 95, 96, 127] {
@@ -169,59 +169,59 @@ fn a_flipped_byte_of_the_opening() {
 #[test]
 fn probes() {
     for (args, number, count, outputs) in [
-        ("commit 2 2 124 4 128 16 8 0", 0, 0, "written"),
-        ("commit 2 2 124 4 128 16 7 1", 3, 0, "kept"),
-        ("commit 2 2 122 4 128 12 7 1", 1, 0, "kept"),
-        ("open 2 2 124 4 128 12 4 0", 0, 4, "written"),
-        ("open 2 2 124 4 128 12 3 0", 3, 0, "kept"),
-        ("open 2 2 124 3 128 12 4 0", 5, 4, "kept"),
-        ("reconstruct 2 2 124 4 128 16 0 8 0 160", 0, 2, "written"),
-        ("reconstruct 2 2 124 4 128 16 0 8 0 128", 6, 2, "kept"),
-        ("reconstruct 2 2 124 4 128 16 16 8 0 128", 4, 0, "kept"),
-        ("reconstruct 2 2 124 4 128 16 16 7 0 128", 3, 0, "kept"),
-        ("commit_stretch 2 2 124 4 128 24 1 2 8 0", 0, 0, "written"),
-        ("commit_stretch 2 2 124 4 128 24 1 2 5 1", 3, 0, "kept"),
-        ("commit_stretch 2 2 124 4 128 24 2 2 5 1", 8, 0, "kept"),
-        ("commit_stretch 2 2 124 4 128 12 2 2 5 1", 2, 0, "kept"),
+        ("commit 2 2 124 4 128 0 16 8 0", 0, 0, "written"),
+        ("commit 2 2 124 4 128 0 16 7 1", 3, 0, "kept"),
+        ("commit 2 2 122 4 128 0 12 7 1", 1, 0, "kept"),
+        ("open 2 2 124 4 128 0 12 4 0", 0, 4, "written"),
+        ("open 2 2 124 4 128 0 12 3 0", 3, 0, "kept"),
+        ("open 2 2 124 3 128 0 12 4 0", 5, 4, "kept"),
+        ("reconstruct 2 2 124 4 128 0 16 0 8 0 160", 0, 2, "written"),
+        ("reconstruct 2 2 124 4 128 0 16 0 8 0 128", 6, 2, "kept"),
+        ("reconstruct 2 2 124 4 128 0 16 16 8 0 128", 4, 0, "kept"),
+        ("reconstruct 2 2 124 4 128 0 16 16 7 0 128", 3, 0, "kept"),
+        ("commit_stretch 2 2 124 4 128 0 24 1 2 8 0", 0, 0, "written"),
+        ("commit_stretch 2 2 124 4 128 0 24 1 2 5 1", 3, 0, "kept"),
+        ("commit_stretch 2 2 124 4 128 0 24 2 2 5 1", 8, 0, "kept"),
+        ("commit_stretch 2 2 124 4 128 0 12 2 2 5 1", 2, 0, "kept"),
         (
-            "reconstruct_stretch 2 2 124 4 128 24 1 2 0 8 0 160",
+            "reconstruct_stretch 2 2 124 4 128 0 24 1 2 0 8 0 160",
             0,
             2,
             "written",
         ),
         (
-            "reconstruct_stretch 2 2 124 4 128 24 1 2 0 8 0 128",
+            "reconstruct_stretch 2 2 124 4 128 0 24 1 2 0 8 0 128",
             6,
             2,
             "kept",
         ),
         (
-            "reconstruct_stretch 2 2 124 4 128 24 1 2 16 2 1 128",
+            "reconstruct_stretch 2 2 124 4 128 0 24 1 2 16 2 1 128",
             3,
             0,
             "kept",
         ),
         (
-            "reconstruct_stretch 2 2 124 4 128 24 3 0 16 2 1 128",
+            "reconstruct_stretch 2 2 124 4 128 0 24 3 0 16 2 1 128",
             8,
             0,
             "kept",
         ),
         (
-            "reconstruct_stretch 2 2 122 4 128 24 3 0 16 2 1 128",
+            "reconstruct_stretch 2 2 122 4 128 0 24 3 0 16 2 1 128",
             1,
             0,
             "kept",
         ),
-        ("decode 2 2 124 3 128 12 2 0", 0, 0, "written"),
-        ("decode 2 2 124 4 128 16 2 0", 4, 0, "kept"),
-        ("decode 2 2 124 4 128 16 1 0", 3, 0, "kept"),
-        ("decode 2 2 124 4 128 16 0 1", 3, 0, "kept"),
-        ("decode 2 2 122 4 128 16 1 0", 1, 0, "kept"),
-        ("plan 2 2 124 4 128 12 2 0", 0, 4, "written"),
-        ("plan 2 2 124 3 128 12 2 0", 5, 4, "kept"),
-        ("plan 2 2 124 3 128 28 2 0", 4, 0, "kept"),
-        ("plan 2 2 124 3 128 28 1 1", 3, 0, "kept"),
+        ("decode 2 2 124 3 128 0 12 2 0", 0, 0, "written"),
+        ("decode 2 2 124 4 128 0 16 2 0", 4, 0, "kept"),
+        ("decode 2 2 124 4 128 0 16 1 0", 3, 0, "kept"),
+        ("decode 2 2 124 4 128 0 16 0 1", 3, 0, "kept"),
+        ("decode 2 2 122 4 128 0 16 1 0", 1, 0, "kept"),
+        ("plan 2 2 124 4 128 0 12 2 0", 0, 4, "written"),
+        ("plan 2 2 124 3 128 0 12 2 0", 5, 4, "kept"),
+        ("plan 2 2 124 3 128 0 28 2 0", 4, 0, "kept"),
+        ("plan 2 2 124 3 128 0 28 1 1", 3, 0, "kept"),
     ] {
         let expected = format!("number {number}\ncount {count}\noutputs {outputs}\n");
         assert_eq!(
@@ -234,8 +234,8 @@ fn probes() {
 
 /// The record commands on the smallest shape: the record has `long` bytes, of which
 /// the last 32 are the commitment.
-fn small_records(version: &str, long: usize) {
-    let args = format!("1 1 127 1 128 8 {ROOT} {ROOT} {CHALLENGE_ZERO}");
+fn small_records(version: &str, kind: usize, long: usize) {
+    let args = format!("1 1 127 1 128 {kind} 8 {ROOT} {ROOT} {CHALLENGE_ZERO}");
     let (status, text) = program(&format!("record{version} {args}"), "");
     let lines: Vec<&str> = text.lines().collect();
     assert_eq!((status, lines.len()), (0, 6));
@@ -264,16 +264,57 @@ fn small_records(version: &str, long: usize) {
 
 #[test]
 fn records() {
-    small_records("", 163);
-    small_records("_version_1", 162);
-    let refused = format!("record 2 2 124 3 128 8 {ROOT} {ROOT} {CHALLENGE_0C}");
+    small_records("", 0, 163);
+    small_records("_version_1", 0, 162);
+    small_records("", 1, 148);
+    let refused = format!("record 2 2 124 3 128 0 8 {ROOT} {ROOT} {CHALLENGE_0C}");
     assert_eq!(program(&refused, ""), (0, "number 5\ncount 4\n".into()));
+}
+
+#[test]
+fn kinds() {
+    let tail = format!("8 {ROOT} {ROOT} {CHALLENGE_0C}");
+    let expected = "number 0\ncount 4\ncommitments agree\ncolumns 128 of 128\n";
+    let round = format!("roundtrip 2 2 124 4 128 1 {tail}");
+    assert_eq!(program(&round, ""), (0, expected.into()));
+    let refused = (0, String::from("number 1\ncount 0\n"));
+    for (shape, kind) in [
+        ("2 2 124 4", "2"),
+        ("2 2 124 4", "18446744073709551615"),
+        ("0 0 0 0", "1"),
+        ("0 0 0 0", "2"),
+    ] {
+        for command in ["open", "reconstruct", "roundtrip", "record", "pairs"] {
+            let args = format!("{command} {shape} 128 {kind} {tail}");
+            assert_eq!(program(&args, ""), refused, "{args}");
+        }
+        let probe = format!("probe_commit {shape} 128 {kind} 8 9 0");
+        let kept = format!("{}outputs kept\n", refused.1);
+        assert_eq!(program(&probe, ""), (0, kept));
+    }
+    // The tree and the plan do not depend on the kind, the other buffers do.
+    let lines = |kind: usize| -> Vec<String> {
+        let args = format!("commit 2 2 124 4 128 {kind} 8 {ROOT} {ROOT}");
+        let (_, text) = program(&args, "");
+        text.lines().map(String::from).collect()
+    };
+    let (ordinary, other) = (lines(0), lines(1));
+    for n in 0..8 {
+        assert_eq!(ordinary[n] == other[n], [0, 1, 3].contains(&n), "line {n}");
+    }
+    assert!(ordinary[4].starts_with("leaf_commitments 384 "));
+    assert!(other[4].starts_with("leaf_commitments 256 "));
 }
 
 #[test]
 fn levels() {
     // 32 vectors at 192 and 256, with roots and challenges of 24 and 32 bytes.
-    for (shape, n) in [("32 2 127 512 192", 24), ("32 4 127 512 256", 32)] {
+    for (shape, n) in [
+        ("32 2 127 512 192 0", 24),
+        ("32 4 127 512 256 0", 32),
+        ("32 2 127 512 192 1", 24),
+        ("32 4 127 512 256 1", 32),
+    ] {
         let node = "5a".repeat(n);
         let challenge = format!("3c{}", "00".repeat(n - 1));
         let tail = format!("{node} {ROOT} {challenge}");
@@ -319,13 +360,14 @@ fn levels() {
         }
     }
     for level in ["0", "127", "160", "384", "18446744073709551615"] {
-        for shape in ["2 2 124 4", "0 0 0 0"] {
+        // The third adds up to 160, the fourth to 384.
+        for shape in ["2 2 124 4", "0 0 0 0", "4 9 124 36", "32 12 0 512"] {
             let refused = (0, "number 1\ncount 0\n".into());
-            let args = format!("{shape} {level} 8 {ROOT} {ROOT} {CHALLENGE_0C}");
+            let args = format!("{shape} {level} 0 8 {ROOT} {ROOT} {CHALLENGE_0C}");
             for command in ["open", "reconstruct", "roundtrip", "record", "pairs"] {
                 assert_eq!(program(&format!("{command} {args}"), ""), refused, "{args}");
             }
-            let probe = format!("probe_open {shape} {level} 0 9 0");
+            let probe = format!("probe_open {shape} {level} 0 0 9 0");
             let kept = (0, "number 1\ncount 0\noutputs kept\n".into());
             assert_eq!(program(&probe, ""), kept, "{probe}");
         }
@@ -335,7 +377,7 @@ fn levels() {
 #[test]
 fn a_record_on_standard_input() {
     assert_eq!(program("check", ""), (0, "number 9\ncount 0\n".into()));
-    for (version, number) in [(0, 9), (1, 10), (2, 10), (3, 9), (255, 9)] {
+    for (version, number) in [(0, 9), (1, 10), (2, 10), (3, 10), (4, 9), (255, 9)] {
         assert_eq!(
             program_on("check", &[version]),
             (0, format!("number {number}\ncount 0\n"))
@@ -372,37 +414,40 @@ fn a_record_on_standard_input() {
 fn arguments_that_cannot_be_read() {
     for args in [
         String::new(),
-        "unknown 1 1 127 1 128 00".into(),
+        "unknown 1 1 127 1 128 0 00".into(),
         "list more".into(),
-        "plan 1 1 127 1 128".into(),
-        format!("plan 1 1 127 x 128 {ROOT}"),
-        format!("plan 1 1 127 1 128 {ROOT} {ROOT}"),
+        "plan 1 1 127 1 128 0".into(),
+        format!("plan 1 1 127 x 128 0 {ROOT}"),
+        format!("plan 1 1 127 1 128 0 {ROOT} {ROOT}"),
         format!("plan 1 1 127 1 {ROOT}"),
-        format!("plan 1 1 127 1 x {ROOT}"),
-        format!("commit_version_1 1 1 127 1 128 8 {ROOT} {ROOT}"),
-        format!("record_version_1_stretch 1 1 127 1 128 8 0 1 {ROOT} {ROOT} {ROOT}"),
-        format!("record_version_2 1 1 127 1 128 8 {ROOT} {ROOT} {ROOT}"),
-        format!("plan 1 1 127 1 128 {}", &ROOT[1..]),
-        "plan 1 1 127 1 128 zz".into(),
-        format!("commit 1 1 127 1 128 8 {ROOT}"),
-        format!("open 1 1 127 1 128 8 {ROOT} {ROOT}"),
-        format!("open 1 1 127 1 128 8 {ROOT} {ROOT} {ROOT} 0"),
-        format!("reconstruct 1 1 127 1 128 8 {ROOT} {ROOT} {ROOT} x"),
-        format!("reconstruct 1 1 127 1 128 8 {ROOT} {ROOT} {ROOT} 0 0"),
-        "probe_commit 1 1 127 1 128 8 0".into(),
-        "probe_open 1 1 127 1 128 256 0 0".into(),
-        "probe_reconstruct 1 1 127 1 128 8 0 0 0".into(),
-        format!("commit_stretch 1 1 127 1 128 8 0 {ROOT} {ROOT}"),
-        format!("commit_stretch 1 1 127 1 128 8 0 x {ROOT} {ROOT}"),
-        format!("commit_stretch 1 1 127 1 128 8 0 18446744073709551616 {ROOT} {ROOT}"),
-        format!("commit 1 1 127 1 128 8 0 1 {ROOT} {ROOT}"),
-        format!("plan_stretch 1 1 127 1 128 8 0 1 {ROOT}"),
+        format!("plan 1 1 127 1 x 0 {ROOT}"),
+        format!("plan 1 1 127 1 128 x {ROOT}"),
+        format!("plan 1 1 127 1 128 {ROOT}"),
+        format!("record_version_1 1 1 127 1 128 1 8 {ROOT} {ROOT} {CHALLENGE_ZERO}"),
+        format!("commit_version_1 1 1 127 1 128 0 8 {ROOT} {ROOT}"),
+        format!("record_version_1_stretch 1 1 127 1 128 0 8 0 1 {ROOT} {ROOT} {ROOT}"),
+        format!("record_version_2 1 1 127 1 128 0 8 {ROOT} {ROOT} {ROOT}"),
+        format!("plan 1 1 127 1 128 0 {}", &ROOT[1..]),
+        "plan 1 1 127 1 128 0 zz".into(),
+        format!("commit 1 1 127 1 128 0 8 {ROOT}"),
+        format!("open 1 1 127 1 128 0 8 {ROOT} {ROOT}"),
+        format!("open 1 1 127 1 128 0 8 {ROOT} {ROOT} {ROOT} 0"),
+        format!("reconstruct 1 1 127 1 128 0 8 {ROOT} {ROOT} {ROOT} x"),
+        format!("reconstruct 1 1 127 1 128 0 8 {ROOT} {ROOT} {ROOT} 0 0"),
+        "probe_commit 1 1 127 1 128 0 8 0".into(),
+        "probe_open 1 1 127 1 128 0 256 0 0".into(),
+        "probe_reconstruct 1 1 127 1 128 0 8 0 0 0".into(),
+        format!("commit_stretch 1 1 127 1 128 0 8 0 {ROOT} {ROOT}"),
+        format!("commit_stretch 1 1 127 1 128 0 8 0 x {ROOT} {ROOT}"),
+        format!("commit_stretch 1 1 127 1 128 0 8 0 18446744073709551616 {ROOT} {ROOT}"),
+        format!("commit 1 1 127 1 128 0 8 0 1 {ROOT} {ROOT}"),
+        format!("plan_stretch 1 1 127 1 128 0 8 0 1 {ROOT}"),
         "list_stretch".into(),
         "list_challenges more".into(),
         "list_challenges_stretch".into(),
-        "probe_open_stretch 1 1 127 1 128 8 0 1 0 0 0".into(),
-        format!("record 1 1 127 1 128 8 {ROOT} {ROOT}"),
-        format!("pairs 1 1 127 1 128 8 {ROOT} {ROOT} {ROOT} 0"),
+        "probe_open_stretch 1 1 127 1 128 0 8 0 1 0 0 0".into(),
+        format!("record 1 1 127 1 128 0 8 {ROOT} {ROOT}"),
+        format!("pairs 1 1 127 1 128 0 8 {ROOT} {ROOT} {ROOT} 0"),
         "check more".into(),
     ] {
         assert_eq!(program(&args, ""), (2, String::new()), "{args}");

@@ -3,7 +3,8 @@
 use reference::bavc::{node_count, pos_in_tree};
 use reference::calls::{decode, plan, Answer};
 use reference::shape::{
-    Shape, DEFAULT, FAEST_128S, FAEST_192F, FAEST_192S, FAEST_256F, FAEST_256S,
+    Shape, DEFAULT, FAEST_128S, FAEST_192F, FAEST_192S, FAEST_256F, FAEST_256S, FAEST_EM_128F,
+    FAEST_EM_128S, FAEST_EM_192F, FAEST_EM_192S, FAEST_EM_256F, FAEST_EM_256S,
 };
 
 use crate::support::{allowed, first_byte, indices, noise, revealed};
@@ -77,19 +78,27 @@ fn indices_are_bits_least_first() {
 
 /// Table 3.2 and 5.1 of document 000: τ_1, L and the bytes of an opening.
 #[test]
-fn the_sets_of_192_and_256() {
+fn the_other_sets() {
     for (shape, tau_1, leaves, opening) in [
         (FAEST_192S, 4, 40_960, 5_040),
         (FAEST_192F, 16, 5_120, 5_640),
         (FAEST_256S, 8, 61_440, 9_952),
         (FAEST_256F, 24, 7_168, 10_944),
+        (FAEST_EM_128S, 0, 22_528, 2_000),
+        (FAEST_EM_128F, 8, 3_072, 2_304),
+        (FAEST_EM_192S, 8, 49_152, 4_656),
+        (FAEST_EM_192F, 16, 5_120, 5_376),
+        (FAEST_EM_256S, 8, 61_440, 8_384),
+        (FAEST_EM_256F, 24, 7_168, 9_536),
     ] {
         assert_eq!(shape.resolve(), Some(shape));
         assert_eq!((shape.tau_1(), shape.leaves()), (tau_1, leaves));
         assert_eq!(shape.opening_bytes(), opening);
         assert_eq!(shape.tree_bytes(), shape.level / 8 * (2 * leaves - 1));
-        let last = shape.entries(tau_1 - 1) - 1;
-        assert_eq!(pos_in_tree(&shape, tau_1 - 1, last), 2 * leaves - 2);
+        // The last vector that has the most entries has the last leaf.
+        let i = if tau_1 == 0 { shape.tau } else { tau_1 } - 1;
+        let last = shape.entries(i) - 1;
+        assert_eq!(pos_in_tree(&shape, i, last), 2 * leaves - 2);
     }
 }
 
@@ -137,6 +146,9 @@ fn plan_and_decode_by_the_definitions() {
             assert_eq!(answer, Answer::done(expected.len()), "{shape:?}");
             assert_eq!(written, expected, "{shape:?}");
             assert_eq!(node_count(&shape, &hidden), expected.len());
+            // The plan does not depend on the leaf kind.
+            let other = Shape { kind: 1, ..shape };
+            assert_eq!(planned(other, &challenge), (answer, expected));
         }
     }
 }

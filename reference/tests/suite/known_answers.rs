@@ -20,10 +20,10 @@ fn compare(half: usize) -> usize {
     compared
 }
 
-// 28 shapes with the five calls, the two of a stretch and a record each; 16 records of
-// version 1; 12 round trips; two commits and round trips of large shapes; 33 shapes
-// that are refused by eight commands each.
-const ALL: usize = 28 * 8 + 16 + 12 + 4 + 33 * 8;
+// 40 shapes with the five calls, the two of a stretch and a record each; for 16 of them
+// a record of version 1, for the others a round trip; four commits and round trips of
+// large shapes; 57 shapes that are refused by eight commands each.
+const ALL: usize = 40 * 8 + 40 + 8 + 57 * 8;
 
 #[test]
 fn every_first_known_answer() {

@@ -79,14 +79,18 @@ fn shapes_of_the_paper() {
     }
 }
 
-/// How many shapes with numbers up to 140 and these T there are at a level.
-fn allowed(level: usize, allowances: &[usize]) -> usize {
+/// How many shapes with numbers up to 140 and these T there are at a level and of a
+/// kind.
+fn allowed(level: usize, kind: usize, allowances: &[usize]) -> usize {
     let mut allowed = 0;
     for tau in 0..=140 {
         for k in 0..=140 {
             for w in 0..=140 {
                 for &t in allowances {
-                    if Shape::at_level(tau, k, w, t, level).resolve().is_some() {
+                    if Shape::of_kind(tau, k, w, t, level, kind)
+                        .resolve()
+                        .is_some()
+                    {
                         allowed += 1;
                     }
                 }
@@ -102,13 +106,18 @@ fn how_many_shapes_there_are() {
     // τ - 1, and 0 where k is 12 (python3: sum(0 <= 128 - w - t * k < t and
     // (128 - w == t * k or k < 12) for t in range(1, 33) for k in range(1, 13)
     // for w in range(128))), and 2796 and 2112 with 192 and 256 for 128; two of
-    // the four T are allowed; and at 128 there are the zeros.
+    // the four T are allowed; and at 128 of kind 0 there are the zeros.
     let allowances = [0, 1, 512, 513];
-    assert_eq!(allowed(128, &allowances), 2 * 2980 + 1);
-    assert_eq!(allowed(192, &allowances), 2 * 2796);
-    assert_eq!(allowed(256, &allowances), 2 * 2112);
+    for (kind, zeros) in [(0, 1), (1, 0)] {
+        assert_eq!(allowed(128, kind, &allowances), 2 * 2980 + zeros);
+        assert_eq!(allowed(192, kind, &allowances), 2 * 2796);
+        assert_eq!(allowed(256, kind, &allowances), 2 * 2112);
+    }
+    for (level, kind) in [(128, 2), (192, 2), (256, 255), (160, 1)] {
+        assert_eq!(allowed(level, kind, &[0, 1]), 0, "{level} {kind}");
+    }
     for level in [0, 8, 16, 24, 32, 64, 127, 129, 160, 224, 384] {
-        assert_eq!(allowed(level, &[0, 1]), 0, "{level}");
+        assert_eq!(allowed(level, 0, &[0, 1]), 0, "{level}");
     }
 }
 
@@ -148,6 +157,10 @@ fn shapes_of_192_and_256() {
     ] {
         let shape = Shape::at_level(tau, k, w, t, level);
         assert_eq!(numbers(shape), NOT_REFUSED, "{shape:?}");
+        for kind in [1, 2, 3, 255, 256, 257, 1 << 32, (1 << 32) + 1, usize::MAX] {
+            let expected = if kind == 1 { NOT_REFUSED } else { REFUSED };
+            assert_eq!(numbers(Shape { kind, ..shape }), expected, "{kind}");
+        }
         for other in [0, 128, 192, 256, level - 1, level + 1, level / 8, 8 * level] {
             let moved = Shape {
                 level: other,
@@ -179,6 +192,15 @@ fn shapes_of_192_and_256() {
         (24, 7, 8, 513, 192),
         (24, 8, 8, 163, 192),
         (24, 6, 8, 163, 192),
+        // Depths and w add up to the level, which is none.
+        (2, 8, 0, 16, 16),
+        (2, 12, 0, 24, 24),
+        (1, 3, 124, 3, 127),
+        (1, 5, 124, 5, 129),
+        (4, 9, 124, 36, 160),
+        (32, 5, 0, 512, 160),
+        (32, 7, 0, 512, 224),
+        (32, 12, 0, 512, 384),
         // Numbers modulo a word that would be allowed.
         (24, 7, 8, 163, (1 << 32) + 192),
         (24, 7, 8, 163, (1 << 63) + 192),
@@ -188,7 +210,32 @@ fn shapes_of_192_and_256() {
     ] {
         let shape = Shape::at_level(tau, k, w, t, level);
         assert_eq!(numbers(shape), REFUSED, "{shape:?}");
+        let other = Shape { kind: 1, ..shape };
+        assert_eq!(numbers(other), REFUSED, "{other:?}");
     }
+}
+
+#[test]
+fn shapes_of_the_even_mansour_kind() {
+    for (tau, k, w, t, level) in [
+        (11, 11, 7, 103, 128),
+        (16, 7, 8, 112, 128),
+        (16, 11, 8, 162, 192),
+        (24, 7, 8, 176, 192),
+        (22, 11, 6, 218, 256),
+        (32, 7, 8, 234, 256),
+        (1, 1, 127, 1, 128),
+    ] {
+        let shape = Shape::of_kind(tau, k, w, t, level, 1);
+        assert_eq!(numbers(shape), NOT_REFUSED, "{shape:?}");
+    }
+    // Four zeros are no shape of this kind.
+    for level in [0, 128, 192, 256] {
+        let zeros = Shape::of_kind(0, 0, 0, 0, level, 1);
+        assert_eq!(numbers(zeros), REFUSED, "{zeros:?}");
+    }
+    let zeros = Shape::of_kind(0, 0, 0, 0, 128, 2);
+    assert_eq!(numbers(zeros), REFUSED);
 }
 
 #[test]

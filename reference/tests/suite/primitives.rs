@@ -1,6 +1,6 @@
 //! AES, SHAKE128, SHAKE256, the fields, the generator and the hashes.
 
-use reference::bavc::leaf_hash;
+use reference::bavc::{em_leaf_commit, leaf_commit, leaf_hash};
 use reference::prg::{h0, h1, prg};
 use reference::shake::{shake128, shake256};
 use reference::{aes, field, Block};
@@ -254,6 +254,21 @@ fn leaf_hash_multiplies_then_adds() {
     check_leaf_hash(128, &[0, 2, 3, 12]);
     check_leaf_hash(192, &[0, 3, 4, 13]);
     check_leaf_hash(256, &[0, 4, 17, 19]);
+}
+
+#[test]
+fn leaves_of_both_kinds() {
+    // The generator's output begins alike; an ordinary seed is the first λ bits of
+    // it, an Even-Mansour commitment the first 2λ.
+    let iv = block("feffffff0102030405060708ffffffff");
+    for bytes in [16, 24, 32] {
+        let key: Vec<u8> = (1..=bytes as u8).collect();
+        let output = prg(&key, &iv, 77, 4 * 8 * bytes);
+        let (seed, com) = em_leaf_commit(&key, &iv, 77);
+        assert_eq!((seed, &com[..]), (key.clone(), &output[..2 * bytes]));
+        let (seed, com) = leaf_commit(&key, &iv, 77, &vec![0; 3 * bytes]);
+        assert_eq!((&seed[..], &com[..]), output.split_at(bytes));
+    }
 }
 
 #[test]

@@ -94,7 +94,7 @@ fn answer_of(bytes: &[u8], lengths: [usize; 3]) -> (u32, u32) {
     (answer.number, answer.count)
 }
 
-const SHAPES: [(Shape, usize); 11] = [
+const SHAPES: [(Shape, usize); 15] = [
     (Shape::new(1, 1, 127, 1), 8),
     (Shape::new(2, 2, 124, 4), 8),
     (Shape::new(2, 1, 125, 4), 16),
@@ -106,6 +106,10 @@ const SHAPES: [(Shape, usize); 11] = [
     (Shape::at_level(24, 7, 8, 163, 192), 24),
     (Shape::at_level(32, 4, 127, 300, 256), 136),
     (Shape::at_level(32, 7, 8, 246, 256), 8),
+    (Shape::of_kind(1, 1, 127, 1, 128, 1), 8),
+    (Shape::of_kind(16, 7, 8, 112, 128, 1), 136),
+    (Shape::of_kind(32, 2, 127, 40, 192, 1), 8),
+    (Shape::of_kind(32, 4, 127, 300, 256, 1), 24),
 ];
 
 #[test]
@@ -160,7 +164,8 @@ fn the_bytes_of_a_record_of_192_and_of_256() {
 /// read as it and accepted with the same count and the same buffers.
 #[test]
 fn versions_1_and_2() {
-    for (shape, row_bits) in SHAPES.into_iter().filter(|(shape, _)| shape.level == 128) {
+    let first = |shape: &Shape| (shape.level, shape.kind) == (128, 0);
+    for (shape, row_bits) in SHAPES.into_iter().filter(|(shape, _)| first(shape)) {
         let signed = Signed::new(shape, row_bits, &[0; 16]);
         let (older, newer) = (version_1(&signed.record()), signed.written());
         assert_eq!(older[..5], [1, 0, 0, 0, 9]);
@@ -179,8 +184,67 @@ fn versions_1_and_2() {
             let mut swapped = bytes.clone();
             swapped[0] = other;
             assert_eq!(answer_of(&swapped, lengths), (10, 0));
+            swapped[0] = 3;
+            assert_eq!(answer_of(&swapped, lengths), (10, 0));
         }
         assert!(!after[2].is_empty());
+    }
+}
+
+#[test]
+fn the_bytes_of_a_record_of_version_3() {
+    let shape = Shape::of_kind(1, 1, 127, 1, 128, 1);
+    let bytes = Signed::new(shape, 8, &[0; 16]).written();
+    assert_eq!(bytes.len(), 148);
+    let front = [
+        3, 0, 0, 0, 11, 1, 1, 127, 0, 1, 0, 0, 0, 8, 16, 1, 0, 0, 0, 16,
+    ];
+    assert_eq!(bytes[..20], front);
+    assert_eq!(bytes[36..40], [0, 0, 0, 16]);
+    assert_eq!(bytes[56..64], [0, 0, 0, 0, 0, 0, 0, 48]);
+    assert_eq!(bytes[112..116], [0, 0, 0, 32]);
+    assert_eq!(read(&bytes).unwrap().shape, shape);
+}
+
+/// In a record of version 3 every kind but 1 is 1, before a row length and before a
+/// field that is wrong; a version 3 record of ordinary leaves is none.
+#[test]
+fn every_kind_byte() {
+    for (shape, row_bits) in SHAPES.into_iter().filter(|(shape, _)| shape.kind == 1) {
+        let bytes = Signed::new(shape, row_bits, &vec![0; shape.level / 8]).written();
+        let lengths = work_lengths(&bytes).unwrap();
+        assert_eq!((bytes[0], bytes[15]), (3, 1));
+        assert_eq!(answer_of(&bytes, lengths).0, 0);
+        for kind in (0..=255).filter(|kind| *kind != 1) {
+            let mut changed = bytes.clone();
+            changed[15] = kind;
+            assert_eq!(answer_of(&changed, lengths), (1, 0), "{shape:?} {kind}");
+            assert_eq!(work_lengths(&changed), Err(Refusal::Shape));
+            changed[13] = 12;
+            changed[19] = 17;
+            assert_eq!(answer_of(&changed, lengths), (1, 0), "{shape:?} {kind}");
+            changed[4] = 10;
+            assert_eq!(answer_of(&changed, lengths), (10, 0), "{shape:?} {kind}");
+        }
+        // The level byte as in version 2.
+        for level in (0..=255).filter(|level| usize::from(*level) != shape.level / 8) {
+            let mut changed = bytes.clone();
+            changed[14] = level;
+            assert_eq!(answer_of(&changed, lengths), (1, 0), "{shape:?} {level}");
+        }
+        // Four zeros are no default of this kind.
+        let mut zeros = bytes.clone();
+        zeros[5..10].fill(0);
+        assert_eq!(answer_of(&zeros, lengths), (1, 0));
+    }
+    // An ordinary record with head and version of a version 3 record.
+    let signed = Signed::new(Shape::new(2, 2, 124, 4), 8, &[0; 16]);
+    let bytes = signed.written();
+    let lengths = work_lengths(&bytes).unwrap();
+    for (kind, number) in [(0, 1), (1, 10), (2, 1)] {
+        let head = [&[3, 0, 0, 0, 11], &bytes[5..15], &[kind]].concat();
+        let other = [&head[..], &bytes[15..]].concat();
+        assert_eq!(answer_of(&other, lengths), (number, 0), "{kind}");
     }
 }
 
@@ -282,10 +346,12 @@ fn every_set_of_conditions() {
 fn every_prefix_and_a_byte_more() {
     let signed = Signed::new(Shape::new(1, 1, 127, 1), 8, &[0; 16]);
     let wide = Signed::new(Shape::at_level(32, 2, 127, 40, 192), 8, &[0; 24]);
+    let other = Signed::new(Shape::of_kind(2, 2, 124, 4, 128, 1), 8, &[0; 16]);
     for bytes in [
         signed.written(),
         version_1(&signed.record()),
         wide.written(),
+        other.written(),
     ] {
         let lengths = work_lengths(&bytes).unwrap();
         assert_eq!(answer_of(&bytes, lengths).0, 0);
@@ -307,9 +373,9 @@ fn every_version() {
     for version in 0..=255 {
         let mut other = bytes.clone();
         other[0] = version;
-        // Version 1 has another length of field one.
+        // Versions 1 and 3 have other lengths of field one.
         let number = match version {
-            1 => 10,
+            1 | 3 => 10,
             2 => 0,
             _ => 9,
         };
@@ -350,7 +416,32 @@ fn the_writer_refuses_and_writes_nothing() {
     let signed = Signed::new(Shape::new(2, 2, 124, 4), 8, &[0; 16]);
     let long = signed.written().len();
     let short = &signed.opening[1..];
-    let cases: [(Refusal, Record, usize); 13] = [
+    let cases: [(Refusal, Record, usize); 16] = [
+        (
+            Refusal::Shape,
+            Record {
+                shape: Shape::of_kind(2, 2, 124, 4, 128, 2),
+                ..signed.record()
+            },
+            long,
+        ),
+        (
+            Refusal::Shape,
+            Record {
+                shape: Shape::of_kind(0, 0, 0, 0, 128, 1),
+                ..signed.record()
+            },
+            long,
+        ),
+        // The opening of the other kind.
+        (
+            Refusal::Buffer,
+            Record {
+                shape: Shape::of_kind(2, 2, 124, 4, 128, 1),
+                ..signed.record()
+            },
+            long - 31,
+        ),
         (
             Refusal::Shape,
             Record {

@@ -6,7 +6,7 @@ use reference::calls::{
 use reference::shape::Shape;
 use reference::stretch::Stretch;
 
-use crate::support::{first_byte, leaves, noise, revealed};
+use crate::support::{first_byte, leaf_commitment, leaves, noise, revealed};
 
 /// All that a call is lent: what it reads and what it writes.
 #[derive(Clone, PartialEq, Debug)]
@@ -53,7 +53,7 @@ fn lend_commit(shape: Shape, b: usize) -> Lent {
     let written = [
         2 * n,
         n * (2 * l - 1),
-        3 * n * l,
+        leaf_commitment(&shape) * l,
         b,
         shape.level * b,
         (shape.tau - 1) * b,
@@ -66,10 +66,12 @@ fn lend_reconstruct(shape: Shape, challenge: &[u8], b: usize) -> Lent {
     let corrections = noise(11, (shape.tau - 1) * b);
     // The slots that the planned nodes leave unused are zero.
     let nodes = revealed(&shape, challenge).len();
-    let mut opening = noise(12, 3 * n * shape.tau + n * nodes);
-    opening.resize(3 * n * shape.tau + n * shape.t, 0);
+    let coms = leaf_commitment(&shape) * shape.tau;
+    let mut opening = noise(12, coms + n * nodes);
+    opening.resize(coms + n * shape.t, 0);
     let read = vec![noise(8, 16), challenge.to_vec(), corrections, opening];
-    let written = [2 * n, n * (2 * l - 1), 3 * n * l, shape.level * b];
+    let coms = leaf_commitment(&shape) * l;
+    let written = [2 * n, n * (2 * l - 1), coms, shape.level * b];
     lend(shape, read, &written, 0)
 }
 
@@ -119,9 +121,10 @@ const CALLS: [Call; 7] = [
         name: "open",
         lend: |shape, challenge| {
             let (l, n) = (leaves(&shape), shape.level / 8);
-            let (tree, coms) = (noise(9, n * (2 * l - 1)), noise(10, 3 * n * l));
+            let m = leaf_commitment(&shape);
+            let (tree, coms) = (noise(9, n * (2 * l - 1)), noise(10, m * l));
             let read = vec![challenge.to_vec(), tree, coms];
-            lend(shape, read, &[3 * n * shape.tau + n * shape.t], 0)
+            lend(shape, read, &[m * shape.tau + n * shape.t], 0)
         },
         make: |lent| {
             let (tree, coms) = (&lent.read[1], &lent.read[2]);
@@ -229,11 +232,13 @@ fn expect(call: &Call, lent: &Lent, answer: Answer, what: &str) {
 
 /// Shapes of two vectors and of 32, the fewest that the other levels have at w 127,
 /// and for each a first byte of the challenge; the two of level 128 are P3 and P4.
-const SHAPES: [(Shape, u8); 4] = [
+const SHAPES: [(Shape, u8); 6] = [
     (Shape::new(2, 2, 124, 0), 0x00),
     (Shape::new(2, 2, 124, 0), 0x0c),
     (Shape::at_level(32, 2, 127, 0, 192), 0xc7),
     (Shape::at_level(32, 4, 127, 0, 256), 0x35),
+    (Shape::of_kind(2, 2, 124, 0, 128, 1), 0x0c),
+    (Shape::of_kind(32, 2, 127, 0, 192, 1), 0xc7),
 ];
 
 /// The nodes that P3 and P4 need.
@@ -373,7 +378,7 @@ fn every_buffer_has_its_exact_length() {
 }
 
 #[test]
-fn levels_are_tested_first() {
+fn levels_and_kinds_are_tested_first() {
     let refused = Answer {
         number: 1,
         count: 0,
@@ -389,6 +394,11 @@ fn levels_are_tested_first() {
                 other.shape.level = level;
                 expect(call, &other, refused, &format!("level {level}"));
             }
+        }
+        for kind in [2, 3, 255, 256, 257, 1 << 32, usize::MAX] {
+            let mut other = lent.clone();
+            other.shape.kind = kind;
+            expect(call, &other, refused, &format!("kind {kind}"));
         }
     }
 }
@@ -409,6 +419,27 @@ fn roots_and_challenges_of_another_level() {
             let mut other = lent.clone();
             other.read[call.challenge.unwrap_or(0)].resize(bytes, 0);
             expect(call, &other, refused, &format!("{bytes} bytes"));
+        }
+    }
+}
+
+#[test]
+fn buffers_of_the_other_kind() {
+    // Leaf commitments and openings have other lengths; decode and plan lend neither.
+    let refused = Answer {
+        number: 3,
+        count: 0,
+    };
+    for (shape, call) in SHAPES
+        .iter()
+        .flat_map(|s| CALLS.iter().map(move |c| (*s, c)))
+    {
+        let (mut lent, needed) = lent_for(shape, call, &[]);
+        lent.shape.kind = 1 - lent.shape.kind;
+        match call.name {
+            "decode" => expect(call, &lent, Answer::done(0), "the other kind"),
+            "plan" => expect(call, &lent, Answer::done(needed as usize), "the other kind"),
+            _ => expect(call, &lent, refused, "the other kind"),
         }
     }
 }
@@ -531,7 +562,7 @@ fn every_grinding_bit() {
         }
     }
     // At 192 and at 256 with w 127 the bits from 65 and from 129 on.
-    for (shape, _) in &SHAPES[2..] {
+    for (shape, _) in &SHAPES[2..4] {
         let shape = Shape { t: 512, ..*shape };
         for bit in 0..shape.level {
             let mut challenge = vec![0; shape.level / 8];

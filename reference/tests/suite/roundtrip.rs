@@ -8,7 +8,7 @@ use reference::shape::Shape;
 use reference::stretch::Stretch;
 use reference::Block;
 
-use crate::support::{allowed, bit, covered, indices, leaves, noise, revealed};
+use crate::support::{allowed, bit, covered, indices, leaf_commitment, leaves, noise, revealed};
 
 /// What commit writes.
 struct Signer {
@@ -35,7 +35,7 @@ fn sign(shape: Shape, row_bits: usize, root: &[u8], iv: &[u8]) -> Signer {
     let mut signer = Signer {
         commitment: noise(1, 2 * n),
         tree: noise(2, n * (2 * l - 1)),
-        coms: noise(3, 3 * n * l),
+        coms: noise(3, leaf_commitment(&shape) * l),
         u: noise(4, b),
         v: noise(5, shape.level * b),
         corrections: noise(6, (shape.tau - 1) * b),
@@ -56,8 +56,12 @@ fn sign(shape: Shape, row_bits: usize, root: &[u8], iv: &[u8]) -> Signer {
     signer
 }
 
+fn opening_bytes(shape: &Shape) -> usize {
+    leaf_commitment(shape) * shape.tau + shape.level / 8 * shape.t
+}
+
 fn opened(shape: Shape, challenge: &[u8], signer: &Signer) -> (Answer, Vec<u8>) {
-    let mut opening = noise(7, shape.level / 8 * (3 * shape.tau + shape.t));
+    let mut opening = noise(7, opening_bytes(&shape));
     let answer = open(shape, challenge, &signer.tree, &signer.coms, &mut opening);
     (answer, opening)
 }
@@ -76,7 +80,7 @@ fn verify(
         answer: Answer::done(0),
         commitment: noise(11, 2 * n),
         tree: noise(12, n * (2 * l - 1)),
-        coms: noise(13, 3 * n * l),
+        coms: noise(13, leaf_commitment(&shape) * l),
         q: noise(15, shape.level * b),
     };
     verifier.answer = reconstruct(
@@ -100,7 +104,7 @@ fn sign_stretch(shape: Shape, row_bits: usize, z: Stretch, root: &[u8], iv: &[u8
     let mut signer = Signer {
         commitment: noise(1, 2 * n),
         tree: noise(2, n * (2 * l - 1)),
-        coms: noise(3, 3 * n * l),
+        coms: noise(3, leaf_commitment(&shape) * l),
         u: noise(4, g),
         v: noise(5, shape.level * g),
         corrections: noise(6, (shape.tau - 1) * g),
@@ -136,7 +140,7 @@ fn verify_stretch(
         answer: Answer::done(0),
         commitment: noise(11, 2 * n),
         tree: noise(12, n * (2 * l - 1)),
-        coms: noise(13, 3 * n * l),
+        coms: noise(13, leaf_commitment(&shape) * l),
         q: noise(15, shape.level * z.width),
     };
     verifier.answer = reconstruct_stretch(
@@ -193,7 +197,7 @@ fn round_trip_of(shape: Shape, row_bits: usize, challenges: u64) {
                 count: count as u32,
             };
             assert_eq!(opened(tight, &challenge, &signer).0, refused);
-            let opening = vec![0; bytes * (3 * tau + tight.t)];
+            let opening = vec![0; opening_bytes(&tight)];
             let corrections = &signer.corrections;
             let verifier = verify(tight, row_bits, &iv, &challenge, corrections, &opening);
             assert_eq!(verifier.answer, refused);
@@ -268,6 +272,50 @@ fn levels_192_and_256() {
         (32, 7, 8, 256, 3888, 1),
     ] {
         round_trip_of(Shape::at_level(tau, k, w, 512, level), row_bits, challenges);
+    }
+}
+
+#[test]
+fn even_mansour_leaves() {
+    for (tau, k, w, level, row_bits, challenges) in [
+        (1, 1, 127, 128, 8, 4),
+        (2, 2, 124, 128, 128, 16),
+        (3, 1, 123, 128, 72, 16),
+        (32, 3, 1, 128, 264, 4),
+        (16, 7, 8, 128, 1360, 2),
+        (32, 2, 127, 192, 8, 8),
+        (24, 7, 8, 192, 2320, 1),
+        (32, 4, 127, 256, 136, 8),
+        (32, 7, 8, 256, 3472, 1),
+    ] {
+        let shape = Shape::of_kind(tau, k, w, 512, level, 1);
+        round_trip_of(shape, row_bits, challenges);
+    }
+}
+
+#[test]
+fn even_mansour_leaves_by_their_definition() {
+    // The seed of a leaf is its key: u is the xor of the rows of the keys, and its
+    // commitment is twice the level from the key, with the tweak i + L - 1.
+    for (tau, k, w, level) in [(3, 4, 116, 128), (32, 2, 127, 192)] {
+        let shape = Shape::of_kind(tau, k, w, 512, level, 1);
+        let iv: Block = noise(21, 16).try_into().unwrap();
+        let (l, n) = (leaves(&shape), level / 8);
+        let signer = sign(shape, 400, &noise(20, n), &iv);
+        let mut u = vec![0; 50];
+        for j in 0..shape.entries(0) {
+            let near = 1 << k;
+            let place = match j < near {
+                true => tau * j,
+                false => tau * near + (j - near),
+            };
+            let at = n * (l - 1 + place);
+            let key = &signer.tree[at..at + n];
+            u = xor(&u, &prg(key, &iv, 0x8000_0000, 400));
+            let com = &signer.coms[2 * n * j..2 * n * (j + 1)];
+            assert_eq!(com, prg(key, &iv, (l - 1) as u32, 2 * level));
+        }
+        assert_eq!(signer.u, u);
     }
 }
 
@@ -541,6 +589,8 @@ fn stretches_of_192_and_256() {
     let chosen = [(0, 49), (0, 1), (48, 1), (15, 2), (16, 32), (13, 21)];
     stretches_of(Shape::at_level(32, 2, 127, 512, 192), 49, &chosen);
     stretches_of(Shape::at_level(32, 4, 127, 512, 256), 49, &chosen);
+    stretches_of(Shape::of_kind(3, 1, 123, 512, 128, 1), 49, &chosen);
+    stretches_of(Shape::of_kind(32, 2, 127, 512, 192, 1), 49, &chosen);
 }
 
 #[test]

@@ -43,6 +43,12 @@ fn deeper(shape: &Shape) -> usize {
     shape.level - shape.w - shape.tau * shape.k
 }
 
+/// Document 02, E7 and E8: the bytes of a leaf commitment.
+pub fn leaf_commitment(shape: &Shape) -> usize {
+    let blocks = if shape.kind == 1 { 2 } else { 3 };
+    blocks * shape.level / 8
+}
+
 /// Document 02, E2: L.
 pub fn leaves(shape: &Shape) -> usize {
     (shape.tau + deeper(shape)) << shape.k

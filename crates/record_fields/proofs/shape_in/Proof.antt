@@ -31,4 +31,5 @@ shape-in-spec =
     (λ c κs. search needs)
     two
     (λ c κs. search needs)
+    (λ c κs. search needs)
     returns)

@@ -1,11 +1,13 @@
 -- Each way out by the tests that led there.
 use borrow.Author.Needs.{needs}
-use mathlib.Core.Path.{refl, ap, _∙_}
+use mathlib.Core.Path.{refl, ap, ap₂, _∙_}
+use mathlib.Core.Bool.{_&&_}
+use Rattle.spec.specs.declared.Shape.{Shape}
 use Rattle.spec.specs.Calls.{rowOk}
 use Rattle.spec.specs.Shapes.{resolved, shapeOk}
 use Rattle.laws.proofs.Tests.{failed, passed}
 use Rattle.record.specs.Fields.{fieldOk}
-use Rattle.record.specs.Record.{headNumber}
+use Rattle.record.specs.Record.{kindFits, headNumber}
 use Rattle.record_reading.proofs.head_number.Statement.{statement}
 use Rattle.record_reading.proofs.head_number.Tie as tie
 
@@ -29,15 +31,18 @@ shape-of-requires c κs =
 returns-3 : tie.Need-returns-3
 unfolding headNumber
 returns-3 c =
-    let sh = c .before in
+    let ki = c .before in
+    let sh = ki .before in
     let fi = sh .before .before .before .before in
     let h = fi .field-fits .ensures ∙ ap (fieldOk _ 1) (fi .before .head-bytes .ensures .0) in
-    let s = sh .is-shape .ensures ∙ ap shapeOk (sh .before .resolve .ensures ∙ ap resolved (sh .before .before .shape-of .ensures)) in
+    let e = sh .before .before .shape-of .ensures in
+    let s = ap₂ _&&_ (sh .is-shape .ensures ∙ ap shapeOk (sh .before .resolve .ensures ∙ ap resolved e)) (ki .kind-fits .ensures ∙ ap₂ kindFits (fi .before .before .before .before .version-of .ensures) (ap (λ (s : Shape). s .kind) e)) in
     rw (passed (fi .before .before .before .version-ok .ensures) (fi .before .before .if1 .left), passed h (sh .before .before .before .if2 .left), failed s (c .if3 .taken)) refl
 
 row-of-requires : tie.Need-row-of-requires
 row-of-requires c κs =
-    let sh = c .before in
+    let ki = c .before in
+    let sh = ki .before in
     let fi = sh .before .before .before .before in
     let h = fi .field-fits .ensures ∙ ap (fieldOk _ 1) (fi .before .head-bytes .ensures .0) in
     (passed (fi .before .before .before .version-ok .ensures) (fi .before .before .if1 .left), passed h (sh .before .before .before .if2 .left))
@@ -46,10 +51,12 @@ returns-4 : tie.Need-returns-4
 unfolding headNumber
 returns-4 c =
     let ro = c .before in
-    let sh = ro .before .before .before in
+    let ki = ro .before .before .before in
+    let sh = ki .before in
     let fi = sh .before .before .before .before in
     let h = fi .field-fits .ensures ∙ ap (fieldOk _ 1) (fi .before .head-bytes .ensures .0) in
-    let s = sh .is-shape .ensures ∙ ap shapeOk (sh .before .resolve .ensures ∙ ap resolved (sh .before .before .shape-of .ensures)) in
+    let e = sh .before .before .shape-of .ensures in
+    let s = ap₂ _&&_ (sh .is-shape .ensures ∙ ap shapeOk (sh .before .resolve .ensures ∙ ap resolved e)) (ki .kind-fits .ensures ∙ ap₂ kindFits (fi .before .before .before .before .version-of .ensures) (ap (λ (s : Shape). s .kind) e)) in
     let n = ro .is-row-length .ensures ∙ ap rowOk (ro .before .row-of .ensures) in
     rw (
       passed (fi .before .before .before .version-ok .ensures) (fi .before .before .if1 .left),
@@ -63,10 +70,12 @@ returns-5 : tie.Need-returns-5
 unfolding headNumber
 returns-5 c =
     let ro = c .before in
-    let sh = ro .before .before .before in
+    let ki = ro .before .before .before in
+    let sh = ki .before in
     let fi = sh .before .before .before .before in
     let h = fi .field-fits .ensures ∙ ap (fieldOk _ 1) (fi .before .head-bytes .ensures .0) in
-    let s = sh .is-shape .ensures ∙ ap shapeOk (sh .before .resolve .ensures ∙ ap resolved (sh .before .before .shape-of .ensures)) in
+    let e = sh .before .before .shape-of .ensures in
+    let s = ap₂ _&&_ (sh .is-shape .ensures ∙ ap shapeOk (sh .before .resolve .ensures ∙ ap resolved e)) (ki .kind-fits .ensures ∙ ap₂ kindFits (fi .before .before .before .before .version-of .ensures) (ap (λ (s : Shape). s .kind) e)) in
     let n = ro .is-row-length .ensures ∙ ap rowOk (ro .before .row-of .ensures) in
     rw (
       passed (fi .before .before .before .version-ok .ensures) (fi .before .before .if1 .left),
@@ -81,11 +90,13 @@ head-number-spec =
     tie.close
     (tie.spec
     (λ c κs. search needs)
+    (λ c κs. search needs)
     returns
     (λ c κs. search needs)
     (λ c κs. search needs)
     returns-2
     shape-of-requires
+    (λ c κs. search needs)
     (λ c κs. search needs)
     (λ c κs. search needs)
     returns-3

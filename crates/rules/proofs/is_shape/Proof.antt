@@ -12,10 +12,10 @@ use Rattle.rules.proofs.is_shape.Statement.{statement}
 use Rattle.rules.proofs.is_shape.Tie as tie
 
 returns : tie.Need-returns
-returns c = shape-refused (c .before .before .args .s) (λ f. true≢false (sym (f .level-is) ∙ failed (c .before .is-level .ensures) (c .if1 .taken)))
+returns c = shape-refused (c .before .before .args .s) (λ f. omega (arith, f .kind-max))
 
 returns-2 : tie.Need-returns-2
-returns-2 c = shape-refused (c .before .before .before .before .args .s) (λ f. omega arith)
+returns-2 c = shape-refused (c .before .before .before .before .args .s) (λ f. true≢false (sym (f .level-is) ∙ failed (c .before .is-level .ensures) (c .if2 .taken)))
 
 returns-3 : tie.Need-returns-3
 returns-3 c = shape-refused (c .before .before .before .before .before .before .args .s) (λ f. omega arith)
@@ -35,9 +35,12 @@ returns-7 c = shape-refused (c .before .before .before .before .before .before .
 returns-8 : tie.Need-returns-8
 returns-8 c = shape-refused (c .before .before .before .before .before .before .before .before .before .before .before .before .before .before .before .before .args .s) (λ f. omega arith)
 
+returns-9 : tie.Need-returns-9
+returns-9 c = shape-refused (c .before .before .before .before .before .before .before .before .before .before .before .before .before .before .before .before .before .before .args .s) (λ f. omega arith)
+
 mul-used : tie.Need-mul-used
 mul-used c =
-    let s = c .before .before .before .before .before .before .before .before .before .before .before .before .before .before .before .before .before .args .s in
+    let s = c .before .before .before .before .before .before .before .before .before .before .before .before .before .before .before .before .before .before .before .args .s in
     let h : s .tau ≤ 32 = omega arith in
     let k : s .k ≤ 12 = omega arith in
     let p : s .tau * s .k ≤ 32 * 12 = mul-le-mul h k in
@@ -45,28 +48,28 @@ mul-used c =
 
 add-used : tie.Need-add-used
 add-used c =
-    let s = c .before .before .before .before .before .before .before .before .before .before .before .before .before .before .before .before .before .before .args .s in
+    let s = c .before .before .before .before .before .before .before .before .before .before .before .before .before .before .before .before .before .before .before .before .args .s in
     let h : s .tau ≤ 32 = omega arith in
     let k : s .k ≤ 12 = omega arith in
     let p : s .tau * s .k ≤ 32 * 12 = mul-le-mul h k in
     omega arith
 
-returns-9 : tie.Need-returns-9
-unfolding level
-returns-9 c = shape-refused (c .before .before .before .before .before .before .before .before .before .before .before .before .before .before .before .before .before .before .before .args .s) (λ f. omega (arith, f .total))
-
 returns-10 : tie.Need-returns-10
 unfolding level
-returns-10 c = (let d = deeper-is (c .before .before .before .before .before .before .before .before .before .before .before .before .before .before .before .before .before .before .before .before .before .args .s) in shape-refused (c .before .before .before .before .before .before .before .before .before .before .before .before .before .before .before .before .before .before .before .before .before .args .s) (λ f. omega (arith, f .few)))
+returns-10 c = shape-refused (c .before .before .before .before .before .before .before .before .before .before .before .before .before .before .before .before .before .before .before .before .before .args .s) (λ f. omega (arith, f .total))
 
 returns-11 : tie.Need-returns-11
 unfolding level
-returns-11 c =
-    let s = c .before .before .before .before .before .before .before .before .before .before .before .before .before .before .before .before .before .before .before .before .before .before .args .s in
+returns-11 c = (let d = deeper-is (c .before .before .before .before .before .before .before .before .before .before .before .before .before .before .before .before .before .before .before .before .before .before .before .args .s) in shape-refused (c .before .before .before .before .before .before .before .before .before .before .before .before .before .before .before .before .before .before .before .before .before .before .before .args .s) (λ f. omega (arith, f .few)))
+
+returns-12 : tie.Need-returns-12
+unfolding level
+returns-12 c =
+    let s = c .before .before .before .before .before .before .before .before .before .before .before .before .before .before .before .before .before .before .before .before .before .before .before .before .args .s in
     let d = deeper-is s in
-    let l = passed (c .before .before .before .before .before .before .before .before .before .before .before .before .before .before .before .before .before .before .before .before .before .is-level .ensures) (c .before .before .before .before .before .before .before .before .before .before .before .before .before .before .before .before .before .before .before .before .if1 .left) in
-    shape-by-depth s (s .level - (s .tau * s .k + s .w)) (omega arith) (omega arith) (omega arith) (omega arith) (omega arith) (omega arith) (omega arith) (omega arith) (omega arith) (omega arith) l
+    let l = passed (c .before .before .before .before .before .before .before .before .before .before .before .before .before .before .before .before .before .before .before .before .before .is-level .ensures) (c .before .before .before .before .before .before .before .before .before .before .before .before .before .before .before .before .before .before .before .before .if2 .left) in
+    shape-by-depth s (s .level - (s .tau * s .k + s .w)) (omega arith) (omega arith) (omega arith) (omega arith) (omega arith) (omega arith) (omega arith) (omega arith) (omega arith) (omega arith) l (omega (arith, c .before .before .before .before .before .before .before .before .before .before .before .before .before .before .before .before .before .before .before .before .before .before .if1 .left))
 
 pub is-shape-spec : {M : Type 1} → statement M
 is-shape-spec =
-    tie.close (tie.spec (λ c κs. search needs) returns returns-2 returns-3 returns-4 returns-5 returns-6 returns-7 returns-8 mul-used add-used returns-9 returns-10 returns-11)
+    tie.close (tie.spec returns (λ c κs. search needs) returns-2 returns-3 returns-4 returns-5 returns-6 returns-7 returns-8 returns-9 mul-used add-used returns-10 returns-11 returns-12)

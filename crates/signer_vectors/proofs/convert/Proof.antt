@@ -11,7 +11,7 @@ use Rattle.spec.specs.Hashes.{hash1}
 use Rattle.spec.specs.Shapes.{leafCommitmentBytes, depthOf, entriesOf}
 use Rattle.laws.proofs.Concat.{mul-limit}
 use Rattle.planning_laws.proofs.ShapeFacts.{shape-facts}
-use Rattle.vector.proofs.HashKeys.{keys-length, key-of}
+use Rattle.leaf.proofs.Keys.{key-of}
 use Rattle.vector.proofs.Buffers.{lent, block-end}
 use Rattle.signer_vectors.proofs.Steps.{converted}
 use Rattle.signer_vectors.proofs.convert.Statement.{statement}
@@ -45,7 +45,7 @@ key-end : tie.Need-part-hash-multiples-end
 key-end c =
     let start = c .before .before .before .before .before .before .before .before in
     let w = c .before .commitment-bytes in
-    let l = keys-length (start .args .s) (start .args .iv) (start .args .keys .now) (start .pre .1 .0 .3) in
+    let l = start .pre .1 .0 .3 .size in
     let all : w .result * start .args .s .tau ≡ leafCommitmentBytes (start .args .s) * start .args .s .tau = ap (λ (n : ℕ). n * start .args .s .tau) (w .ensures .0) in
     block-end (w .result) (start .args .i) (start .args .s .tau) (length (start .args .keys .now)) (start .pre .1 .0 .1) (omega arith)
 

@@ -9,6 +9,7 @@ use native.Mathlib.Nat.{mul-le-mul}
 use native.Mathlib.Omega.{arith}
 use lib.Bits.{bitXor}
 use lib.ListN.{length}
+use Rattle.planning_laws.proofs.LeafCommitments.{commitment-length}
 use Rattle.spec.specs.declared.Shape.{Shape}
 use Rattle.spec.specs.declared.Stretch.{Stretch}
 use Rattle.spec.specs.Shapes.{leafCommitmentBytes, entriesOf, shapeOk}
@@ -33,8 +34,7 @@ module _ (s : Shape) (iv tree : List ℕ) (i : ℕ) where
   own e = leafCommitment faest s iv i (leafKey s tree i e)
 
   own-size : (e : ℕ) → length (own e) ≡ leafCommitmentBytes s
-  unfolding leafCommitment
-  own-size e = rw length-tabulate
+  own-size e = commitment-length faest s iv i (leafKey s tree i e)
 
   -- byte p of the row of number x
   abbrev row : Stretch → ℕ → ℕ → ℕ → ℕ

@@ -7,6 +7,7 @@ use native.Mathlib.Nat.{le-add-right}
 use native.Mathlib.Omega.{arith}
 use lib.Bits.{bitXor}
 use lib.ListN.{length, take, drop}
+use Rattle.planning_laws.proofs.LeafCommitments.{commitment-length}
 use Rattle.spec.specs.declared.Shape.{Shape}
 use Rattle.spec.specs.Bytes.{tabulate, concat}
 use Rattle.spec.specs.Hashes.{hash1}
@@ -18,7 +19,7 @@ use Rattle.spec.specs.Verifier.{verifierLeafCommitment}
 use Rattle.laws.proofs.Lists.{length-tabulate}
 use Rattle.laws.proofs.Concat.{mul-limit}
 use Rattle.planning_laws.proofs.ShapeFacts.{shape-facts}
-use Rattle.vector.proofs.HashKeys.{keys-length, key-of}
+use Rattle.leaf.proofs.Keys.{key-of}
 use Rattle.vector.proofs.Buffers.{lent, block-end}
 use Rattle.verifier_vector.specs.Vector.{given}
 use Rattle.verifier_vector.proofs.Hidden.{hashed-whole}
@@ -53,7 +54,7 @@ key-end : tie.Need-part-hash-multiples-end
 key-end c =
     let start = c .before .before .before .before .before .before .before .before in
     let w = c .before .commitment-bytes in
-    let l = keys-length (start .args .s) (start .args .iv) (start .args .keys .now) (start .pre .1 .0 .4) in
+    let l = start .pre .1 .0 .4 .size in
     let all : w .result * start .args .s .tau ≡ leafCommitmentBytes (start .args .s) * start .args .s .tau = ap (λ (n : ℕ). n * start .args .s .tau) (w .ensures .0) in
     block-end (w .result) (start .args .i) (start .args .s .tau) (length (start .args .keys .now)) (start .pre .1 .0 .1) (omega arith)
 
@@ -89,8 +90,7 @@ hash-vector-requires c κs =
     (r .1, r .2, block-end (w .result) (g .d) n _ (start .pre .1 .0 .2) (omega arith))
 
 own-size : (s : Shape) (iv tree : List ℕ) (i e : ℕ) → length (leafCommitment faest s iv i (leafKey s tree i e)) ≡ leafCommitmentBytes s
-unfolding leafCommitment
-own-size s iv tree i e = rw length-tabulate
+own-size s iv tree i e = commitment-length faest s iv i (leafKey s tree i e)
 
 returns : tie.Need-returns
 unfolding faest vectorCommitments vectorHash verifierLeafCommitment
