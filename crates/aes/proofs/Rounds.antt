@@ -37,6 +37,12 @@ module _ (nk : ℕ) (keys : List (List (List ℕ))) where
   pub rounded-more : (s x y : List (List ℕ)) (i : ℕ) → 0 < i → i < nk + 6 → y ≡ roundOf x (getD keys i []) → Rounded nk keys s x (i - 1) → Rounded nk keys s y (i + 1 - 1)
   rounded-more s x y i some h ey r key e = rounds-more _ _ _ _ _ i some (r key e) (round-key-at nk key keys i e (omega arith)) ey
 
+  pub rounded-two : (s x y : List (List ℕ)) (i : ℕ) → 0 < i → i + 1 < nk + 6 → y ≡ roundOf (roundOf x (getD keys i [])) (getD keys (i + 1) []) → Rounded nk keys s x (i - 1)
+      → Rounded nk keys s y (i + 2 - 1)
+  rounded-two s x y i some h ey r =
+      let two : i + 2 - 1 ≡ i + 1 + 1 - 1 = omega arith in
+      rw two (rounded-more s _ y (i + 1) (omega arith) h ey (rounded-more s x _ i some (omega arith) refl r))
+
   -- the cipher of s, from its first key addition x, the state y before the last round, and the last round
   pub rounded-cipher : (s x y r : List (List ℕ)) (n : ℕ) → n ≡ nk + 6 → x ≡ addRoundKey s (getD keys 0 []) → Rounded nk keys x y (n - 1) → r ≡ lastRound y (getD keys n [])
       → (key : List ℕ) → Keyed nk key keys → r ≡ cipher (nk + 6) (keyExpansion nk key) s

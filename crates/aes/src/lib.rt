@@ -2,7 +2,7 @@
 // four columns of four bytes, by value.
 ghost use mathlib.Core.Path.{_≡_};
 ghost use mathlib.Core.List.{List};
-ghost use Prim.Native.Nat.{ℕ, _+_, _-_, _≤_};
+ghost use Prim.Native.Nat.{ℕ, _+_, _-_, _%_, _≤_};
 ghost use lib.ListN.{length};
 ghost use Rattle.spec.specs.Gf256.{SboxTable};
 ghost use Rattle.spec.specs.Aes.{stateOf, bytesOf, addRoundKey, roundOf, lastRound, cipher, keyExpansion};
@@ -69,13 +69,6 @@ pub fn add_round_key(s: [[u8; 4]; 4], k: [[u8; 4]; 4]) -> [[u8; 4]; 4]
 
 // ---- the cipher
 
-pub fn round(t: &[u8; 256], s: [[u8; 4]; 4], k: [[u8; 4]; 4]) -> [[u8; 4]; 4]
-    requires { ⌜ SboxTable (now t) ⌝ }
-    ensures { λ r. ⌜ r ≡ roundOf s k ⌝ }
-{
-    add_round_key(mix_columns(shift_rows(sub_bytes(t, s))), k)
-}
-
 pub fn last_round(t: &[u8; 256], s: [[u8; 4]; 4], k: [[u8; 4]; 4]) -> [[u8; 4]; 4]
     requires { ⌜ SboxTable (now t) ⌝ }
     ensures { λ r. ⌜ r ≡ lastRound s k ⌝ }
@@ -83,15 +76,24 @@ pub fn last_round(t: &[u8; 256], s: [[u8; 4]; 4], k: [[u8; 4]; 4]) -> [[u8; 4]; 
     add_round_key(shift_rows(sub_bytes(t, s)), k)
 }
 
-// CIPHER in n rounds, for the round keys of any key. The first round is a call of `round`, as those of `later_rounds` are, and the others stand here by their steps: then
-// the compiler inlines these alone, which is quickest.
+// Two rounds, with the keys k and l.
+fn two_rounds(t: &[u8; 256], s: [[u8; 4]; 4], k: [[u8; 4]; 4], l: [[u8; 4]; 4]) -> [[u8; 4]; 4]
+    requires { ⌜ SboxTable (now t) ⌝ }
+    ensures { λ r. ⌜ r ≡ roundOf (roundOf s k) l ⌝ }
+{
+    let x = add_round_key(mix_columns(shift_rows(sub_bytes(t, s))), k);
+    add_round_key(mix_columns(shift_rows(sub_bytes(t, x))), l)
+}
+
+// CIPHER in n rounds, for the round keys of any key. Rounds 1 and 2 are a call of `two_rounds`, as those of `later_rounds` are, and the others stand here by their steps:
+// then the compiler inlines these alone, which is quickest.
 pub fn encrypt(t: &[u8; 256], keys: &[[[u8; 4]; 4]; 15], n: usize, s: [[u8; 4]; 4]) -> [[u8; 4]; 4]
     requires { ⌜ SboxTable (now t) ⌝ }
     requires { ⌜ (10 ≤ n) × (n ≤ 14) ⌝ }
     ensures { λ r. ⌜ ((nk : ℕ) (key : List ℕ) → n ≡ nk + 6 → Keyed nk key (now (keys .entry)) → r ≡ cipher (nk + 6) (keyExpansion nk key) s) ⌝ }
 {
-    let mut x = round(t, add_round_key(s, keys[0]), keys[1]);
-    let mut i = 2;
+    let mut x = two_rounds(t, add_round_key(s, keys[0]), keys[1], keys[2]);
+    let mut i = 3;
     while i < n {
         let y = add_round_key(mix_columns(shift_rows(sub_bytes(t, x))), keys[i]);
         x = y;
@@ -100,18 +102,18 @@ pub fn encrypt(t: &[u8; 256], keys: &[[[u8; 4]; 4]; 15], n: usize, s: [[u8; 4]; 
     last_round(t, x, keys[n])
 }
 
-// The rounds of longer keys: from round 10 on, and before the last, round n.
+// The rounds of longer keys: from round 10 on, and before the last, round n. There are two or four, and they go by twos, which is quicker than one by one.
 fn later_rounds(t: &[u8; 256], keys: &[[[u8; 4]; 4]; 15], n: usize, s: [[u8; 4]; 4]) -> [[u8; 4]; 4]
     requires { ⌜ SboxTable (now t) ⌝ }
-    requires { ⌜ (10 ≤ n) × (n ≤ 14) ⌝ }
+    requires { ⌜ (10 ≤ n) × (n ≤ 14) × (n % 2 ≡ 0) ⌝ }
     ensures { λ r. ⌜ ((nk : ℕ) (a : List (List ℕ)) → n ≡ nk + 6 → Rounded nk (now (keys .entry)) a s 9 → Rounded nk (now (keys .entry)) a r (n - 1)) ⌝ }
 {
     let mut x = s;
     let mut i = 10;
     while i < n {
-        let y = round(t, x, keys[i]);
+        let y = two_rounds(t, x, keys[i], keys[i + 1]);
         x = y;
-        i += 1;
+        i += 2;
     }
     x
 }
@@ -123,8 +125,9 @@ pub struct Blocks {
 }
 
 // CIPHER of two states in n rounds, and the bytes of both. They go round by round: neither waits for the other, so a processor can work on both at once
-// (bench/README.md compares it with one after the other). The steps of a round stand here one by one, since a second call of `round` would keep the compiler from
-// inlining it. The nine rounds that every key has are counted by a constant, which is quicker; those from 10 on of longer keys go one state after the other.
+// (bench/README.md compares it with one after the other). The steps of a round stand here one by one, since the compiler would not inline a function of them
+// that is called twice. The nine rounds that every key has are counted by a constant, which is quicker; those from 10 on of longer keys go one state after the
+// other.
 pub fn encrypt_pair(
     t: &[u8; 256],
     keys: &[[[u8; 4]; 4]; 15],
@@ -133,7 +136,7 @@ pub fn encrypt_pair(
     b: [[u8; 4]; 4],
 ) -> Blocks
     requires { ⌜ SboxTable (now t) ⌝ }
-    requires { ⌜ (10 ≤ n) × (n ≤ 14) ⌝ }
+    requires { ⌜ (10 ≤ n) × (n ≤ 14) × (n % 2 ≡ 0) ⌝ }
     ensures { λ r. ⌜ ((nk : ℕ) (key : List ℕ) → n ≡ nk + 6 → Keyed nk key (now (keys .entry))
         → (r .first ≡ bytesOf (cipher (nk + 6) (keyExpansion nk key) a)) × (r .second ≡ bytesOf (cipher (nk + 6) (keyExpansion nk key) b))) ⌝ }
 {

@@ -62,7 +62,7 @@ pub fn block_pair(
     n: u32,
 ) -> Blocks
     requires { ⌜ SboxTable (now t) ⌝ }
-    requires { ⌜ (n + 1 < 2 ^ 32) × (10 ≤ rounds) × (rounds ≤ 14) ⌝ }
+    requires { ⌜ (n + 1 < 2 ^ 32) × (10 ≤ rounds) × (rounds ≤ 14) × (rounds % 2 ≡ 0) ⌝ }
     ensures { λ r. ⌜ ((nk : ℕ) (key : List ℕ) → rounds ≡ nk + 6 → Keyed nk key (now (keys .entry))
         → (r .first ≡ generatorBlock nk key iv tweak n) × (r .second ≡ generatorBlock nk key iv tweak (n + 1))) ⌝ }
 {
@@ -123,7 +123,7 @@ pub fn fill_keyed(
     out: &mut [u8],
 )
     requires { ⌜ SboxTable (now t) ⌝ }
-    requires { ⌜ (10 ≤ rounds) × (rounds ≤ 14) × (first + length (now out) < 2 ^ 32) ⌝ }
+    requires { ⌜ (10 ≤ rounds) × (rounds ≤ 14) × (rounds % 2 ≡ 0) × (first + length (now out) < 2 ^ 32) ⌝ }
     ensures { λ _. ⌜ ((nk : ℕ) (key : List ℕ) → rounds ≡ nk + 6 → Keyed nk key (now (keys .entry))
         → now (out .exit) ≡ tabulate (length (now (out .entry))) (λ p. generatorByte nk key iv tweak (first + p))) ⌝ }
 {

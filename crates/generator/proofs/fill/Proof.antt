@@ -12,7 +12,7 @@ fill-keyed-requires : tie.Need-fill-keyed-requires
 fill-keyed-requires c κs =
     let start = c .before .before .before .before .before in
     let p = start .pre .1 in
-    (start .pre .0, (omega arith, omega arith, p .3))
+    (start .pre .0, (omega arith, omega arith, omega arith, p .3))
 
 returns : tie.Need-returns
 returns c = λ nk e.

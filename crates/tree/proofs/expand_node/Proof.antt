@@ -99,7 +99,7 @@ fill-keyed-requires c κs =
     let p = start .pre .1 in
     let e = two-size (c .before) in
     let n = start .args .n in
-    (start .pre .0, (omega (arith, p .0), omega (arith, p .1), omega (arith, p .1)))
+    (start .pre .0, (omega (arith, p .0), omega (arith, p .1), omega (arith, p .2), omega (arith, p .1)))
 
 returns : tie.Need-returns
 unfolding faest prg children
