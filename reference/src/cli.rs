@@ -9,6 +9,7 @@ use crate::calls::{
 use crate::enumeration::list_challenges;
 use crate::listing::list;
 use crate::record_commands::{check_command, checks_command, record_command};
+use crate::report::report;
 use crate::shake::shake128;
 use crate::shape::{row_bytes, Shape};
 use crate::stretch::Stretch;
@@ -31,6 +32,7 @@ usage: reference decode      TAU K W T LEVEL KIND CHALLENGE
        reference probe_plan        TAU K W T LEVEL KIND BYTE WHICH MORE
        reference list        (its line on standard input)
        reference list_challenges (its line on standard input)
+       reference report      (records on standard input)
        reference check       (a record on standard input)
        reference checks      (records and buffers on standard input)
 Each with ROWBITS but those on records is also there for a stretch of the rows:
@@ -287,15 +289,15 @@ impl Arguments<'_> {
 /// come out as it must is not.
 pub type Outcome = (Vec<u8>, bool);
 
-/// `list` and `list_challenges`, with their line from the input.
+/// `list`, `list_challenges` and `report`, with what they read from the input.
 fn list_command(command: &str, rest: Arguments, input: &mut impl Read) -> Option<Outcome> {
     rest.end()?;
-    let mut line = Vec::new();
-    input.read_to_end(&mut line).ok()?;
-    let text = if command == "list" {
-        list(&line)
-    } else {
-        list_challenges(&line)
+    let mut bytes = Vec::new();
+    input.read_to_end(&mut bytes).ok()?;
+    let text = match command {
+        "list" => list(&bytes),
+        "list_challenges" => list_challenges(&bytes),
+        _ => report(&bytes),
     };
     Some((text, true))
 }
@@ -557,7 +559,7 @@ pub fn run(args: &[String], input: &mut impl Read) -> Option<Outcome> {
         "commit" | "open" | "reconstruct" | "roundtrip" => bytes_command(command, of_stretch, rest),
         "probe_commit" | "probe_reconstruct" => probe_command(command, of_stretch, rest),
         _ if of_stretch => None,
-        "list" | "list_challenges" => list_command(command, rest, input),
+        "list" | "list_challenges" | "report" => list_command(command, rest, input),
         "check" => check_command(rest, input),
         "checks" => checks_command(rest, input),
         "record" | "prefixes" | "flips" | "pairs" => record_command(command, false, rest),

@@ -17,6 +17,7 @@ pub mod listing;
 pub mod prg;
 pub mod record;
 mod record_commands;
+pub mod report;
 pub mod shake;
 pub mod shape;
 pub mod stretch;

@@ -91,17 +91,11 @@ impl<'a> Reader<'a> {
         let b = row_bytes(row_bits).ok_or(Refusal::RowLength)?;
         Ok((shape, meant, row_bits, b))
     }
-
-    fn end(&self) -> Result<(), Refusal> {
-        match self.rest {
-            [] => Ok(()),
-            _ => Err(Refusal::Field),
-        }
-    }
 }
 
-/// Reads a whole record: 9; 10 of field one, 1, 2; 10 of the rest.
-pub fn read(bytes: &[u8]) -> Result<Record<'_>, Refusal> {
+/// Reads the record that these bytes begin with, and gives what stands behind its
+/// sixth field: 9; 10 of field one, 1, 2; 10 of the rest.
+pub fn read_first(bytes: &[u8]) -> Result<(Record<'_>, &[u8]), Refusal> {
     let mut reader = Reader { rest: bytes };
     let (shape, meant, row_bits, b) = reader.front()?;
     let record = Record {
@@ -113,8 +107,15 @@ pub fn read(bytes: &[u8]) -> Result<Record<'_>, Refusal> {
         opening: reader.field(meant.opening_bytes())?,
         commitment: reader.field(meant.commitment_bytes())?,
     };
-    reader.end()?;
-    Ok(record)
+    Ok((record, reader.rest))
+}
+
+/// Reads a whole record: bytes left over are 10 too.
+pub fn read(bytes: &[u8]) -> Result<Record<'_>, Refusal> {
+    match read_first(bytes)? {
+        (record, []) => Ok(record),
+        _ => Err(Refusal::Field),
+    }
 }
 
 /// The bytes of the record that is written of a shape that is meant, with rows of b

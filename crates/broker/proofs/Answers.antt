@@ -13,7 +13,7 @@ use Rattle.spec.specs.Calls.{firstRefusal, rowOk, countGiven, countWith, Recons
 use Rattle.record.specs.Fields.{fieldOk}
 use Rattle.record.specs.Record.{versionOf, headBytes, versionOk, recordEnd, restOk, Contents, contentsOf, kindFits, readNumber}
 use Rattle.record.specs.RecordCalls.{answered, Work, workOf, Reconstructs, made, sameBytes, CheckRecord}
-use Rattle.record.proofs.Reconstructing.{fieldsNumber, ran-number, ran-count, ran-made, ran-kept, not-eleven, number-refused, number-steps}
+use Rattle.record.proofs.Reconstructing.{ranNumber, ran-number, ran-count, ran-made, ran-kept, not-eleven, number-refused, number-steps}
 
 -- ---- refused in reading
 
@@ -57,7 +57,7 @@ module _ (rec : List ℕ) (ok : readNumber rec ≡ 0) (x y : Reconstructed) (lon
   abbrev c : Contents
   c = contentsOf rec
 
-  said : a .number ≡ fieldsNumber c x
+  said : a .number ≡ ranNumber c x
   said = ran-number faest c x y a w
 
   pub check-work : (a .number ≡ 0 → ⊥) → CheckRecord faest rec (workOf x) (workOf y) a

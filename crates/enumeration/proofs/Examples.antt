@@ -8,15 +8,15 @@ use Rattle.spec.specs.Tree.{parent, isAncestorWithin, isAncestor, some, covered
 use Rattle.spec.specs.Challenge.{bitAt, bitsAt, indexAt}
 use Rattle.spec.specs.Shapes.{faest128f, resolved, level, challengeBytes, deeper, depthOf, firstBit, leaves, leafOf, shapeOk, hiddenIndex, hiddenLeaf, hiddenLeaves, plannedCount}
 use Rattle.listing_line.specs.Line.{digitRun, decimalFrom, numberOk, numberOf, afterNumber, behind, lastNumberOk, shapeLineOk, shapeOf}
-use Rattle.listing_text.specs.Text.{decimalWithin, decimal, refusedText}
+use Rattle.listing_text.specs.Text.{decimalWithin, decimal, refusedText, pairText}
 use Rattle.enumeration_text.specs.Listed.{openBits, challengeAt, listedAt, listed, sumOf, within, total}
-use Rattle.enumeration_text.specs.Text.{hexText, lineText, linesText, lastLine, listText}
+use Rattle.enumeration_text.specs.Text.{hexText, lineText, linesText, listText}
 use Rattle.enumeration.specs.Enumeration.{enumerationNumber, enumeration}
 
 -- two challenges, each with one node
 smallest : enumeration (49 ∷ 32 ∷ 49 ∷ 32 ∷ 49 ∷ 50 ∷ 55 ∷ 32 ∷ 49 ∷ 10 ∷ [])
     ≡ replicate 32 48 ++ (32 ∷ 49 ∷ 10 ∷ 48 ∷ 49 ∷ replicate 30 48 ++ (32 ∷ 49 ∷ 10 ∷ 50 ∷ 32 ∷ 50 ∷ 10 ∷ []))
-unfolding tabulate concat allZero number digits parent isAncestorWithin isAncestor some covered siblingToReveal revealedFrom revealed nodeCount bitAt bitsAt indexAt faest128f resolved level challengeBytes deeper depthOf firstBit leaves leafOf shapeOk hiddenIndex hiddenLeaf hiddenLeaves plannedCount digitRun decimalFrom numberOk numberOf afterNumber behind lastNumberOk shapeLineOk shapeOf decimalWithin decimal refusedText openBits challengeAt listedAt listed sumOf within total hexText lineText linesText lastLine listText enumerationNumber enumeration
+unfolding tabulate concat allZero number digits parent isAncestorWithin isAncestor some covered siblingToReveal revealedFrom revealed nodeCount bitAt bitsAt indexAt faest128f resolved level challengeBytes deeper depthOf firstBit leaves leafOf shapeOk hiddenIndex hiddenLeaf hiddenLeaves plannedCount digitRun decimalFrom numberOk numberOf afterNumber behind lastNumberOk shapeLineOk shapeOf decimalWithin decimal refusedText pairText openBits challengeAt listedAt listed sumOf within total hexText lineText linesText listText enumerationNumber enumeration
 smallest = refl
 
 -- P3, P4 and P5 of document 01 are lines 0, 12 and 1 of this shape

@@ -8,9 +8,9 @@ use lib.Dec.{ltb, eqb}
 use Rattle.spec.specs.declared.Shape.{Shape}
 use Rattle.spec.specs.Bytes.{concat}
 use Rattle.spec.specs.Shapes.{shapeOk}
-use Rattle.listing_text.specs.Text.{refusedText}
+use Rattle.listing_text.specs.Text.{refusedText, pairText}
 use Rattle.enumeration_text.specs.Listed.{openBits, listedAt, listed, within, total}
-use Rattle.enumeration_text.specs.Text.{lineText, lastLine}
+use Rattle.enumeration_text.specs.Text.{lineText}
 use Rattle.enumeration.specs.declared.Reading.{Reading}
 use Rattle.enumeration.specs.Enumeration.{shapeIn, enumerationNumber, enumeration}
 
@@ -30,7 +30,7 @@ linesFrom s from n = concat n (λ x. lineText (listedAt s (from + x)))
 
 -- the last line
 abbrev pub totalsText : Shape → List ℕ
-totalsText s = lastLine (within (s .t) (listed s)) (total (listed s))
+totalsText s = pairText (within (s .t) (listed s)) (total (listed s))
 
 -- how many pieces the lines have
 abbrev pub linePieces : Shape → ℕ

@@ -158,7 +158,7 @@ fn put_totals(s: Shape, out: &mut [u8]) -> usize
     ensures { λ r. ⌜ Put (totalsText s) 0 (now (out .entry)) (now (out .exit)) r ⌝ }
 {
     let t = count_all(s);
-    enumeration_text::put_last_line(out, t.within, t.total)
+    listing_text::put_pair(out, 0, t.within, t.total)
 }
 
 // How many pieces the lines have.

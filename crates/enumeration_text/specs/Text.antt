@@ -5,7 +5,7 @@ use mathlib.Core.List.{List, [], _∷_, _++_}
 use lib.Dec.{ltb}
 use lib.ListN.{length, getD}
 use Rattle.spec.specs.Bytes.{concat}
-use Rattle.listing_text.specs.Text.{decimal}
+use Rattle.listing_text.specs.Text.{decimal, pairText}
 use Rattle.enumeration_text.specs.Listed.{Listed, within, total}
 
 -- a lowercase hexadecimal digit, and the two of a byte
@@ -27,10 +27,6 @@ unfoldable pub linesText : List Listed → List ℕ
 linesText [] = []
 linesText (l ∷ ls) = lineText l ++ linesText ls
 
--- two numbers with a space between them
-unfoldable pub lastLine : ℕ → ℕ → List ℕ
-lastLine m n = (decimal m ++ (32 ∷ [])) ++ (decimal n ++ (10 ∷ []))
-
 -- the whole output: the lines, and what they give
 unfoldable pub listText : ℕ → List Listed → List ℕ
-listText t ls = linesText ls ++ lastLine (within t ls) (total ls)
+listText t ls = linesText ls ++ pairText (within t ls) (total ls)

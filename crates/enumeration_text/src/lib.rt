@@ -5,7 +5,7 @@ ghost use Prim.Native.Nat.{_+_, _*_, _<_, _≤_};
 ghost use lib.ListN.{length};
 ghost use Rattle.listing_text.specs.Put.{Put};
 ghost use Rattle.enumeration_text.specs.Listed.{Listed};
-ghost use Rattle.enumeration_text.specs.Text.{hexDigit, hexByte, hexText, lineText, lastLine};
+ghost use Rattle.enumeration_text.specs.Text.{hexDigit, hexByte, hexText, lineText};
 
 fn hex_digit(d: u8) -> u8
     requires { ⌜ d < 16 ⌝ }
@@ -45,15 +45,4 @@ pub fn put_listed(out: &mut [u8], at: usize, challenge: &[u8], count: usize) -> 
     let end = put_hex(out, at, challenge);
     let next = listing_text::put_byte(out, end, b' ');
     listing_text::put_line(out, next, count)
-}
-
-// The last line, two numbers of at most ten digits.
-pub fn put_last_line(out: &mut [u8], m: usize, n: usize) -> usize
-    requires { ⌜ (m < 10000000000) × (n < 10000000000) × (22 ≤ length (now out)) ⌝ }
-    ensures { λ r. ⌜ Put (lastLine m n) 0 (now (out .entry)) (now (out .exit)) r ⌝ }
-{
-    let end = listing_text::put_decimal(out, 0, m);
-    let next = listing_text::put_byte(out, end, b' ');
-    let last = listing_text::put_decimal(out, next, n);
-    listing_text::put_byte(out, last, b'\n')
 }

@@ -18,6 +18,10 @@ decimal n = decimalWithin (suc n) n
 unfoldable pub refusedText : ℕ → List ℕ
 refusedText n = (114 ∷ 101 ∷ 102 ∷ 117 ∷ 115 ∷ 101 ∷ 100 ∷ 32 ∷ []) ++ (decimal n ++ (10 ∷ []))
 
+-- two numbers with a space between them
+unfoldable pub pairText : ℕ → ℕ → List ℕ
+pairText m n = (decimal m ++ (32 ∷ [])) ++ (decimal n ++ (10 ∷ []))
+
 -- `nodes ` and the count, then each node on its own line
 unfoldable pub nodesText : List ℕ → ℕ → List ℕ
 nodesText nodes count =

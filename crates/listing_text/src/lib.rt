@@ -2,7 +2,7 @@
 ghost use mathlib.Core.List.{[], _∷_};
 ghost use Prim.Native.Nat.{ℕ, _+_, _*_, _<_, _≤_};
 ghost use lib.ListN.{length, getD};
-ghost use Rattle.listing_text.specs.Text.{decimal, refusedText, nodesText};
+ghost use Rattle.listing_text.specs.Text.{decimal, refusedText, pairText, nodesText};
 ghost use Rattle.listing_text.specs.Put.{Put, numberLine, numberLines};
 
 pub fn put_byte(out: &mut [u8], at: usize, b: u8) -> usize
@@ -68,13 +68,32 @@ fn put_lines(out: &mut [u8], at: usize, numbers: &[u32]) -> usize
     end
 }
 
-// `refused ` and the number.
+// Two numbers of at most ten digits, with a space between them, and a line feed.
+pub fn put_pair(out: &mut [u8], at: usize, m: usize, n: usize) -> usize
+    requires { ⌜ (m < 10000000000) × (n < 10000000000) × (at + 22 ≤ length (now out)) ⌝ }
+    ensures { λ r. ⌜ Put (pairText m n) at (now (out .entry)) (now (out .exit)) r × (r ≤ at + 22) ⌝ }
+{
+    let end = put_decimal(out, at, m);
+    let next = put_byte(out, end, b' ');
+    let last = put_decimal(out, next, n);
+    put_byte(out, last, b'\n')
+}
+
+// `refused ` and the number, at a place.
+pub fn put_refusal(out: &mut [u8], at: usize, number: usize) -> usize
+    requires { ⌜ (number < 100000) × (at + 14 ≤ length (now out)) ⌝ }
+    ensures { λ r. ⌜ Put (refusedText number) at (now (out .entry)) (now (out .exit)) r × (r ≤ at + 14) ⌝ }
+{
+    let end = put_bytes(out, at, b"refused ");
+    put_line(out, end, number)
+}
+
+// The same as all of the output.
 pub fn put_refused(out: &mut [u8], number: usize) -> usize
     requires { ⌜ (number < 100000) × (14 ≤ length (now out)) ⌝ }
     ensures { λ r. ⌜ Put (refusedText number) 0 (now (out .entry)) (now (out .exit)) r ⌝ }
 {
-    let at = put_bytes(out, 0, b"refused ");
-    put_line(out, at, number)
+    put_refusal(out, 0, number)
 }
 
 // `nodes ` and the count, then each node on its own line.

@@ -1,12 +1,12 @@
 -- A field in a string: what was written is read, and what was read is what is written. By the laws of `take`, `drop` and `++`.
-use Prim.Native.Nat.{ℕ, _+_, _≤_, _<_, _^_}
-use mathlib.Core.Path.{_≡_, sym, ap, ap₂, _∙_}
+use Prim.Native.Nat.{ℕ, zero, suc, _+_, _≤_, _<_, _^_}
+use mathlib.Core.Path.{_≡_, refl, sym, ap, ap₂, _∙_}
 use mathlib.Core.Bool.{true, _&&_}
-use mathlib.Core.List.{List, _++_, append-assoc}
+use mathlib.Core.List.{List, [], _∷_, _++_, append-assoc}
 use native.Mathlib.Omega.{arith}
 use lib.Dec.{leb}
 use lib.ListN.{length, take, drop, length-append, length-drop, take-append-drop}
-use lib.Seq.{take-at, drop-at, drop-drop, take-add}
+use lib.Seq.{take-at, take-take, length-take-le, drop-at, drop-drop, take-add}
 use borrow.Author.Tests.{le-leb, eq-eqb, leb-true, eqb-true}
 use Rattle.spec.specs.Bytes.{part}
 use Rattle.laws.proofs.Conjunctions.{both-true}
@@ -70,3 +70,19 @@ module _ (rec : List ℕ) (at n : ℕ) (ok : fieldOk rec at n ≡ true) where
       ∙ ap₂ (λ (a b : List ℕ). a ++ b)
       (take-add 4 n (drop at rec) ∙ ap₂ (λ (a b : List ℕ). a ++ b) head (ap (take n) (drop-drop 4 at rec)))
       (drop-drop (4 + n) at rec ∙ ap (λ (m : ℕ). drop m rec) (let z : at + (4 + n) ≡ at + 4 + n = omega arith in z))
+
+-- ---- a string cut at e, behind a field
+
+part-cut : (e : ℕ) (rec : List ℕ) (at n : ℕ) → at + n ≤ e → part (take e rec) at n ≡ part rec at n
+part-cut e rec zero n h = take-take n e rec (omega arith)
+part-cut zero rec (suc at) n h = absurd (omega arith)
+part-cut (suc e) [] (suc at) n h = refl
+part-cut (suc e) (x ∷ rec) (suc at) n h = part-cut e rec at n (omega arith)
+
+pub field-cut : (e : ℕ) (rec : List ℕ) (at n : ℕ) → behind at n ≤ e → fieldAt (take e rec) at n ≡ fieldAt rec at n
+field-cut e rec at n h = part-cut e rec (at + 4) n h
+
+pub field-kept : (e : ℕ) (rec : List ℕ) (at n : ℕ) → behind at n ≤ e → e ≤ length rec → fieldOk rec at n ≡ true → fieldOk (take e rec) at n ≡ true
+unfolding fieldOk
+field-kept e rec at n h l ok =
+    rw (length-take-le e rec l, le-leb (at + 4 + n) e h, part-cut e rec at 4 (omega arith)) (both-true (leb (at + 4 + n) (length rec)) _ ok .1)

@@ -5,5 +5,6 @@ pub mod Fields
 pub mod Bounds
 pub mod SameBytes
 pub mod ReadBack
+pub mod Cut
 pub mod Reconstructing
 pub mod Host

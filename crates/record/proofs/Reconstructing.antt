@@ -26,8 +26,8 @@ abbrev pub lent : Contents → Work → Reconstructed
 lent c x = record { commitment = zeros (hashBytes (resolved (c .shape))); tree = x .tree; leafCommitments = x .leafCommitments; q = x .q }
 
 -- what reconstruct answers of the fields and its buffers
-unfoldable pub fieldsNumber : Contents → Reconstructed → ℕ
-fieldsNumber c x =
+unfoldable pub ranNumber : Contents → Reconstructed → ℕ
+ranNumber c x =
     let s = resolved (c .shape) in
     reconstructNumber s (c .row) (c .challenge) (c .opening) (reconstructLengths s (c .row / 8) (c .iv) (c .challenge) (c .corrections) (c .opening) x)
 
@@ -37,8 +37,8 @@ countOf c = plannedCount (resolved (c .shape)) (c .challenge)
 -- ---- what its contract says
 
 module _ (P : Primitives) (c : Contents) (x y : Reconstructed) (a : Answer) (w : Reconstructs P c x y a) where
-  pub ran-number : a .number ≡ fieldsNumber c x
-  unfolding fieldsNumber
+  pub ran-number : a .number ≡ ranNumber c x
+  unfolding ranNumber
   ran-number = w .number
 
   pub ran-count : a .count ≡ countWith (a .number) (plannedCount (resolved (c .shape)) (c .challenge))
@@ -65,14 +65,14 @@ on-fields P c e₁ e₂ e₃ e₄ e₅ e₆ w = rw (e₁, e₂, e₃, e₄, e₅
 
 -- it answers
 pub reconstructs : (P : Primitives) (c : Contents) (x : Reconstructed)
-    → Reconstructs P c x (written (fieldsNumber c x) (made P c) x) (record { number = fieldsNumber c x; count = countWith (fieldsNumber c x) (countOf c) })
-unfolding fieldsNumber made
+    → Reconstructs P c x (written (ranNumber c x) (made P c) x) (record { number = ranNumber c x; count = countWith (ranNumber c x) (countOf c) })
+unfolding ranNumber made
 reconstructs P c x = record { number = refl; count = refl; buffers = refl }
 
 -- ---- its number
 
-pub not-eleven : (c : Contents) (x : Reconstructed) → eqb (fieldsNumber c x) 11 ≡ false
-unfolding fieldsNumber reconstructNumber
+pub not-eleven : (c : Contents) (x : Reconstructed) → eqb (ranNumber c x) 11 ≡ false
+unfolding ranNumber reconstructNumber
 not-eleven c x =
     let s = resolved (c .shape) in
     go (shapeOk s) (rowOk (c .row)) (fits (reconstructLengths s (c .row / 8) (c .iv) (c .challenge) (c .corrections) (c .opening) x))
@@ -89,9 +89,9 @@ not-eleven c x =
 
 -- of its tests those that reading leaves open decide
 pub open-decide : (rec : List ℕ) (x : Reconstructed) → readNumber rec ≡ 0 → length (x .commitment) ≡ hashBytes (resolved (contentsOf rec .shape))
-    → fieldsNumber (contentsOf rec) x
+    → ranNumber (contentsOf rec) x
     ≡ (let c = contentsOf rec in firstRefusal (workTests c (workLengths (resolved (c .shape)) (c .row / 8) (workOf x))))
-unfolding fieldsNumber reconstructNumber
+unfolding ranNumber reconstructNumber
 open-decide rec x ok e =
     let q = read-sized rec ok in
     rw (
@@ -106,7 +106,7 @@ open-decide rec x ok e =
     refl
 
 -- where it is 0 the shape and the row length are allowed and the fields have their lengths
-pub fields-fit : (c : Contents) (x : Reconstructed) → fieldsNumber c x ≡ 0
+pub fields-fit : (c : Contents) (x : Reconstructed) → ranNumber c x ≡ 0
     → (shapeOk (resolved (c .shape)) ≡ true)
     × (rowOk (c .row) ≡ true)
     × Sized
@@ -115,7 +115,7 @@ pub fields-fit : (c : Contents) (x : Reconstructed) → fieldsNumber c x ≡ 0
     ∷ (length (c .corrections), correctionsBytes (resolved (c .shape)) (c .row / 8))
     ∷ (length (c .opening), openingBytes (resolved (c .shape)))
     ∷ [])
-unfolding fieldsNumber reconstructNumber
+unfolding ranNumber reconstructNumber
 fields-fit c x z =
     let s = resolved (c .shape) in
     let lengths = reconstructLengths s (c .row / 8) (c .iv) (c .challenge) (c .corrections) (c .opening) x in
@@ -166,13 +166,13 @@ module _ (P : Primitives) (rec : List ℕ) where
       → recordNumber P rec (workLengths (resolved (contentsOf rec .shape)) (contentsOf rec .row / 8) (workOf x))
       ≡ firstRefusal
       ((eqb (readNumber rec) 0, readNumber rec)
-      ∷ (eqb (fieldsNumber (contentsOf rec) x) 0, fieldsNumber (contentsOf rec) x)
+      ∷ (eqb (ranNumber (contentsOf rec) x) 0, ranNumber (contentsOf rec) x)
       ∷ (sameBytes (made P (contentsOf rec) .commitment) (contentsOf rec .commitment), 11)
       ∷ [])
   number-steps x e = go (eqb (readNumber rec) 0) refl
     where
       go : (t : Bool) → eqb (readNumber rec) 0 ≡ t
           → recordNumber P rec (workLengths (resolved (c .shape)) (c .row / 8) (workOf x))
-          ≡ firstRefusal ((eqb (readNumber rec) 0, readNumber rec) ∷ (eqb (fieldsNumber c x) 0, fieldsNumber c x) ∷ Last)
+          ≡ firstRefusal ((eqb (readNumber rec) 0, readNumber rec) ∷ (eqb (ranNumber c x) 0, ranNumber c x) ∷ Last)
       go true t = (let ok = eqb-true (readNumber rec) 0 t in number-read (workLengths (resolved (c .shape)) (c .row / 8) (workOf x)) ok ∙ sym (rw (t, open-decide rec x ok e) refl))
       go false t = number-refused (workLengths (resolved (c .shape)) (c .row / 8) (workOf x)) (eqb-false (readNumber rec) 0 t) ∙ sym (rw t refl)

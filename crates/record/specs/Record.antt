@@ -107,15 +107,29 @@ headTests rec =
     ∷ (rowOk (contentsOf rec .row), 2)
     ∷ []
 
-abbrev pub restTests : List ℕ → List (Bool × ℕ)
-restTests rec =
+-- fields two to six are there; the sixth ends at `endOf`, and nothing stands behind it
+abbrev pub fieldsTest : List ℕ → Bool × ℕ
+fieldsTest rec =
     let h = headBytes (versionOf rec) in
     let s = resolved (contentsOf rec .shape) in
     let b = contentsOf rec .row / 8 in
-    (restOk h s b rec, 10) ∷ (eqb (length rec) (recordEnd h s b), 10) ∷ []
+    (restOk h s b rec, 10)
+
+abbrev pub endOf : List ℕ → ℕ
+endOf rec = recordEnd (headBytes (versionOf rec)) (resolved (contentsOf rec .shape)) (contentsOf rec .row / 8)
+
+abbrev pub restTests : List ℕ → List (Bool × ℕ)
+restTests rec = fieldsTest rec ∷ (eqb (length rec) (endOf rec), 10) ∷ []
 
 unfoldable pub headNumber : List ℕ → ℕ
 headNumber rec = firstRefusal (headTests rec)
+
+-- reading without the end: bytes may stand behind the sixth field
+abbrev pub fieldsTests : List ℕ → List (Bool × ℕ)
+fieldsTests rec = headTests rec ++ (fieldsTest rec ∷ [])
+
+unfoldable pub fieldsNumber : List ℕ → ℕ
+fieldsNumber rec = firstRefusal (fieldsTests rec)
 
 unfoldable pub readNumber : List ℕ → ℕ
 readNumber rec = firstRefusal (headTests rec ++ restTests rec)

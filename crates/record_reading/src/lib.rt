@@ -4,7 +4,7 @@ ghost use mathlib.Core.Bool.{true};
 ghost use Prim.Native.Nat.{_/_, _≤_};
 ghost use Rattle.spec.specs.Shapes.{resolved, shapeOk};
 ghost use Rattle.record.specs.Fields.{fieldOk};
-ghost use Rattle.record.specs.Record.{versionOf, headBytes, versionOk, headOf, contentsOf, headNumber, readNumber, restOk};
+ghost use Rattle.record.specs.Record.{versionOf, headBytes, versionOk, headOf, contentsOf, headNumber, fieldsNumber, endOf, readNumber, restOk};
 use spec::Shape;
 
 // The head, by the version.
@@ -96,9 +96,9 @@ fn rest_ok(bytes: &[u8], h: usize, s: Shape, b: usize) -> bool
         )
 }
 
-// The front, then 10 for the rest and for bytes left over, or 0: the record is read.
-pub fn read_number(bytes: &[u8]) -> usize
-    ensures { λ r. ⌜ r ≡ readNumber (now (bytes .entry)) ⌝ }
+// The front, then 10 for a field of the rest that is not there, or 0. What stands behind the sixth field is not looked at.
+pub fn fields_number(bytes: &[u8]) -> usize
+    ensures { λ r. ⌜ r ≡ fieldsNumber (now (bytes .entry)) ⌝ }
 {
     let number = head_number(bytes);
     if number != 0 {
@@ -106,11 +106,31 @@ pub fn read_number(bytes: &[u8]) -> usize
     }
     let h = record_fields::head_bytes(bytes);
     let s = resolved_shape(bytes);
-    let b = row_bytes(bytes);
-    if !rest_ok(bytes, h, s, b) {
+    if !rest_ok(bytes, h, s, row_bytes(bytes)) {
         return 10;
     }
-    if bytes.len() != record_fields::record_end(h, s, b) {
+    0
+}
+
+// Where the sixth field ends, by the front.
+pub fn end_of(bytes: &[u8]) -> usize
+    requires { ⌜ headNumber (now bytes) ≡ 0 ⌝ }
+    ensures { λ r. ⌜ r ≡ endOf (now (bytes .entry)) ⌝ }
+{
+    let h = record_fields::head_bytes(bytes);
+    let s = resolved_shape(bytes);
+    record_fields::record_end(h, s, row_bytes(bytes))
+}
+
+// The same, and 10 for bytes left over, or 0: the record is read.
+pub fn read_number(bytes: &[u8]) -> usize
+    ensures { λ r. ⌜ r ≡ readNumber (now (bytes .entry)) ⌝ }
+{
+    let number = fields_number(bytes);
+    if number != 0 {
+        return number;
+    }
+    if bytes.len() != end_of(bytes) {
         return 10;
     }
     0

@@ -29,7 +29,7 @@ use Rattle.laws.proofs.Words.{count-slice}
 use Rattle.laws.proofs.Refusals.{none-failed, all-passed}
 use Rattle.record.proofs.SameBytes.{same-refl, same-equal}
 use Rattle.record.proofs.ReadBack.{Lengths, contents-back, reads-back, first-contents, first-reads, read-kind, read-only}
-use Rattle.record.proofs.Reconstructing.{lent, fieldsNumber, ran-number, ran-made, reconstructs, fields-fit, number-steps}
+use Rattle.record.proofs.Reconstructing.{lent, ranNumber, ran-number, ran-made, reconstructs, fields-fit, number-steps}
 use Rattle.record_theorems.specs.Claims.{ReadBack, Version1Read, Ran, Steps, Accepts, AcceptedMeans, Honest, HonestAccepted, Exported}
 
 -- ---- reading back
@@ -158,7 +158,7 @@ unfolding countWith
 honest s n root iv ch opening opening′ before after signer signer′ work work′ made₀ opened wrote checked m mz o w k sized grinding within =
     let c : Contents = record { shape = s; row = n; iv = iv; challenge = ch; corrections = signer′ .corrections; opening = opening′; commitment = signer′ .commitment } in
     let x = lent c work in
-    let number = fieldsNumber c x in
+    let number = ranNumber c x in
     let y : Reconstructed = written number (made faest c) x in
     let a : Answer = record { number = number; count = countWith number (plannedCount (resolved s) ch) } in
     let ran = reconstructs faest c x in

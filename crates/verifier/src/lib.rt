@@ -2,10 +2,9 @@
 ghost use mathlib.Core.Path.{_≡_};
 ghost use mathlib.Core.Bool.{true};
 ghost use mathlib.Core.List.{[], _∷_};
-ghost use Prim.Native.Nat.{_+_, _*_, _≤_};
-ghost use lib.ListN.{length, drop};
-ghost use Rattle.spec.specs.Bytes.{allZero};
-ghost use Rattle.spec.specs.Shapes.{nodeBytes, challengeBytes, leafCommitmentBytes, hashBytes, ivBytes, shapeOk, plannedCount, treeBytes, leafCommitmentsBytes, openingBytes, matrixBytes, correctionsBytes};
+ghost use Prim.Native.Nat.{_≤_};
+ghost use lib.ListN.{length};
+ghost use Rattle.spec.specs.Shapes.{challengeBytes, hashBytes, ivBytes, shapeOk, plannedCount, treeBytes, leafCommitmentsBytes, openingBytes, matrixBytes, correctionsBytes};
 ghost use Rattle.spec.specs.Primitives.{faest};
 ghost use Rattle.spec.specs.Calls.{fits, Reconstruct, ReconstructStretch};
 use spec::Answer;
@@ -55,15 +54,6 @@ fn count_nodes(s: Shape, ch: &[u8]) -> usize
 {
     let mut nodes = [0u32; 512];
     planning::revealed_nodes(s, ch, &mut nodes)
-}
-
-// Whether the slots of an opening behind the first n are zeros.
-fn slots_clear(s: Shape, n: usize, opening: &[u8]) -> bool
-    requires { ⌜ (shapeOk s ≡ true) × (n ≤ s .t) × (length (now opening) ≡ openingBytes s) ⌝ }
-    ensures { λ r. ⌜ r ≡ allZero (drop (leafCommitmentBytes s * s .tau + nodeBytes s * n) (now (opening .entry))) ⌝ }
-{
-    let first = rules::commitment_bytes(s) * s.tau;
-    buffers::is_clear_from(opening, first + rules::node_bytes(s) * n)
 }
 
 // RECONSTRUCT, of a stretch: the commitment, the tree with zeros for its covered nodes, the leaf commitments and the stretch of every column of Q, from an opening and
@@ -118,7 +108,7 @@ pub fn reconstruct_stretch(
     if s.t < n {
         return rules::answer(5, n);
     }
-    if !slots_clear(s, n, opening) {
+    if !slots::slots_clear(s, n, opening) {
         return rules::answer(6, n);
     }
     reconstruction::write_reconstruction(

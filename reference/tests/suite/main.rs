@@ -12,5 +12,6 @@ mod primitives;
 mod proved_examples;
 mod records;
 mod refusals;
+mod report;
 mod roundtrip;
 mod support;

@@ -3,8 +3,8 @@ use Prim.Native.Nat.{ℕ}
 use mathlib.Core.Path.{_≡_, ap₂, subst}
 use mathlib.Core.List.{List}
 use borrow.Author.Needs.{needs}
+use Rattle.listing_text.specs.Text.{pairText}
 use Rattle.listing_text.specs.Put.{Put}
-use Rattle.enumeration_text.specs.Text.{lastLine}
 use Rattle.enumeration.proofs.put_totals.Statement.{statement}
 use Rattle.enumeration.proofs.put_totals.Tie as tie
 
@@ -15,7 +15,7 @@ returns : tie.Need-returns
 returns c =
     let p = c .before .before in
     let n = p .before .before .count-all .ensures in
-    put-same (ap₂ lastLine (n .0) (n .1)) (p .put-last-line .ensures)
+    put-same (ap₂ pairText (n .0) (n .1)) (p .put-pair .ensures .0)
 
 pub put-totals-spec : {M : Type 1} → statement M
 put-totals-spec = tie.close (tie.spec (λ c κs. search needs) (λ c κs. search needs) (λ c. search needs) returns)

@@ -1,54 +1,27 @@
--- Where the front is read the rest decides, and else the front: one law of `Reading` for each way out.
+-- Where the fields are there the end decides, and else the fields: one law of `Reading` for each way out.
 use borrow.Author.Needs.{needs}
 use mathlib.Core.Path.{sym, _∙_}
-use Rattle.laws.proofs.Tests.{failed, passed}
-use Rattle.record_reading.proofs.Reading.{front-decides, read-missing, read-left-over, read-whole}
+use Rattle.record_reading.proofs.Reading.{fields-front, fields-decide, read-left-over, read-whole}
 use Rattle.record_reading.proofs.read_number.Statement.{statement}
 use Rattle.record_reading.proofs.read_number.Tie as tie
 
 returns : tie.Need-returns
 returns c =
-    let e = c .before .head-number .ensures in
-    e ∙ sym (front-decides _ (λ z. c .if1 .taken (e ∙ z)))
+    let e = c .before .fields-number .ensures in
+    e ∙ sym (fields-decide _ (λ z. c .if1 .taken (e ∙ z)))
+
+end-of-requires : tie.Need-end-of-requires
+end-of-requires c κs = fields-front _ (sym (c .before .fields-number .ensures) ∙ c .if1 .left)
 
 returns-2 : tie.Need-returns-2
 returns-2 c =
-    let re = c .before in
-    let sh = re .before .before in
-    let ok = sym (sh .before .before .before .head-number .ensures) ∙ sh .before .before .if1 .left in
-    sym
-    (read-missing _ _ _ _ ok (sh .before .head-bytes .ensures .0) (sh .resolved-shape .ensures .0) (re .before .row-bytes .ensures .0)
-    (failed (re .rest-ok .ensures) (c .if2 .taken)))
+    let f = c .before .before in
+    sym (read-left-over _ (sym (f .before .fields-number .ensures) ∙ f .if1 .left) (λ n. c .if2 .taken (n ∙ sym (c .before .end-of .ensures))))
 
 returns-3 : tie.Need-returns-3
 returns-3 c =
-    let re = c .before .before .before in
-    let sh = re .before .before in
-    let ok = sym (sh .before .before .before .head-number .ensures) ∙ sh .before .before .if1 .left in
-    sym
-    (read-left-over _ _ _ _ ok (sh .before .head-bytes .ensures .0) (sh .resolved-shape .ensures .0) (re .before .row-bytes .ensures .0)
-    (passed (re .rest-ok .ensures) (c .before .before .if2 .left)) (λ n. c .if3 .taken (n ∙ sym (c .before .record-end .ensures .0))))
-
-returns-4 : tie.Need-returns-4
-returns-4 c =
-    let re = c .before .before .before in
-    let sh = re .before .before in
-    let ok = sym (sh .before .before .before .head-number .ensures) ∙ sh .before .before .if1 .left in
-    sym
-    (read-whole _ _ _ _ ok (sh .before .head-bytes .ensures .0) (sh .resolved-shape .ensures .0) (re .before .row-bytes .ensures .0)
-    (passed (re .rest-ok .ensures) (c .before .before .if2 .left)) (c .if3 .left ∙ c .before .record-end .ensures .0))
+    let f = c .before .before in
+    sym (read-whole _ (sym (f .before .fields-number .ensures) ∙ f .if1 .left) (c .if2 .left ∙ c .before .end-of .ensures))
 
 pub read-number-spec : {M : Type 1} → statement M
-read-number-spec =
-    tie.close
-    (tie.spec
-    (λ c κs. search needs)
-    returns
-    (λ c κs. search needs)
-    (λ c κs. search needs)
-    (λ c κs. search needs)
-    (λ c κs. search needs)
-    returns-2
-    (λ c κs. search needs)
-    returns-3
-    returns-4)
+read-number-spec = tie.close (tie.spec (λ c κs. search needs) returns end-of-requires returns-2 returns-3)

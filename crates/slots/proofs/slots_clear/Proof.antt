@@ -8,8 +8,8 @@ use Rattle.spec.specs.Bytes.{allZero}
 use Rattle.spec.specs.Shapes.{nodeBytes, leafCommitmentBytes, openingBytes}
 use Rattle.laws.proofs.Concat.{mul-limit, mul-rest}
 use Rattle.planning_laws.proofs.ShapeFacts.{shape-facts}
-use Rattle.verifier.proofs.slots_clear.Statement.{statement}
-use Rattle.verifier.proofs.slots_clear.Tie as tie
+use Rattle.slots.proofs.slots_clear.Statement.{statement}
+use Rattle.slots.proofs.slots_clear.Tie as tie
 
 mul-first : tie.Need-mul-first
 mul-first c =

@@ -1,11 +1,11 @@
 -- A number, a space, a number and a line feed; the numbers have at most ten digits each.
 use native.Mathlib.Omega.{arith}
 use borrow.Author.Needs.{needs}
 use Rattle.listing_text.proofs.Decimal.{decimal-length}
 use Rattle.listing_text.proofs.Writing.{put-next}
-use Rattle.enumeration_text.specs.Text.{lastLine}
-use Rattle.enumeration_text.proofs.put_last_line.Statement.{statement}
-use Rattle.enumeration_text.proofs.put_last_line.Tie as tie
+use Rattle.listing_text.specs.Text.{pairText}
+use Rattle.listing_text.proofs.put_pair.Statement.{statement}
+use Rattle.listing_text.proofs.put_pair.Tie as tie
 
 put-decimal-requires : tie.Need-put-decimal-requires
 put-decimal-requires c κs = (let st = c .before .before in omega (arith, st .pre .2, decimal-length 9 (st .args .m) (st .pre .0)))
@@ -52,15 +52,26 @@ put-byte-requires-2 c κs =
     )
 
 returns : tie.Need-returns
-unfolding lastLine
+unfolding pairText
 returns c =
     let f = c .before .before in
     let e = f .before .before .before .before in
     let b = e .before .before .before .before in
     let d = b .before .before .before .before in
-    put-next (put-next (d .put-decimal .ensures) (b .put-byte .ensures)) (put-next (e .put-decimal2 .ensures) (f .put-byte2 .ensures))
+    let st = d .before .before .before in (
+      put-next (put-next (d .put-decimal .ensures) (b .put-byte .ensures)) (put-next (e .put-decimal2 .ensures) (f .put-byte2 .ensures)),
+      omega (
+        arith,
+        decimal-length 9 (st .args .m) (st .pre .0),
+        decimal-length 9 (st .args .n) (st .pre .1),
+        d .put-decimal .ensures .end,
+        b .put-byte .ensures .end,
+        e .put-decimal2 .ensures .end,
+        f .put-byte2 .ensures .end,
+      ),
+    )
 
-pub put-last-line-spec : {M : Type 1} → statement M
-put-last-line-spec =
+pub put-pair-spec : {M : Type 1} → statement M
+put-pair-spec =
     tie.close
     (tie.spec put-decimal-requires put-byte-requires put-decimal-requires-2 put-byte-requires-2 (λ c. search needs) returns)
