@@ -15,7 +15,7 @@
  * rachnoel_number reads one.
  *
  * A call returns 0, or the number of the first refusal that applies. With 0 the outputs and the count are written, and so they are with 11; with 5 and 6 the count alone;
- * with any other number nothing. A slice of another length, the count's too, is refusal 3. */
+ * with any other number nothing. A slice of another length, the count's too, is refusal 3; a record of another length is 9 or 10. */
 #ifndef RACHNOEL_H
 #define RACHNOEL_H
 

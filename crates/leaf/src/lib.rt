@@ -1,4 +1,4 @@
-// FAEST.LeafCommit and FAEST-EM.LeafCommit of document 000, section 5.1: from the leaf of an entry its seed and its commitment. The leaf kind is seen here alone.
+// FAEST.LeafCommit and FAEST-EM.LeafCommit of document 000, section 5.1: from the leaf of an entry its seed and its commitment. Beside the shape rules and the record the leaf kind is seen here alone.
 ghost use mathlib.Core.Path.{_≡_};
 ghost use mathlib.Core.Bool.{true, false};
 ghost use mathlib.Core.List.{List};

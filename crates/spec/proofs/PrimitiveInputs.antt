@@ -26,6 +26,21 @@ pub generator-input : (key : List ℕ) →
 unfolding tabulate number digits addToWord generatorBlock
 generator-input key = refl
 
+-- the same with keys of six and of eight words: 12 and 14 rounds
+pub generator-input-192 : (key : List ℕ) →
+    generatorBlock 6 key iv (2 ^ 31 + 3) 5
+    ≡ bytesOf
+    (cipher 12 (keyExpansion 6 key) ((3 ∷ 0 ∷ 0 ∷ 0 ∷ []) ∷ (32 ∷ 33 ∷ 34 ∷ 35 ∷ []) ∷ (36 ∷ 37 ∷ 38 ∷ 39 ∷ []) ∷ (2 ∷ 0 ∷ 0 ∷ 0 ∷ []) ∷ []))
+unfolding tabulate number digits addToWord generatorBlock
+generator-input-192 key = refl
+
+pub generator-input-256 : (key : List ℕ) →
+    generatorBlock 8 key iv (2 ^ 31 + 3) 5
+    ≡ bytesOf
+    (cipher 14 (keyExpansion 8 key) ((3 ∷ 0 ∷ 0 ∷ 0 ∷ []) ∷ (32 ∷ 33 ∷ 34 ∷ 35 ∷ []) ∷ (36 ∷ 37 ∷ 38 ∷ 39 ∷ []) ∷ (2 ∷ 0 ∷ 0 ∷ 0 ∷ []) ∷ []))
+unfolding tabulate number digits addToWord generatorBlock
+generator-input-256 key = refl
+
 -- and for the last byte of the longest row, in block 511: the block's number carries into byte 1 of its word
 pub generator-last-byte : (key : List ℕ) →
     generatorByte 4 key iv (2 ^ 31 + 3) 8191

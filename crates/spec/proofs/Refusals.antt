@@ -55,6 +55,8 @@ Levels =
     (shapeOk (at 192 16 12 0 512) ≡ true)
     × (shapeOk (at 192 32 2 127 1) ≡ true)
     × (shapeOk (at 192 32 4 0 512) ≡ false)
+    × (shapeOk (at 192 32 2 128 1) ≡ false)
+    × (shapeOk (at 256 32 4 128 1) ≡ false)
     × (shapeOk (at 192 16 12 1 512) ≡ false)
     × (shapeOk (at 192 15 12 11 512) ≡ false)
     × (shapeOk (at 256 32 8 0 512) ≡ true)
@@ -69,7 +71,7 @@ Levels =
 
 pub levels : Levels
 unfolding level shapeOk deeper depthOf
-levels = (refl, refl, refl, refl, refl, refl, refl, refl, refl, refl, refl, refl, refl, refl)
+levels = (refl, refl, refl, refl, refl, refl, refl, refl, refl, refl, refl, refl, refl, refl, refl, refl)
 
 -- the other sets of document 000, section 3.1, with kind 0: allowed, their leaves, and the bytes of an opening
 abbrev pub Sets : Type 0
@@ -95,6 +97,9 @@ em level tau k w t = record { tau = tau; k = k; w = w; t = t; level = level; kin
 abbrev pub ofKind : ℕ → Shape
 ofKind kind = record { tau = 2; k = 2; w = 124; t = 4; level = 128; kind = kind }
 
+abbrev pub zerosOfKind2 : Shape
+zerosOfKind2 = record { tau = 0; k = 0; w = 0; t = 0; level = 128; kind = 2 }
+
 -- 0 and 1; four zeros are no shape with kind 1
 abbrev pub Kinds : Type 0
 Kinds =
@@ -103,11 +108,12 @@ Kinds =
     × (shapeOk (ofKind 2) ≡ false)
     × (shapeOk (ofKind 255) ≡ false)
     × (resolved (em 128 0 0 0 0) ≡ em 128 0 0 0 0)
+    × (resolved zerosOfKind2 ≡ zerosOfKind2)
     × (shapeOk (em 128 0 0 0 0) ≡ false)
 
 pub kinds : Kinds
 unfolding allZero faest128f resolved level shapeOk deeper depthOf
-kinds = (refl, refl, refl, refl, refl, refl)
+kinds = (refl, refl, refl, refl, refl, refl, refl)
 
 -- the sets of document 000, section 3.1, with kind 1: allowed, their leaves, and the bytes of an opening
 abbrev pub EmSets : Type 0

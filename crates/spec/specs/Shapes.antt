@@ -9,7 +9,7 @@ use Rattle.spec.specs.Bytes.{tabulate, allZero}
 use Rattle.spec.specs.Challenge.{indexAt, clearAt}
 use Rattle.spec.specs.Tree.{revealed, nodeCount}
 
--- FAEST-128s and FAEST-128f (document 000, tables 3.2 and 5.1, whose k is k + 1 here)
+-- FAEST-128s and FAEST-128f (document 000, tables 3.2 and 5.1; what is called k there is k + 1 here)
 unfoldable pub faest128s : Shape
 faest128s = record { tau = 11; k = 11; w = 7; t = 102; level = 128; kind = 0 }
 

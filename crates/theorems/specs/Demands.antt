@@ -44,7 +44,7 @@ pub record Five (s : Shape) (ch : List ℕ) (r : Answer) : Type 0 where
   pub count : r .number ≡ 5 → r .count ≡ plannedCount s ch
 
 -- Demand 3. In `accepted` the lengths that the host still chooses are premises; those of the tree, the leaf commitments, the corrections and the opening
--- follow from the calls before. All 128 columns are meant.
+-- follow from the calls before. All columns are meant, as many as the level has bits.
 pub record Demand3 (P : Primitives) : Type 0 where
   pub accepted :
       (s : Shape) (n : ℕ) (root iv ch opening opening′ : List ℕ) (signer signer′ : Committed) (verifier verifier′ : Reconstructed) (made opened checked : Answer)
