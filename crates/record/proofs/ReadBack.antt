@@ -5,8 +5,8 @@ use mathlib.Core.Bool.{Bool, true, false, cond, true≢false}
 use mathlib.Core.List.{List, [], _∷_, _++_, append-nil}
 use native.Mathlib.Omega.{arith}
 use lib.Dec.{eqb, ltb}
-use lib.ListN.{length, take, drop, getD, length-append, length-drop, take-append-drop, drop-of-length-le}
-use lib.Seq.{take-at, drop-at, drop-drop, drop-cons, take-all, getD-drop}
+use lib.ListN.{length, take, drop, getD, length-append, take-append-drop, drop-of-length-le}
+use lib.Seq.{take-at, drop-at, drop-drop, drop-cons, getD-drop}
 use borrow.Author.Tests.{eq-eqb, eqb-true}
 use Rattle.spec.specs.declared.Shape.{Shape}
 use Rattle.spec.specs.Bytes.{part}
@@ -19,8 +19,8 @@ use Rattle.laws.proofs.Numbers.{Digits}
 use Rattle.laws.proofs.Strings.{digits-part}
 use Rattle.laws.proofs.Refusals.{Passed, none-failed, all-passed}
 use Rattle.planning_laws.proofs.ShapeFacts.{shape-facts, widths}
-use Rattle.record.specs.Fields.{bigEndian, bigEndianBytes, fieldOk, fieldAt, fieldOf}
-use Rattle.record.specs.Record.{versionOf, headBytes, versionOk, headOf, shapeIn, rowIn, ivPlace, challengePlace, correctionsPlace, openingPlace, commitmentPlace, recordEnd, restOk, Contents, contentsOf, headTests, restTests, readNumber, versionFor, headFor, restOf, recordOf, recordBytes, headOfVersion1, recordOfVersion1}
+use Rattle.record.specs.Fields.{bigEndian, bigEndianBytes, fieldOk, fieldOf}
+use Rattle.record.specs.Record.{versionOf, headBytes, versionOk, headOf, shapeIn, rowIn, ivPlace, challengePlace, correctionsPlace, openingPlace, commitmentPlace, recordEnd, restOk, Contents, contentsOf, headTests, restTests, readNumber, versionFor, headFor, restOf, recordOf, headOfVersion1, recordOfVersion1}
 use Rattle.record.proofs.Numbers.{big-endian-bytes, length-big-endian, bytes-big-endian}
 use Rattle.record.proofs.Fields.{field-stands, field-read, field-behind, field-end, field-room, field-length, field-written}
 use Rattle.record.proofs.Bounds.{head-small, given-small, row-small, corrections-small, opening-small}

@@ -1,6 +1,5 @@
 -- A challenge is as long as a node.
 use borrow.Author.Needs.{needs}
-use mathlib.Core.Path.{_∙_}
 use Rattle.spec.specs.Shapes.{nodeBytes, challengeBytes}
 use Rattle.record_fields.proofs.challenge_length.Statement.{statement}
 use Rattle.record_fields.proofs.challenge_length.Tie as tie

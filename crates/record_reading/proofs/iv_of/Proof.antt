@@ -1,6 +1,5 @@
 -- Reading tests the field and its place.
 use borrow.Author.Needs.{needs}
-use native.Mathlib.Omega.{arith}
 use Rattle.record.specs.Record.{contentsOf}
 use Rattle.record.proofs.Fields.{field-room}
 use Rattle.record.proofs.ReadBack.{read-rest}

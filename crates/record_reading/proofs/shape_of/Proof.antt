@@ -2,7 +2,7 @@
 use borrow.Author.Needs.{needs}
 use mathlib.Core.Path.{ap, ap₂, _∙_}
 use lib.ListN.{length}
-use Rattle.record.specs.Record.{headBytes, shapeIn, contentsOf}
+use Rattle.record.specs.Record.{shapeIn, contentsOf}
 use Rattle.record_reading.proofs.Reading.{head-bytes, head-long}
 use Rattle.record_reading.proofs.shape_of.Statement.{statement}
 use Rattle.record_reading.proofs.shape_of.Tie as tie
