@@ -1,18 +1,20 @@
--- The first entry, and those of what is left behind it: by induction on the bytes left.
+-- The entries are the first, and those of what is left behind it: by induction on the bytes left. A longer input is refused, and so is its front.
 use Prim.Native.Nat.{ℕ, zero, suc, _+_, _≤_, _<_}
 use mathlib.Core.Path.{_≡_, refl, sym, ap, _∙_, subst}
 use mathlib.Core.Bool.{true, false}
 use mathlib.Core.List.{List, [], _∷_}
 use native.Mathlib.Omega.{arith}
-use native.Mathlib.Decide.{ℕ-discrete}
+use native.Mathlib.Decide.{ℕ-discrete, decLt}
 use lib.ListN.{length, getD, take, drop, length-drop}
-use lib.Seq.{drop-drop}
+use lib.Seq.{drop-drop, take-all, length-take-le}
+use borrow.Author.Tests.{lt-leb}
 use Rattle.spec.specs.Bytes.{part}
 use Rattle.laws.proofs.Conjunctions.{refuted, contrary}
 use Rattle.record.specs.Record.{contentsOf, fieldsNumber, readNumber}
 use Rattle.record.proofs.Cut.{cut-read, cut-contents}
 use Rattle.report_text.specs.declared.Entry.{Entry}
 use Rattle.report_text.specs.Entries.{stops, entryOf, entriesWithin, entries, sumOf}
+use Rattle.report_text.specs.Text.{reportText}
 use Rattle.report_text.specs.Claims.{beginOf, Consecutive, Claims}
 use Rattle.report_text.proofs.Entries.{Bounds, bounds, entry-stopping, entry-end, entries-next, stopped}
 
@@ -83,5 +85,15 @@ within (suc n) (x ∷ xs) h =
     subst (Consecutive (x ∷ xs)) (sym (entries-next (x ∷ xs) (omega arith)))
     (consecutive (x ∷ xs) (entries rest) (omega arith) (within n rest (omega arith)) (λ z. ap entries (stopped (x ∷ xs) z)))
 
+first-bytes : (input : List ℕ) → reportText (take 65537 input) ≡ reportText input
+unfolding reportText
+first-bytes input = go (decLt 65536 (length input))
+  where
+    go : Dec (65536 < length input) → reportText (take 65537 input) ≡ reportText input
+    go (no h) = ap reportText (take-all 65537 input (omega arith))
+    go (yes h) =
+        let l = length-take-le 65537 input (omega arith) in
+        rw (lt-leb (length (take 65537 input)) 65536 (omega arith), lt-leb (length input) 65536 h) refl
+
 pub claims : Claims
-claims input = within (length input) input (omega arith)
+claims = record { consecutive = λ input. within (length input) input (omega arith); enough = first-bytes }

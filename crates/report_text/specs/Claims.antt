@@ -9,6 +9,7 @@ use Rattle.spec.specs.Bytes.{part}
 use Rattle.record.specs.Record.{contentsOf, readNumber}
 use Rattle.report_text.specs.declared.Entry.{Entry}
 use Rattle.report_text.specs.Entries.{stops, entryOf, entries, sumOf}
+use Rattle.report_text.specs.Text.{reportText}
 
 -- where entry i begins: behind the bytes of those before it
 abbrev pub beginOf : List Entry → ℕ → ℕ
@@ -29,5 +30,7 @@ pub record Consecutive (input : List ℕ) (es : List Entry) : Type 0 where
       → (readNumber (part input (beginOf es i) (getD es i d .bytes)) ≡ 0)
       × (contentsOf (part input (beginOf es i) (getD es i d .bytes)) ≡ contentsOf (drop (beginOf es i) input))
 
-abbrev pub Claims : Type 0
-Claims = (input : List ℕ) → Consecutive input (entries input)
+-- no byte behind the 65,537th changes a report: the program reads no more
+pub record Claims : Type 0 where
+  pub consecutive : (input : List ℕ) → Consecutive input (entries input)
+  pub enough : (input : List ℕ) → reportText (take 65537 input) ≡ reportText input

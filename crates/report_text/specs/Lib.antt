@@ -1,4 +1,4 @@
--- What the opening report says of the records of a string, the claims about these, and the texts.
+-- What the opening report says of the records of a string, the texts, and the claims about both.
 pub mod Entries
-pub mod Claims
 pub mod Text
+pub mod Claims
