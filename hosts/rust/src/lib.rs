@@ -37,7 +37,7 @@ pub const WORK_LENGTHS: usize = 12;
 pub const RECORD_MOST: usize = 273_555;
 
 /// Bytes of stack for any call at any shape.
-pub const STACK: usize = 16 * 1024;
+pub const STACK: usize = 20 * 1024;
 
 /// A shape: tau vectors, the first level - w - tau k of depth k + 1 and the others of depth k, w grinding bits, at most t nodes, the security level in bits, and the leaf kind, 0 ordinary
 /// or 1 Even-Mansour.
