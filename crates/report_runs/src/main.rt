@@ -128,6 +128,20 @@ fn levels(input: &mut [u8; 65600]) {
     run(input, d, 0);
 }
 
+// The three versions one behind another; then another kind than 1 in a version 3 record, which stops.
+fn kinds(input: &mut [u8; 65600]) {
+    clear(input);
+    let a = record(input, 0, 3, 1, 1, 127, 1, 8, 16, 0, 48);
+    let b = record(input, a, 1, 1, 1, 127, 2, 8, 16, 0, 80);
+    let c = record(input, b, 3, 2, 2, 124, 4, 8, 16, 1, 128);
+    let d = record(input, c, 2, 1, 1, 127, 2, 8, 16, 0, 80);
+    run(input, d, 0);
+    set(input, b, 15, 0);
+    run(input, d, 0);
+    set(input, b, 15, 2);
+    run(input, d, 0);
+}
+
 // 4, 5 and 6 before, between and behind records that are counted, and where two of them hold the earlier one.
 fn refused(input: &mut [u8; 65600]) {
     clear(input);
@@ -247,6 +261,7 @@ fn main() {
     let mut input = [0u8; 65600];
     single(&mut input);
     levels(&mut input);
+    kinds(&mut input);
     refused(&mut input);
     stopped_by_fields(&mut input);
     stopped_by_front(&mut input);
