@@ -15,11 +15,11 @@ The cases are the calls of these forms in the src/main.rt of each, whose first l
     probe_decode(..), probe_plan(..)                           the command of this name
     stretch(TAU, K, W, T, ROWBITS, FIRST, WIDTH, ROOTIV, CHALLENGE, CHALLENGE)  commit_stretch, open_stretch, reconstruct_stretch
     probe_commit_stretch(..), probe_reconstruct_stretch(..)    the command of this name
-    record(TAU, K, W, T, ROWBITS, ROOTIV, CHALLENGE, CHALLENGE), prefixes(..), flips(..), pairs(..)  the command of this name
+    record(TAU, K, W, T, ROWBITS, ROOTIV, CHALLENGE, CHALLENGE), named(..), prefixes(..), flips(..), pairs(..)  the command of this name
     record_version_1(..), prefixes_version_1(..), flips_version_1(..), pairs_version_1(..)           the same, with a record of version 1
     at_level(LEVEL, TAU, K, W, T, ROWBITS, ROOTIV, C0, C1, C2, C3)                          commit, open, reconstruct
     stretch_at_level(LEVEL, TAU, K, W, T, ROWBITS, FIRST, WIDTH, ROOTIV, C0, C1, C2, C3)    commit_stretch, open_stretch, reconstruct_stretch
-    record_at_level(LEVEL, TAU, K, W, T, ROWBITS, ROOTIV, C0, C1, C2, C3)                   record; prefixes_at_level, flips_at_level, pairs_at_level likewise
+    record_at_level(LEVEL, TAU, K, W, T, ROWBITS, ROOTIV, C0, C1, C2, C3)                   record; named_at_level, prefixes_at_level, flips_at_level, pairs_at_level likewise
     decode_at_level(LEVEL, TAU, K, W, T, C0, C1, C2, C3), plan_at_level(..)                 the command of this name
     probe_commit_at_level(LEVEL, TAU, K, W, T, ..), probe_open_at_level(..) ..              the probe of this name
     at_kind(KIND, LEVEL, TAU, ..), stretch_at_kind(..), record_at_kind(..) ..               each form at_level with the leaf kind in front
@@ -44,8 +44,8 @@ INPUTS = (CRATES / 'vectors_calls' / 'src' / 'inputs.rt').read_text()
 LENGTHS = {'case': 7, 'uneven': 8, 'refused_shape': 5, 'flipped': 5, 'probe_commit': 7, 'probe_open': 7, 'probe_reconstruct': 9,
            'decode': 6, 'plan': 6, 'probe_decode': 7, 'probe_plan': 7,
            'stretch': 10, 'probe_commit_stretch': 9, 'probe_reconstruct_stretch': 11,
-           'record': 8, 'prefixes': 8, 'flips': 8, 'pairs': 8}
-RECORDS = 'record', 'prefixes', 'flips', 'pairs'
+           'record': 8, 'named': 8, 'prefixes': 8, 'flips': 8, 'pairs': 8}
+RECORDS = 'record', 'named', 'prefixes', 'flips', 'pairs'
 PROBES = [form for form in LENGTHS if form.startswith('probe')]
 LENGTHS.update({f'{form}_version_1': 8 for form in RECORDS})
 LENGTHS.update({f'{form}_at_level': 11 for form in RECORDS})

@@ -11,7 +11,7 @@
 enum { ACCEPTED, REFUSED, TROUBLE }; /* exit statuses; the worst of all files is the tool's */
 
 static const char usage[] =
-    "usage: check_record [--explain] FILE...\n"
+    "usage: check_record [--named] [--explain] FILE...\n"
     "       check_record --help\n";
 
 static const char help[] =
@@ -23,10 +23,12 @@ static const char help[] =
     "A record is accepted where it has the form of a record, its opening reconstructs, and the commitment that\n"
     "this gives is the record's. The corrections are not bound by the commitment.\n"
     "\n"
+    "--named    for the twelve sets of FAEST version 2 alone, each with its row length: any other is refused 13\n"
     "--explain  also what stands where: version, shape and row length, and of each field its place, the length\n"
     "           that it says it has and the length that is required\n"
     "\n"
-    "Numbers: 1 shape, 2 row length, 4 grinding, 5 nodes, 6 slots, 9 version, 10 field, 11 commitment.\n"
+    "Numbers: 1 shape, 2 row length, 4 grinding, 5 nodes, 6 slots, 9 version, 10 field, 11 commitment,\n"
+    "13 not named.\n"
     "Exit status: 0 every record is accepted, 1 one is refused, 2 a file cannot be read, or wrong usage.\n";
 
 static const char *word(size_t number)
@@ -41,6 +43,7 @@ static const char *word(size_t number)
     case RACHNOEL_VERSION: return "version";
     case RACHNOEL_FIELD: return "field";
     case RACHNOEL_MISMATCH: return "commitment";
+    case RACHNOEL_NOT_NAMED: return "not named";
     default: return "";
     }
 }
@@ -161,7 +164,7 @@ static size_t allowance(void)
     return is_default(s) ? 110 : s.t;
 }
 
-static int check(const char *name, int explained)
+static int check(const char *name, int named, int explained)
 {
     size_t length = 0;
     uint8_t lengths[RACHNOEL_WORK_LENGTHS], count[RACHNOEL_COUNT];
@@ -176,7 +179,7 @@ static int check(const char *name, int explained)
             free(tree), free(lcs), free(q);
             return TROUBLE;
         }
-        number = rachnoel_check_record(record, length, tree, tree_len, lcs, lcs_len, q, q_len, count, sizeof count);
+        number = (named ? rachnoel_check_named : rachnoel_check_record)(record, length, tree, tree_len, lcs, lcs_len, q, q_len, count, sizeof count);
         free(tree), free(lcs), free(q);
     }
     if (number == 0)
@@ -190,15 +193,18 @@ static int check(const char *name, int explained)
 
 int main(int argc, char **argv)
 {
-    int status = ACCEPTED, explained = 0, first = 1;
+    int status = ACCEPTED, named = 0, explained = 0, first = 1;
     if (argc == 2 && strcmp(argv[1], "--help") == 0) {
         printf("%s\n%s", usage, help);
         return fflush(stdout) == 0 ? ACCEPTED : TROUBLE;
     }
-    if (argc > first && strcmp(argv[first], "--explain") == 0) {
-        explained = 1;
-        first++;
-    }
+    for (; argc > first; first++)
+        if (strcmp(argv[first], "--named") == 0)
+            named = 1;
+        else if (strcmp(argv[first], "--explain") == 0)
+            explained = 1;
+        else
+            break;
     if (argc > first && strcmp(argv[first], "--") == 0)
         first++;
     else if (argc > first && argv[first][0] == '-' && argv[first][1] != '\0') {
@@ -210,7 +216,7 @@ int main(int argc, char **argv)
         return TROUBLE;
     }
     for (int i = first; i < argc; i++) {
-        const int outcome = check(argv[i], explained);
+        const int outcome = check(argv[i], named, explained);
         if (outcome > status)
             status = outcome;
     }

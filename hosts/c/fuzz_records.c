@@ -1,6 +1,6 @@
 /* Records that are changed at random, from a fixed seed, and checked: each buffer lies between forbidden pages, the record may not be written, and the buffers hold a fill.
  *   fuzz_records SEED COUNT STREAM
- * prints a line for each check: number, count slice and a digest of the work buffers. What was checked goes to STREAM, for `reference checks`, which must print the same. */
+ * prints a line for each check, one in three for named sets alone: number, count slice and a digest of the work buffers. What was checked goes to STREAM, for `reference checks`, which must print the same. */
 #define _DEFAULT_SOURCE
 #include <rachnoel.h>
 
@@ -60,11 +60,13 @@ static void must(size_t number, const char *call)
     }
 }
 
-/* a small shape, or the default; its allowance is mostly enough. At levels 192 and 256 no shape has fewer than 65 and 129 open bits */
+/* a small shape, the default, or FAEST-128f; the allowance is mostly enough. At levels 192 and 256 no shape has fewer than 65 and 129 open bits */
 static shape random_shape(void)
 {
     if (below(16) == 0)
         return (shape)DEFAULT;
+    if (below(16) == 0)
+        return (shape)FAEST_128F;
     size_t k = 1 + below(4), tau = 1 + below(6), deeper = below(2) ? 0 : below(tau), level = 128;
     if (below(6) == 0) {
         level = below(2) ? 192 : 256;
@@ -80,7 +82,7 @@ static void make_base(struct base *base)
 {
     uint8_t root[RACHNOEL_NODE_MOST], iv[RACHNOEL_IV], challenge[RACHNOEL_NODE_MOST], commitment[RACHNOEL_COMMITMENT_MOST], count[RACHNOEL_COUNT], length[RACHNOEL_RECORD_LENGTH];
     const shape s = random_shape();
-    const size_t row_bits = 8 * (1 + below(4));
+    const size_t row_bits = s.t == 110 && s.tau == 16 ? 1680 : 8 * (1 + below(4)); /* FAEST-128f has its own */
     const rachnoel_lengths n = rachnoel_lengths_of(NUMBERS(s), row_bits / 8);
     uint8_t *const tree = room(n.tree), *const lcs = room(n.leaf_commitments), *const u = room(n.u), *const v = room(n.matrix), *const corrections = room(n.corrections),
                   *const opening = room(n.opening);
@@ -195,12 +197,13 @@ static uint64_t digest(uint64_t h, const uint8_t *p, size_t n)
 
 static void check(const uint8_t *bytes, size_t length, const size_t sizes[4], int fill, FILE *stream)
 {
-    const int end = (int)below(2);
-    uint8_t head[21];
-    head[0] = (uint8_t)fill;
+    const int end = (int)below(2), named = below(3) == 0;
+    uint8_t head[22];
+    head[0] = (uint8_t)named;
+    head[1] = (uint8_t)fill;
     for (size_t i = 0; i < 4; i++)
-        put_number(head + 1 + 4 * i, sizes[i]);
-    put_number(head + 17, length);
+        put_number(head + 2 + 4 * i, sizes[i]);
+    put_number(head + 18, length);
     if (fwrite(head, 1, sizeof head, stream) != sizeof head || fwrite(bytes, 1, length, stream) != length) {
         perror("the stream");
         exit(1);
@@ -211,7 +214,7 @@ static void check(const uint8_t *bytes, size_t length, const size_t sizes[4], in
     struct guarded work[4];
     for (size_t i = 0; i < 4; i++)
         work[i] = guard(sizes[i], end, fill);
-    const size_t number = rachnoel_check_record(record.at, length, work[0].at, sizes[0], work[1].at, sizes[1], work[2].at, sizes[2], work[3].at, sizes[3]);
+    const size_t number = (named ? rachnoel_check_named : rachnoel_check_record)(record.at, length, work[0].at, sizes[0], work[1].at, sizes[1], work[2].at, sizes[2], work[3].at, sizes[3]);
     uint64_t h = 0xcbf29ce484222325;
     for (size_t i = 0; i < 3; i++)
         h = digest(h, work[i].at, sizes[i]);

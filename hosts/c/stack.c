@@ -12,8 +12,10 @@
 #include <ucontext.h>
 #include <unistd.h>
 
-enum { BITS = 1680, ROW = BITS / 8, FIRST = 5, WIDTH = 200, FILL = 0xa5 };
+enum { FIRST = 5, WIDTH = 160, FILL = 0xa5 };
 static shape now;
+static size_t bits; /* of a row */
+static int named;   /* whether shape and row length are a named set's */
 #define SHAPE NUMBERS(now)
 
 static rachnoel_lengths n, m; /* of the whole rows, and of the stretch */
@@ -26,33 +28,39 @@ static void decode(void) { answer = rachnoel_decode(SHAPE, challenge, n.node, in
 static void plan(void) { answer = rachnoel_plan(SHAPE, challenge, n.node, nodes, n.nodes, count, 4); }
 static void commit(void)
 {
-    answer = rachnoel_commit(SHAPE, BITS, root, n.node, iv, 16, commitment, n.commitment, tree, n.tree, lcs, n.leaf_commitments, u, n.u, v, n.matrix, corrections, n.corrections, count, 4);
+    answer = rachnoel_commit(SHAPE, bits, root, n.node, iv, 16, commitment, n.commitment, tree, n.tree, lcs, n.leaf_commitments, u, n.u, v, n.matrix, corrections, n.corrections, count, 4);
 }
 static void commit_stretch(void)
 {
-    answer = rachnoel_commit_stretch(SHAPE, BITS, FIRST, WIDTH, root, n.node, iv, 16, commitment, n.commitment, tree, m.tree, lcs, m.leaf_commitments, u, m.u, v, m.matrix, corrections,
+    answer = rachnoel_commit_stretch(SHAPE, bits, FIRST, WIDTH, root, n.node, iv, 16, commitment, n.commitment, tree, m.tree, lcs, m.leaf_commitments, u, m.u, v, m.matrix, corrections,
         m.corrections, count, 4);
 }
 static void opened(void) { answer = rachnoel_open(SHAPE, challenge, n.node, tree, n.tree, lcs, n.leaf_commitments, opening, n.opening, count, 4); }
 static void reconstruct(void)
 {
-    answer = rachnoel_reconstruct(SHAPE, BITS, iv, 16, challenge, n.node, corrections, n.corrections, opening, n.opening, commitment, n.commitment, tree, n.tree, lcs, n.leaf_commitments, v,
+    answer = rachnoel_reconstruct(SHAPE, bits, iv, 16, challenge, n.node, corrections, n.corrections, opening, n.opening, commitment, n.commitment, tree, n.tree, lcs, n.leaf_commitments, v,
         n.matrix, count, 4);
 }
 static void reconstruct_stretch(void)
 {
-    answer = rachnoel_reconstruct_stretch(SHAPE, BITS, FIRST, WIDTH, iv, 16, challenge, n.node, corrections, m.corrections, opening, m.opening, commitment, n.commitment, tree, m.tree, lcs,
+    answer = rachnoel_reconstruct_stretch(SHAPE, bits, FIRST, WIDTH, iv, 16, challenge, n.node, corrections, m.corrections, opening, m.opening, commitment, n.commitment, tree, m.tree, lcs,
         m.leaf_commitments, v, m.matrix, count, 4);
 }
-static void record_length(void) { answer = rachnoel_record_length(SHAPE, BITS, length, 4); }
+static void record_length(void) { answer = rachnoel_record_length(SHAPE, bits, length, 4); }
 static void write_record(void)
 {
-    answer = rachnoel_write_record(SHAPE, BITS, iv, 16, challenge, n.node, corrections, n.corrections, opening, n.opening, commitment, n.commitment, record, rachnoel_number(length));
+    answer = rachnoel_write_record(SHAPE, bits, iv, 16, challenge, n.node, corrections, n.corrections, opening, n.opening, commitment, n.commitment, record, rachnoel_number(length));
 }
 static void work_lengths(void) { answer = rachnoel_work_lengths(record, rachnoel_number(length), lengths, 12); }
 static void check_record(void)
 {
     answer = rachnoel_check_record(record, rachnoel_number(length), tree, n.tree, lcs, n.leaf_commitments, v, n.matrix, count, 4);
+}
+static void check_named(void)
+{
+    answer = rachnoel_check_named(record, rachnoel_number(length), tree, n.tree, lcs, n.leaf_commitments, v, n.matrix, count, 4);
+    if (!named)
+        answer = answer == RACHNOEL_NOT_NAMED ? 0 : RACHNOEL_NOT_NAMED;
 }
 static void nothing(void) {}
 
@@ -62,7 +70,7 @@ static const struct {
     void (*work)(void);
 } calls[] = {{"nothing", nothing}, {"decode", decode}, {"plan", plan}, {"commit", commit}, {"commit_stretch", commit_stretch}, {"open", opened}, {"reconstruct", reconstruct},
     {"reconstruct_stretch", reconstruct_stretch}, {"record_length", record_length}, {"write_record", write_record}, {"work_lengths", work_lengths},
-    {"check_record", check_record}};
+    {"check_record", check_record}, {"check_named", check_named}};
 enum { CALLS = sizeof calls / sizeof calls[0] };
 
 /* the bytes of a filled stack that the call changed */
@@ -90,13 +98,21 @@ static size_t depth(void (*work)(void))
 
 int main(void)
 {
-    static const shape shapes[] = {DEFAULT, FAEST_128S, {10, 12, 8, 512, 128, 0}, {32, 4, 0, 512, 128, 0}, {10, 11, 9, 512, 128, 0}, {1, 1, 127, 1, 128, 0}, FAEST_192S, FAEST_192F,
-        {16, 12, 0, 512, 192, 0}, {32, 2, 127, 512, 192, 0}, FAEST_256S, FAEST_256F, {21, 12, 4, 512, 256, 0}, {32, 8, 0, 512, 256, 0}, {21, 11, 5, 512, 256, 0}, FAEST_EM_128S,
-        FAEST_EM_192F, FAEST_EM_256S, {21, 12, 4, 512, 256, 1}, {32, 8, 0, 512, 256, 1}, {1, 1, 127, 1, 128, 1}};
+    static const struct {
+        shape s;
+        size_t bits;
+        int named;
+    } cases[] = {{DEFAULT, 1680, 0}, {FAEST_128S, 1680, 1}, {FAEST_128F, 1680, 1}, {FAEST_192S, 3088, 1}, {FAEST_192F, 3088, 1}, {FAEST_256S, 3888, 1}, {FAEST_256F, 3888, 1},
+        {FAEST_EM_128S, 1360, 1}, {FAEST_EM_128F, 1360, 1}, {FAEST_EM_192S, 2320, 1}, {FAEST_EM_192F, 2320, 1}, {FAEST_EM_256S, 3472, 1}, {FAEST_EM_256F, 3472, 1},
+        {{10, 12, 8, 512, 128, 0}, 1680, 0}, {{32, 4, 0, 512, 128, 0}, 1680, 0}, {{10, 11, 9, 512, 128, 0}, 1680, 0}, {{1, 1, 127, 1, 128, 0}, 1680, 0}, {{16, 12, 0, 512, 192, 0}, 1680, 0},
+        {{32, 2, 127, 512, 192, 0}, 1680, 0}, {{21, 12, 4, 512, 256, 0}, 1680, 0}, {{32, 8, 0, 512, 256, 0}, 1680, 0}, {{21, 11, 5, 512, 256, 0}, 1680, 0},
+        {{21, 12, 4, 512, 256, 1}, 1680, 0}, {{32, 8, 0, 512, 256, 1}, 1680, 0}, {{1, 1, 127, 1, 128, 1}, 1680, 0}};
     size_t deepest[CALLS] = {0}, wrong = 0;
-    for (size_t i = 0; i < sizeof shapes / sizeof shapes[0]; i++) {
-        now = shapes[i];
-        n = rachnoel_lengths_of(SHAPE, ROW);
+    for (size_t i = 0; i < sizeof cases / sizeof cases[0]; i++) {
+        now = cases[i].s;
+        bits = cases[i].bits;
+        named = cases[i].named;
+        n = rachnoel_lengths_of(SHAPE, bits / 8);
         m = rachnoel_lengths_of(SHAPE, WIDTH);
         tree = calloc(1, n.tree), lcs = calloc(1, n.leaf_commitments), u = calloc(1, n.u), v = calloc(1, n.matrix), corrections = calloc(1, n.corrections);
         opening = calloc(1, n.opening), indices = calloc(1, n.indices), nodes = calloc(1, n.nodes);

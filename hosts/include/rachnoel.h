@@ -36,7 +36,8 @@ enum {
     RACHNOEL_STRETCH = 8,   /* width is 0, or first + width exceeds row_bits / 8 */
     RACHNOEL_VERSION = 9,   /* the first byte of a record is missing, or an unknown version */
     RACHNOEL_FIELD = 10,    /* a field of a record has another length, bytes are missing, or bytes are left over */
-    RACHNOEL_MISMATCH = 11  /* the reconstructed commitment is not the record's */
+    RACHNOEL_MISMATCH = 11, /* the reconstructed commitment is not the record's */
+    RACHNOEL_NOT_NAMED = 13 /* shape and row length of a record are no named set's */
 };
 
 /* ---- lengths in bytes */
@@ -152,6 +153,11 @@ size_t rachnoel_work_lengths(const uint8_t *record, size_t record_len, uint8_t *
 /* Whether a record has its form, reconstruct accepts its fields, and gives the record's commitment. The corrections are not bound by it. With 0 and with 11 the work buffers
  * hold what reconstruct writes, and the count is written; with 5 and 6 the count alone. Refusals 9, 10, 1, 2, 10, 3, 4, 5, 6, 11. */
 size_t rachnoel_check_record(const uint8_t *record, size_t record_len, uint8_t *tree, size_t tree_len, uint8_t *leaf_commitments, size_t leaf_commitments_len,
+    uint8_t *q, size_t q_len, uint8_t *count, size_t count_len);
+
+/* The same for the twelve sets of FAEST version 2 alone, each with its row length: any other shape or row length is 13, four zeros too. Of a named set it is
+ * rachnoel_check_record. 13 writes nothing. Refusals 9, 10, 1, 2, 13, 10, 3, 4, 5, 6, 11. */
+size_t rachnoel_check_named(const uint8_t *record, size_t record_len, uint8_t *tree, size_t tree_len, uint8_t *leaf_commitments, size_t leaf_commitments_len,
     uint8_t *q, size_t q_len, uint8_t *count, size_t count_len);
 
 /* ---- records, written: librachnoel_writer */

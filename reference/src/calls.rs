@@ -10,7 +10,8 @@ use crate::stretch::{cut, spread, Stretch};
 use crate::vole::{vole_commit, vole_reconstruct, Row};
 use crate::Block;
 
-/// Document 01, "When a call is turned down", and document 02, E1 and E6.
+/// Document 01, "When a call is turned down", and document 02, E1, E6,
+/// E10 and E13.
 #[derive(Clone, Copy, Debug, PartialEq, Eq)]
 pub enum Refusal {
     Shape = 1,
@@ -25,6 +26,7 @@ pub enum Refusal {
     Field = 10,
     Commitment = 11,
     TooLarge = 12,
+    NotNamed = 13,
 }
 
 /// The answer of a call: 0 or the number of a refusal, and the node count.

@@ -22,6 +22,7 @@ usage: reference decode      TAU K W T LEVEL KIND CHALLENGE
        reference reconstruct TAU K W T LEVEL KIND ROWBITS ROOT IV CHALLENGE [FLIP]
        reference roundtrip   TAU K W T LEVEL KIND ROWBITS ROOT IV CHALLENGE
        reference record      TAU K W T LEVEL KIND ROWBITS ROOT IV CHALLENGE
+       reference named       TAU K W T LEVEL KIND ROWBITS ROOT IV CHALLENGE
        reference prefixes    TAU K W T LEVEL KIND ROWBITS ROOT IV CHALLENGE
        reference flips       TAU K W T LEVEL KIND ROWBITS ROOT IV CHALLENGE
        reference pairs       TAU K W T LEVEL KIND ROWBITS ROOT IV CHALLENGE
@@ -33,7 +34,7 @@ usage: reference decode      TAU K W T LEVEL KIND CHALLENGE
        reference list        (its line on standard input)
        reference list_challenges (its line on standard input)
        reference report      (records on standard input)
-       reference check       (a record on standard input)
+       reference check       [--named] (a record on standard input)
        reference checks      (records and buffers on standard input)
 Each with ROWBITS but those on records is also there for a stretch of the rows:
 _stretch behind its name, FIRST WIDTH behind ROWBITS. Each on records that has
@@ -278,6 +279,15 @@ impl Arguments<'_> {
             false => None,
         };
         Some(Rows { bits, stretch })
+    }
+
+    /// Whether this word stands next; then it is taken.
+    pub fn flag(&mut self, word: &str) -> bool {
+        let found = self.0.as_slice().first().is_some_and(|next| next == word);
+        if found {
+            self.0.next();
+        }
+        found
     }
 
     pub fn end(mut self) -> Option<()> {
@@ -547,7 +557,9 @@ pub fn run(args: &[String], input: &mut impl Read) -> Option<Outcome> {
     let rest = Arguments(rest.iter());
     if let Some(command) = name.strip_suffix("_version_1") {
         return match command {
-            "record" | "prefixes" | "flips" | "pairs" => record_command(command, true, rest),
+            "record" | "named" | "prefixes" | "flips" | "pairs" => {
+                record_command(command, true, rest)
+            }
             _ => None,
         };
     }
@@ -562,7 +574,7 @@ pub fn run(args: &[String], input: &mut impl Read) -> Option<Outcome> {
         "list" | "list_challenges" | "report" => list_command(command, rest, input),
         "check" => check_command(rest, input),
         "checks" => checks_command(rest, input),
-        "record" | "prefixes" | "flips" | "pairs" => record_command(command, false, rest),
+        "record" | "named" | "prefixes" | "flips" | "pairs" => record_command(command, false, rest),
         "decode" | "plan" => numbers_command(command, rest),
         "probe_open" => probe_command(command, false, rest),
         "probe_decode" | "probe_plan" => probe_numbers_command(command, rest),

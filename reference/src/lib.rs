@@ -14,6 +14,7 @@ pub mod cli;
 pub mod enumeration;
 pub mod field;
 pub mod listing;
+pub mod named;
 pub mod prg;
 pub mod record;
 mod record_commands;

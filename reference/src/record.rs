@@ -93,6 +93,12 @@ impl<'a> Reader<'a> {
     }
 }
 
+/// The front of a record: its shape as written, and its row length in bits.
+pub fn front(bytes: &[u8]) -> Result<(Shape, usize), Refusal> {
+    let (shape, _, row_bits, _) = Reader { rest: bytes }.front()?;
+    Ok((shape, row_bits))
+}
+
 /// Reads the record that these bytes begin with, and gives what stands behind its
 /// sixth field: 9; 10 of field one, 1, 2; 10 of the rest.
 pub fn read_first(bytes: &[u8]) -> Result<(Record<'_>, &[u8]), Refusal> {

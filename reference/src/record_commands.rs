@@ -5,6 +5,7 @@ use std::io::Read;
 
 use crate::calls::Answer;
 use crate::cli::{answer_lines, buffer_line, to_hex, Arguments, Outcome, Rows, Run, PATTERN};
+use crate::named::check_named;
 use crate::record::{check_record, record_bytes, version_1, work_lengths, write_record, Record};
 use crate::shape::{row_bytes, Shape};
 
@@ -32,6 +33,11 @@ impl Work {
     fn check(&mut self, record: &[u8]) -> Answer {
         let (tree, coms) = (&mut self.tree, &mut self.leaf_commitments);
         check_record(record, tree, coms, &mut self.q)
+    }
+
+    fn check_named(&mut self, record: &[u8]) -> Answer {
+        let (tree, coms) = (&mut self.tree, &mut self.leaf_commitments);
+        check_named(record, tree, coms, &mut self.q)
     }
 
     fn bytes(&self) -> impl Iterator<Item = &u8> {
@@ -147,8 +153,8 @@ fn pairs(record: &[u8], at: Places, work: &Work) -> String {
     (0..EDITS).map(line).collect()
 }
 
-/// `record`, `prefixes`, `flips` and `pairs`. The last three check what is made
-/// of the record also where the opening was refused; it is zeros then. With
+/// `record`, `named`, `prefixes`, `flips` and `pairs`. The last three check what is
+/// made of the record also where the opening was refused; it is zeros then. With
 /// `of_version_1` the record is one of version 1, which there is at level 128 and of
 /// kind 0 only.
 pub fn record_command(command: &str, of_version_1: bool, mut rest: Arguments) -> Option<Outcome> {
@@ -164,7 +170,9 @@ pub fn record_command(command: &str, of_version_1: bool, mut rest: Arguments) ->
     run.commit(shape, rows, &root, &iv);
     run.open(shape, &challenge);
     let refused = run.answers.iter().find(|answer| answer.number != 0);
-    if let Some(answer) = refused.filter(|answer| command == "record" || answer.number != 5) {
+    if let Some(answer) =
+        refused.filter(|answer| matches!(command, "record" | "named") || answer.number != 5)
+    {
         return Some((answer_lines(*answer).into_bytes(), true));
     }
     let record = Record {
@@ -186,6 +194,7 @@ pub fn record_command(command: &str, of_version_1: bool, mut rest: Arguments) ->
     }
     let mut work = Work::new(work_lengths(&bytes).ok()?);
     let text = match command {
+        "named" => answer_lines(work.check_named(&bytes)),
         "prefixes" => prefixes(&bytes, &work),
         "flips" => flips(&bytes, &work),
         "pairs" => pairs(&bytes, Places::of(&bytes, &record), &work),
@@ -204,13 +213,18 @@ fn exact_length(shape: Shape, row_bits: usize) -> usize {
 }
 
 /// `check`: the record on standard input, with work buffers of the lengths that
-/// it asks for.
-pub fn check_command(rest: Arguments, input: &mut impl Read) -> Option<Outcome> {
+/// it asks for; with `--named` for named sets alone.
+pub fn check_command(mut rest: Arguments, input: &mut impl Read) -> Option<Outcome> {
+    let named = rest.flag("--named");
     rest.end()?;
     let mut record = Vec::new();
     input.read_to_end(&mut record).ok()?;
     let mut work = Work::new(work_lengths(&record).unwrap_or_default());
-    let answer = work.check(&record);
+    let answer = if named {
+        work.check_named(&record)
+    } else {
+        work.check(&record)
+    };
     let mut text = answer_lines(answer);
     if matches!(answer.number, 0 | 11) {
         text += &work.lines();
@@ -218,24 +232,31 @@ pub fn check_command(rest: Arguments, input: &mut impl Read) -> Option<Outcome> 
     Some((text.into_bytes(), true))
 }
 
-/// One of the checks of `checks`, from the front of the input: the fill of the
-/// buffers, the lengths of the work buffers and of the count slice, the length of
-/// the record, four bytes each, the greatest first, and the record. Gives the line
-/// to print: the number, the count slice, and FNV-1a of the work buffers.
+/// One of the checks of `checks`, from the front of the input: 1 for named sets
+/// alone, otherwise 0, the fill of the buffers, the lengths of the work buffers and
+/// of the count slice, the length of the record, four bytes each, the greatest
+/// first, and the record. Gives the line to print: the number, the count slice, and
+/// FNV-1a of the work buffers.
 fn one_of_many(input: &mut &[u8]) -> Option<String> {
-    let (head, rest) = input.split_at_checked(21)?;
+    let (head, rest) = input.split_at_checked(22)?;
     let number =
-        |n: usize| u32::from_be_bytes(head[1 + 4 * n..5 + 4 * n].try_into().unwrap()) as usize;
+        |n: usize| u32::from_be_bytes(head[2 + 4 * n..6 + 4 * n].try_into().unwrap()) as usize;
     let (record, rest) = rest.split_at_checked(number(4))?;
     *input = rest;
-    let mut work = Work::filled([number(0), number(1), number(2)], head[0]);
-    let mut count = vec![head[0]; number(3)];
-    // A count slice of another length is refused as a work buffer is.
-    let answer = if count.len() == 4 {
-        work.check(record)
+    let call = if head[0] == 1 {
+        check_named
     } else {
-        check_record(record, &mut [], &mut work.leaf_commitments, &mut work.q)
+        check_record
     };
+    let mut work = Work::filled([number(0), number(1), number(2)], head[1]);
+    let mut count = vec![head[1]; number(3)];
+    // A count slice of another length is refused as a work buffer is.
+    let tree = if count.len() == 4 {
+        &mut work.tree[..]
+    } else {
+        &mut []
+    };
+    let answer = call(record, tree, &mut work.leaf_commitments, &mut work.q);
     if matches!(answer.number, 0 | 5 | 6 | 11) {
         count.copy_from_slice(&answer.count.to_le_bytes());
     }

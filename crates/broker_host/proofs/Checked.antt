@@ -13,7 +13,7 @@ use Rattle.spec.specs.declared.Shape.{Shape}
 use Rattle.spec.specs.declared.Answer.{Answer}
 use Rattle.spec.specs.Shapes.{resolved, nodeBytes, leaves, shapeOk, treeBytes}
 use Rattle.spec.specs.Primitives.{faest}
-use Rattle.spec.specs.Calls.{fits, countGiven, written}
+use Rattle.spec.specs.Calls.{countGiven, written}
 use Rattle.spec.specs.HostCalls.{countSlice, withCount}
 use Rattle.laws.proofs.Concat.{mul-limit}
 use Rattle.laws.proofs.Conjunctions.{contrary}

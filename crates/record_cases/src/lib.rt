@@ -22,6 +22,8 @@ const FLIPS: usize = 2;
 
 const PAIRS: usize = 3;
 
+const NAMED: usize = 4;
+
 // The record in one of the forms that change it.
 fn change(record: [u8; 512], n: usize, form: usize)
     requires { ⌜ n < 512 ⌝ }
@@ -57,7 +59,7 @@ fn length_of(n: usize, first: bool) -> usize {
     n
 }
 
-// A case, of version 1 where `first` is true. Where a call before the check is refused, and the whole record is meant, its answer is printed.
+// A case, of version 1 where `first` is true. Where a call before the check is refused, and the record is meant as it is, its answer is printed.
 fn run_case(
     s: Shape,
     row_bits: usize,
@@ -84,12 +86,16 @@ fn run_case(
     if first {
         to_version_1(&mut bytes);
     }
-    if form != WHOLE {
+    if (form != WHOLE) & (form != NAMED) {
         change(edits::small(&bytes), at_most(n, 511), form);
         return;
     }
     if r.number != 0 {
         print_answer(r);
+        return;
+    }
+    if form == NAMED {
+        whole::check_named(&bytes, n, &mut tree, &mut leaf_commitments, &mut v);
         return;
     }
     whole::check(&bytes, n, &mut tree, &mut leaf_commitments, &mut v);
@@ -294,4 +300,50 @@ pub fn record_at_level(
     c3: u64,
 ) {
     record_at_kind(0, level, tau, k, w, t, row_bits, known, c0, c1, c2, c3);
+}
+
+// The record at any level and of any kind is checked for named sets alone: the answer.
+pub fn named_at_kind(
+    kind: usize,
+    level: usize,
+    tau: usize,
+    k: usize,
+    w: usize,
+    t: usize,
+    row_bits: usize,
+    known: usize,
+    c0: u64,
+    c1: u64,
+    c2: u64,
+    c3: u64,
+) {
+    run_case(
+        Shape {
+            tau,
+            k,
+            w,
+            t,
+            level,
+            kind,
+        },
+        row_bits,
+        known,
+        both(words(c0, c1), words(c2, c3)),
+        NAMED,
+        false,
+    );
+}
+
+// The same at level 128 with ordinary leaves.
+pub fn named(
+    tau: usize,
+    k: usize,
+    w: usize,
+    t: usize,
+    row_bits: usize,
+    known: usize,
+    c0: u64,
+    c1: u64,
+) {
+    named_at_kind(0, 128, tau, k, w, t, row_bits, known, c0, c1, 0, 0);
 }

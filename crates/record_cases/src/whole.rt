@@ -1,4 +1,4 @@
-// The check of a whole record.
+// The check of a whole record, and the check for named sets alone.
 use record::Lengths;
 use spec::Answer;
 use test_support::parts::front;
@@ -15,6 +15,22 @@ pub fn call_check(
     q: &mut [u8],
 ) -> Answer {
     broker::check_record(
+        record,
+        front_mut(tree, l.tree),
+        front_mut(leaf_commitments, l.leaf_commitments),
+        front_mut(q, l.q),
+    )
+}
+
+// The same for named sets alone.
+fn call_named(
+    record: &[u8],
+    l: Lengths,
+    tree: &mut [u8],
+    leaf_commitments: &mut [u8],
+    q: &mut [u8],
+) -> Answer {
+    named_broker::check_named(
         record,
         front_mut(tree, l.tree),
         front_mut(leaf_commitments, l.leaf_commitments),
@@ -39,4 +55,16 @@ pub fn check(
         print_buffer(b"leaf_commitments ", leaf_commitments, l.leaf_commitments);
         print_buffer(b"q ", q, l.q);
     }
+}
+
+// Checks the first n bytes for named sets alone, and prints the answer.
+pub fn check_named(
+    bytes: &[u8; 273600],
+    n: usize,
+    tree: &mut [u8; 1310704],
+    leaf_commitments: &mut [u8; 1966080],
+    q: &mut [u8; 1048576],
+) {
+    let l = broker::work_lengths(front(bytes, n));
+    print_answer(call_named(front(bytes, n), l, tree, leaf_commitments, q));
 }

@@ -2,7 +2,7 @@
 -- honest record from demand 3.
 use Prim.Native.Nat.{ℕ, _/_, _≤_}
 use mathlib.Core.Path.{_≡_, refl, sym, ap, _∙_}
-use mathlib.Core.Bool.{Bool, true, false, cond}
+use mathlib.Core.Bool.{Bool, true, false, _&&_, not, cond}
 use mathlib.Core.List.{List, [], _∷_, _++_}
 use native.Mathlib.Omega.{arith}
 use lib.Dec.{eqb}
@@ -30,7 +30,10 @@ use Rattle.laws.proofs.Refusals.{none-failed, all-passed}
 use Rattle.record.proofs.SameBytes.{same-refl, same-equal}
 use Rattle.record.proofs.ReadBack.{Lengths, contents-back, reads-back, first-contents, first-reads, read-kind, read-only}
 use Rattle.record.proofs.Reconstructing.{lent, ranNumber, ran-number, ran-made, reconstructs, fields-fit, number-steps}
-use Rattle.record_theorems.specs.Claims.{ReadBack, Version1Read, Ran, Steps, Accepts, AcceptedMeans, Honest, HonestAccepted, Exported}
+use Rattle.named_sets.specs.NamedSets.{namedOk}
+use Rattle.named_sets.specs.NamedCalls.{namedNumber, CheckNamed, HostCheckNamed}
+use Rattle.named_sets.proofs.Numbers.{or-thirteen, same-number, accepted-named}
+use Rattle.record_theorems.specs.Claims.{ReadBack, Version1Read, Ran, Steps, Accepts, AcceptedMeans, Honest, HonestAccepted, OrThirteen, Among, NamedMeans, Exported}
 
 -- ---- reading back
 
@@ -177,9 +180,46 @@ honest s n root iv ch opening opening′ before after signer signer′ work work
 pub honest-accepted : HonestAccepted
 honest-accepted = record { accepted = honest }
 
+-- ---- named sets
+
+module _ (P : Primitives) (rec : List ℕ) (x y z : Work) (named checked : Answer) (k : CheckNamed P rec x y named) (c : CheckRecord P rec x z checked) where
+  or : OrThirteen rec named checked
+  or = record { number = k .number ∙ or-thirteen rec P _ ∙ ap (cond (eqb (headNumber rec) 0 && not (namedOk (contentsOf rec .shape) (contentsOf rec .row))) 13) (sym (c .number)) }
+
+  among : Among rec named checked y z
+  among =
+      let same : namedOk (contentsOf rec .shape) (contentsOf rec .row) ≡ true → named .number ≡ checked .number = λ n. k .number ∙ same-number rec P _ n ∙ sym (c .number) in
+      record {
+        only = λ e. let n = accepted-named rec P _ (sym (k .number) ∙ e) in (sym (same n) ∙ e, n);
+        always = λ e n. same n ∙ e;
+        same = λ n. (
+          same n,
+          k .count ∙ ap (λ (m : ℕ). countWith (answered m) (plannedCount (resolved (contentsOf rec .shape)) (contentsOf rec .challenge))) (same n) ∙ sym (c .count),
+          k .buffers ∙ ap (λ (m : ℕ). written (answered m) (workOf (made P (contentsOf rec))) x) (same n) ∙ sym (c .buffers),
+        );
+      }
+
+pub named-means : (P : Primitives) → NamedMeans P
+named-means P = record { number = or P; exactly = among P }
+
 -- ---- the exported calls
 
 module _ (P : Primitives) where
+  -- with one number the exported call writes and counts what the call beneath it does; x is what the work buffers held
+  same-bytes : (rec count count′ : List ℕ) (x y z : Work) (r : Answer) (n : ℕ)
+      → n ≡ r .number
+      → r .count ≡ countWith (answered (r .number)) (plannedCount (resolved (contentsOf rec .shape)) (contentsOf rec .challenge))
+      → y ≡ written (answered (r .number)) (workOf (made P (contentsOf rec))) x
+      → z ≡ written (answered n) (workOf (made P (contentsOf rec))) x
+      → count′ ≡ countSlice (answered n) (plannedCount (resolved (contentsOf rec .shape)) (contentsOf rec .challenge)) count
+      → (n ≡ r .number) × (z ≡ y) × (count′ ≡ countSlice (answered (r .number)) (r .count) count)
+  same-bytes rec count count′ x y z r n same counts wrote host slice = (
+    same,
+    host ∙ ap (λ (m : ℕ). written (answered m) (workOf (made P (contentsOf rec))) x) same ∙ sym wrote,
+    slice ∙ ap (λ (m : ℕ). countSlice (answered m) (plannedCount (resolved (contentsOf rec .shape)) (contentsOf rec .challenge)) count) same
+        ∙ sym (ap (λ (m : ℕ). countSlice (answered (r .number)) m count) counts ∙ count-slice (answered (r .number)) _ count),
+  )
+
   check : (rec count count′ : List ℕ) (x y z : Work) (r : Answer) (n : ℕ)
       → CheckRecord P rec x y r
       → HostCheckRecord P rec x z count count′ n
@@ -187,13 +227,16 @@ module _ (P : Primitives) where
       → (n ≡ r .number) × (z ≡ y) × (count′ ≡ countSlice (answered (r .number)) (r .count) count)
   unfolding recordNumber
   check rec count count′ x y z r n k h e =
-      let t = eq-eqb (length count) 4 e in
-      let same : n ≡ r .number = h .number ∙ rw t (sym (k .number)) in (
-        same,
-        h .buffers ∙ ap (λ (m : ℕ). written (answered m) (workOf (made P (contentsOf rec))) x) same ∙ sym (k .buffers),
-        h .counted ∙ ap (λ (m : ℕ). countSlice (answered m) (plannedCount (resolved (contentsOf rec .shape)) (contentsOf rec .challenge)) count) same
-            ∙ sym (ap (λ (m : ℕ). countSlice (answered (r .number)) m count) (k .count) ∙ count-slice (answered (r .number)) _ count),
-      )
+      same-bytes rec count count′ x y z r n (h .number ∙ rw (eq-eqb (length count) 4 e) (sym (k .number))) (k .count) (k .buffers) (h .buffers) (h .counted)
+
+  check-named : (rec count count′ : List ℕ) (x y z : Work) (r : Answer) (n : ℕ)
+      → CheckNamed P rec x y r
+      → HostCheckNamed P rec x z count count′ n
+      → length count ≡ 4
+      → (n ≡ r .number) × (z ≡ y) × (count′ ≡ countSlice (answered (r .number)) (r .count) count)
+  unfolding namedNumber
+  check-named rec count count′ x y z r n k h e =
+      same-bytes rec count count′ x y z r n (h .number ∙ rw (eq-eqb (length count) 4 e) (sym (k .number))) (k .count) (k .buffers) (h .buffers) (h .counted)
 
   -- a slice that has its length leaves the number of the call beneath
   only-first : (k n m : ℕ) → n ≡ m → firstRefusal ((eqb k 0, k) ∷ (fits ((n, m) ∷ []), 3) ∷ []) ≡ k
@@ -215,6 +258,7 @@ module _ (P : Primitives) where
   exported =
       record {
         check = check;
+        check-named = check-named;
         work-lengths = λ rec before after l n w h e.
             let same = h .number ∙ only-first (headNumber rec) (length before) 12 e ∙ sym (w .number) in (
               same,

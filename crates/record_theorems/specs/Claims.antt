@@ -1,7 +1,8 @@
--- Document 02, E6, with the versions of E7 and E8, over the contracts of write_record and check_record, alone and with those of commit, open and reconstruct. ../proofs/Claims.antt proves all.
+-- Document 02, E6, with the versions of E7 and E8, over the contracts of write_record and check_record, alone and with those of commit, open and reconstruct; and E13, over the
+-- contracts of check_named and check_record. ../proofs/Claims.antt proves all.
 use Prim.Native.Nat.{ℕ, _/_, _≤_}
 use mathlib.Core.Path.{_≡_}
-use mathlib.Core.Bool.{true, cond}
+use mathlib.Core.Bool.{true, _&&_, not, cond}
 use mathlib.Core.List.{List, [], _∷_}
 use lib.Dec.{eqb}
 use lib.ListN.{length}
@@ -15,9 +16,11 @@ use Rattle.laws.specs.Lengths.{Sized}
 use Rattle.laws.proofs.Numbers.{Digits}
 use Rattle.record.specs.declared.Lengths.{Lengths}
 use Rattle.record.specs.declared.RecordLength.{RecordLength}
-use Rattle.record.specs.Record.{versionOf, Contents, contentsOf, readNumber, recordOf, recordBytes, recordOfVersion1}
+use Rattle.record.specs.Record.{versionOf, Contents, contentsOf, headNumber, readNumber, recordOf, recordBytes, recordOfVersion1}
 use Rattle.record.specs.RecordCalls.{Work, workLengths, WorkLengths, Reconstructs, sameBytes, answered, CheckRecord, LengthOf, WriteRecord}
 use Rattle.record.specs.HostRecordCalls.{HostCheckRecord, HostWorkLengths, HostRecordLength}
+use Rattle.named_sets.specs.NamedSets.{namedOk}
+use Rattle.named_sets.specs.NamedCalls.{CheckNamed, HostCheckNamed}
 
 -- a written record is read back as the same fields, and no other string of bytes is read so but the record of version 1; version 3 means kind 1, any other kind 0
 pub record ReadBack : Type 0 where
@@ -95,12 +98,32 @@ pub record HonestAccepted : Type 0 where
       → plannedCount (resolved s) ch ≤ resolved s .t
       → Honest (resolved s) ch opened wrote checked
 
+-- check_named beside check_record on one record and the same buffers: 13 where the front is read and is no named set's, and else the number of check_record
+pub record OrThirteen (rec : List ℕ) (named checked : Answer) : Type 0 where
+  pub number : named .number ≡ cond (eqb (headNumber rec) 0 && not (namedOk (contentsOf rec .shape) (contentsOf rec .row))) 13 (checked .number)
+
+-- it accepts exactly what check_record accepts among the named sets, and of those the two write and count the same
+pub record Among (rec : List ℕ) (named checked : Answer) (y z : Work) : Type 0 where
+  pub only : named .number ≡ 0 → (checked .number ≡ 0) × (namedOk (contentsOf rec .shape) (contentsOf rec .row) ≡ true)
+  pub always : checked .number ≡ 0 → namedOk (contentsOf rec .shape) (contentsOf rec .row) ≡ true → named .number ≡ 0
+  pub same : namedOk (contentsOf rec .shape) (contentsOf rec .row) ≡ true → (named .number ≡ checked .number) × (named .count ≡ checked .count) × (y ≡ z)
+
+pub record NamedMeans (P : Primitives) : Type 0 where
+  pub number : (rec : List ℕ) (x y z : Work) (named checked : Answer) → CheckNamed P rec x y named → CheckRecord P rec x z checked → OrThirteen rec named checked
+  pub exactly : (rec : List ℕ) (x y z : Work) (named checked : Answer) → CheckNamed P rec x y named → CheckRecord P rec x z checked → Among rec named checked y z
+
 -- where its count slice or its slice for lengths has the right length, an exported call gives the number and bytes of the call beneath it
 pub record Exported (P : Primitives) : Type 0 where
   pub check :
       (rec count count′ : List ℕ) (x y z : Work) (r : Answer) (n : ℕ)
       → CheckRecord P rec x y r
       → HostCheckRecord P rec x z count count′ n
+      → length count ≡ 4
+      → (n ≡ r .number) × (z ≡ y) × (count′ ≡ countSlice (answered (r .number)) (r .count) count)
+  pub check-named :
+      (rec count count′ : List ℕ) (x y z : Work) (r : Answer) (n : ℕ)
+      → CheckNamed P rec x y r
+      → HostCheckNamed P rec x z count count′ n
       → length count ≡ 4
       → (n ≡ r .number) × (z ≡ y) × (count′ ≡ countSlice (answered (r .number)) (r .count) count)
   pub work-lengths :

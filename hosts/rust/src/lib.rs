@@ -24,6 +24,8 @@ pub const VERSION: usize = 9;
 pub const FIELD: usize = 10;
 /// The reconstructed commitment is not the record's.
 pub const MISMATCH: usize = 11;
+/// Shape and row length of a record are no named set's.
+pub const NOT_NAMED: usize = 13;
 
 /// Bytes of an IV.
 pub const IV: usize = 16;
@@ -224,36 +226,53 @@ pub fn work_lengths(record: &[u8], lengths: &mut [u8]) -> usize {
     unsafe { rachnoel_work_lengths(record.as_ptr(), record.len(), lengths.as_mut_ptr(), lengths.len()) }
 }
 
-/// Whether a record has its form, reconstruct accepts its fields, and gives the record's commitment. The corrections are not bound by it.
+/// A call on a record with its three work buffers and a count.
 #[cfg(feature = "broker")]
-pub fn check_record(record: &[u8], tree: &mut [u8], leaf_commitments: &mut [u8], q: &mut [u8], count: &mut [u8]) -> usize {
-    extern "C" {
-        fn rachnoel_check_record(
-            record: *const u8,
-            record_len: usize,
-            tree: *mut u8,
-            tree_len: usize,
-            leaf_commitments: *mut u8,
-            leaf_commitments_len: usize,
-            q: *mut u8,
-            q_len: usize,
-            count: *mut u8,
-            count_len: usize,
-        ) -> usize;
-    }
-    // SAFETY: as in `call!`.
-    unsafe {
-        rachnoel_check_record(
-            record.as_ptr(),
-            record.len(),
-            tree.as_mut_ptr(),
-            tree.len(),
-            leaf_commitments.as_mut_ptr(),
-            leaf_commitments.len(),
-            q.as_mut_ptr(),
-            q.len(),
-            count.as_mut_ptr(),
-            count.len(),
-        )
-    }
+macro_rules! check {
+    ($(#[$doc:meta])* $name:ident = $symbol:ident) => {
+        $(#[$doc])*
+        pub fn $name(record: &[u8], tree: &mut [u8], leaf_commitments: &mut [u8], q: &mut [u8], count: &mut [u8]) -> usize {
+            extern "C" {
+                fn $symbol(
+                    record: *const u8,
+                    record_len: usize,
+                    tree: *mut u8,
+                    tree_len: usize,
+                    leaf_commitments: *mut u8,
+                    leaf_commitments_len: usize,
+                    q: *mut u8,
+                    q_len: usize,
+                    count: *mut u8,
+                    count_len: usize,
+                ) -> usize;
+            }
+            // SAFETY: as in `call!`.
+            unsafe {
+                $symbol(
+                    record.as_ptr(),
+                    record.len(),
+                    tree.as_mut_ptr(),
+                    tree.len(),
+                    leaf_commitments.as_mut_ptr(),
+                    leaf_commitments.len(),
+                    q.as_mut_ptr(),
+                    q.len(),
+                    count.as_mut_ptr(),
+                    count.len(),
+                )
+            }
+        }
+    };
+}
+
+#[cfg(feature = "broker")]
+check! {
+    /// Whether a record has its form, reconstruct accepts its fields, and gives the record's commitment. The corrections are not bound by it.
+    check_record = rachnoel_check_record
+}
+
+#[cfg(feature = "broker")]
+check! {
+    /// The same for the twelve sets of FAEST version 2 alone, each with its row length.
+    check_named = rachnoel_check_named
 }

@@ -1,6 +1,7 @@
 //! Records through the archives beside the second implementation, byte by byte: written, and checked as they are. Those that are changed are checked by `../c/fuzz_records.c`.
 
 use rachnoel::{number, Shape};
+use reference::named;
 use reference::record::{self, Record};
 
 const SHAPES: [(Shape, usize); 18] = [
@@ -72,6 +73,15 @@ fn written_and_checked() {
             let checked = rachnoel::check_record(&bytes, &mut tree, &mut coms, &mut q, &mut count);
             let answer = record::check_record(&bytes, &mut their_tree, &mut their_coms, &mut their_q);
             assert_eq!((checked, answer.number, number(count)), (right, right as u32, answer.count), "{shape:?}");
+            assert_eq!((&tree, &coms, &q), (&their_tree, &their_coms, &their_q));
+            for buffer in [&mut tree, &mut coms, &mut q, &mut their_tree, &mut their_coms, &mut their_q] {
+                buffer.fill(0x3c);
+            }
+            let mut count = [0x3c; 4];
+            let checked = rachnoel::check_named(&bytes, &mut tree, &mut coms, &mut q, &mut count);
+            let answer = named::check_named(&bytes, &mut their_tree, &mut their_coms, &mut their_q);
+            let counted = if checked == rachnoel::NOT_NAMED { 0x3c3c_3c3c } else { answer.count };
+            assert_eq!((checked as u32, number(count)), (answer.number, counted), "{shape:?}");
             assert_eq!((&tree, &coms, &q), (&their_tree, &their_coms, &their_q));
         }
     }

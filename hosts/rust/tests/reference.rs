@@ -353,9 +353,9 @@ fn stretches() {
     seen[1].all(&[0, 1, 2, 3, 4, 5, 6, 8], 10);
 }
 
-/// The sets of document 000, at their row lengths.
+/// The sets of document 000 at their row lengths, FAEST-128f as four zeros.
 #[test]
-fn named_sets() {
+fn all_sets() {
     let mut dice = Dice(5);
     let sets = [
         (rachnoel::DEFAULT, 1680),

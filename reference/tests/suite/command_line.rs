@@ -449,6 +449,7 @@ fn arguments_that_cannot_be_read() {
         format!("record 1 1 127 1 128 0 8 {ROOT} {ROOT}"),
         format!("pairs 1 1 127 1 128 0 8 {ROOT} {ROOT} {ROOT} 0"),
         "check more".into(),
+        "check --named more".into(),
     ] {
         assert_eq!(program(&args, ""), (2, String::new()), "{args}");
     }

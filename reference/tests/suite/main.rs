@@ -8,6 +8,7 @@ mod examples;
 mod known_answers;
 mod limits;
 mod listing;
+mod named;
 mod primitives;
 mod proved_examples;
 mod records;

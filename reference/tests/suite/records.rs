@@ -11,7 +11,7 @@ use crate::support::{first_byte, noise};
 
 /// What commit and open give, to make a record of. Where open is refused the
 /// opening is zeros.
-struct Signed {
+pub struct Signed {
     shape: Shape,
     row_bits: usize,
     iv: Vec<u8>,
@@ -22,7 +22,7 @@ struct Signed {
 }
 
 impl Signed {
-    fn new(shape: Shape, row_bits: usize, challenge: &[u8]) -> Signed {
+    pub fn new(shape: Shape, row_bits: usize, challenge: &[u8]) -> Signed {
         let meant = shape.resolve().unwrap();
         let b = row_bits / 8;
         let mut signed = Signed {
@@ -66,7 +66,7 @@ impl Signed {
         }
     }
 
-    fn written(&self) -> Vec<u8> {
+    pub fn written(&self) -> Vec<u8> {
         let meant = self.shape.resolve().unwrap();
         let mut bytes = vec![0x55; record_bytes(&meant, self.row_bits / 8)];
         let answer = write_record(&self.record(), &mut bytes);
