@@ -69,6 +69,9 @@ pub fn add_round_key(s: [[u8; 4]; 4], k: [[u8; 4]; 4]) -> [[u8; 4]; 4]
 
 // ---- the cipher
 
+// The rounds of a key of four words; longer keys have more.
+const FEWEST: usize = 10;
+
 pub fn last_round(t: &[u8; 256], s: [[u8; 4]; 4], k: [[u8; 4]; 4]) -> [[u8; 4]; 4]
     requires { ⌜ SboxTable (now t) ⌝ }
     ensures { λ r. ⌜ r ≡ lastRound s k ⌝ }
@@ -85,19 +88,24 @@ fn two_rounds(t: &[u8; 256], s: [[u8; 4]; 4], k: [[u8; 4]; 4], l: [[u8; 4]; 4]) 
     add_round_key(mix_columns(shift_rows(sub_bytes(t, x))), l)
 }
 
-// CIPHER in n rounds, for the round keys of any key. Rounds 1 and 2 are a call of `two_rounds`, as those of `later_rounds` are, and the others stand here by their steps:
-// then the compiler inlines these alone, which is quickest.
+// CIPHER in n rounds, for the round keys of any key. The nine rounds that every key has are counted by a constant and stand here by their steps, which is quicker;
+// those from 10 on of longer keys go by twos, as in `later_rounds`.
 pub fn encrypt(t: &[u8; 256], keys: &[[[u8; 4]; 4]; 15], n: usize, s: [[u8; 4]; 4]) -> [[u8; 4]; 4]
     requires { ⌜ SboxTable (now t) ⌝ }
-    requires { ⌜ (10 ≤ n) × (n ≤ 14) ⌝ }
+    requires { ⌜ (10 ≤ n) × (n ≤ 14) × (n % 2 ≡ 0) ⌝ }
     ensures { λ r. ⌜ ((nk : ℕ) (key : List ℕ) → n ≡ nk + 6 → Keyed nk key (now (keys .entry)) → r ≡ cipher (nk + 6) (keyExpansion nk key) s) ⌝ }
 {
-    let mut x = two_rounds(t, add_round_key(s, keys[0]), keys[1], keys[2]);
-    let mut i = 3;
-    while i < n {
+    let mut x = add_round_key(s, keys[0]);
+    let mut i = 1;
+    while i < FEWEST {
         let y = add_round_key(mix_columns(shift_rows(sub_bytes(t, x))), keys[i]);
         x = y;
         i += 1;
+    }
+    while i < n {
+        let y = two_rounds(t, x, keys[i], keys[i + 1]);
+        x = y;
+        i += 2;
     }
     last_round(t, x, keys[n])
 }
@@ -109,7 +117,7 @@ fn later_rounds(t: &[u8; 256], keys: &[[[u8; 4]; 4]; 15], n: usize, s: [[u8; 4];
     ensures { λ r. ⌜ ((nk : ℕ) (a : List (List ℕ)) → n ≡ nk + 6 → Rounded nk (now (keys .entry)) a s 9 → Rounded nk (now (keys .entry)) a r (n - 1)) ⌝ }
 {
     let mut x = s;
-    let mut i = 10;
+    let mut i = FEWEST;
     while i < n {
         let y = two_rounds(t, x, keys[i], keys[i + 1]);
         x = y;
@@ -143,7 +151,7 @@ pub fn encrypt_pair(
     let mut x = add_round_key(a, keys[0]);
     let mut y = add_round_key(b, keys[0]);
     let mut i = 1;
-    while i < 10 {
+    while i < FEWEST {
         let c = mix_columns(shift_rows(sub_bytes(t, x)));
         let d = mix_columns(shift_rows(sub_bytes(t, y)));
         let e = add_round_key(c, keys[i]);
@@ -152,7 +160,7 @@ pub fn encrypt_pair(
         y = f;
         i += 1;
     }
-    if 10 < n {
+    if FEWEST < n {
         let c = later_rounds(t, keys, n, x);
         let d = later_rounds(t, keys, n, y);
         x = c;

@@ -46,7 +46,7 @@ pub fn block(
     n: u32,
 ) -> [u8; 16]
     requires { ⌜ SboxTable (now t) ⌝ }
-    requires { ⌜ (10 ≤ rounds) × (rounds ≤ 14) ⌝ }
+    requires { ⌜ (10 ≤ rounds) × (rounds ≤ 14) × (rounds % 2 ≡ 0) ⌝ }
     ensures { λ r. ⌜ ((nk : ℕ) (key : List ℕ) → rounds ≡ nk + 6 → Keyed nk key (now (keys .entry)) → r ≡ generatorBlock nk key iv tweak n) ⌝ }
 {
     aes::bytes_of(aes::encrypt(t, keys, rounds, counter(aes::load_state(&iv), tweak, n)))
