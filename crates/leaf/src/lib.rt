@@ -2,12 +2,12 @@
 ghost use mathlib.Core.Path.{_≡_};
 ghost use mathlib.Core.Bool.{true, false};
 ghost use mathlib.Core.List.{List};
-ghost use Prim.Native.Nat.{ℕ, _+_, _-_, _*_, _^_, _≤_};
+ghost use Prim.Native.Nat.{ℕ, _+_, _-_, _*_, _^_, _≤_, _<_};
 ghost use lib.ListN.{length};
 ghost use Rattle.spec.specs.Gf256.{SboxTable};
 ghost use Rattle.spec.specs.Shapes.{ordinary, nodeBytes, leafCommitmentBytes, leaves, shapeOk};
 ghost use Rattle.spec.specs.Primitives.{faest};
-ghost use Rattle.spec.specs.Leaves.{hashKey, leafSeed, leafCommitment};
+ghost use Rattle.spec.specs.Leaves.{leafSeed, leafCommitment};
 ghost use Rattle.leaf.specs.HashKeys.{HashKeys, HashMultiples};
 use spec::Shape;
 
@@ -29,13 +29,14 @@ pub fn hash_keys(s: Shape, iv: &[u8], keys: &mut [u8])
     }
 }
 
-// The multiples of a vector's hash key; of leaves that have none any table will do.
-pub fn hash_multiples(s: Shape, key: &[u8]) -> [[u64; 12]; 16]
-    requires { ⌜ (shapeOk s ≡ true) × (length (now key) ≡ leafCommitmentBytes s) ⌝ }
-    ensures { λ r. ⌜ ((iv : List ℕ) (i : ℕ) → (ordinary s ≡ true → now (key .entry) ≡ hashKey faest s iv i) → HashMultiples s iv i r) ⌝ }
+// The multiples of the hash key of vector i; of leaves that have none any table will do.
+pub fn hash_multiples(s: Shape, i: usize, keys: &[u8]) -> [[u64; 12]; 16]
+    requires { ⌜ (shapeOk s ≡ true) × (i < s .tau) × (length (now keys) ≡ leafCommitmentBytes s * s .tau) ⌝ }
+    ensures { λ r. ⌜ ((iv : List ℕ) → HashKeys s iv (now (keys .entry)) → HashMultiples s iv i r) ⌝ }
 {
     if rules::is_ordinary(s) {
-        return leaf_hash::multiples(s, key);
+        let w = rules::commitment_bytes(s);
+        return leaf_hash::multiples(s, &keys[w * i..w * i + w]);
     }
     [[0u64; 12]; 16]
 }

@@ -35,9 +35,8 @@ fn convert(
     requires { ⌜ (length (now lcs) ≡ leafCommitmentBytes s * entriesOf s i) × (length (now total) ≡ z .width) × (length (now cols) ≡ z .width * depthOf s i) × (length (now hash) ≡ hashBytes s) ⌝ }
     ensures { λ _. ⌜ Converted s z iv (now (tree .entry)) i (now (total .entry)) (now (total .exit)) (now (lcs .exit)) (now (cols .exit)) (now (hash .exit)) ⌝ }
 {
-    let w = rules::commitment_bytes(s);
     let r = rules::rate_bytes(s);
-    let m = leaf::hash_multiples(s, &keys[w * i..w * i + w]);
+    let m = leaf::hash_multiples(s, i, keys);
     vector::add_entries(t, &m, s, i, 0, 0, z, iv, tree, lcs, total, cols);
     shake::h1(r, lcs, hash);
 }

@@ -83,7 +83,7 @@ pub fn convert(
 {
     let w = rules::commitment_bytes(s);
     let r = rules::rate_bytes(s);
-    let m = leaf::hash_multiples(s, &keys[w * i..w * i + w]);
+    let m = leaf::hash_multiples(s, i, keys);
     add_visible(t, &m, s, i, d, z, iv, tree, hidden, lcs, cols);
     hash_vector(w, r, lcs, d, hidden, hash);
 }

@@ -1,9 +1,8 @@
 -- The promises of its parts, with the hidden commitment of the opening in its place.
 use borrow.Author.Needs.{needs}
-use mathlib.Core.Path.{_≡_, refl, sym, ap, ap₂, _∙_}
+use mathlib.Core.Path.{_≡_, sym, ap, ap₂, _∙_}
 use mathlib.Core.List.{List, _++_}
 use Prim.Native.Nat.{ℕ, _+_, _*_}
-use native.Mathlib.Nat.{le-add-right}
 use native.Mathlib.Omega.{arith}
 use lib.Bits.{bitXor}
 use lib.ListN.{length, take, drop}
@@ -17,73 +16,33 @@ use Rattle.spec.specs.Leaves.{leafKey, leafCommitment, vectorCommitments, vecto
 use Rattle.spec.specs.Rows.{stretchByte, columnByte}
 use Rattle.spec.specs.Verifier.{verifierLeafCommitment}
 use Rattle.laws.proofs.Lists.{length-tabulate}
-use Rattle.laws.proofs.Concat.{mul-limit}
-use Rattle.planning_laws.proofs.ShapeFacts.{shape-facts}
-use Rattle.leaf.proofs.Keys.{key-of}
-use Rattle.vector.proofs.Buffers.{lent, block-end}
+use Rattle.vector.proofs.Buffers.{block-end}
 use Rattle.verifier_vector.specs.Vector.{given}
 use Rattle.verifier_vector.proofs.Hidden.{hashed-whole}
 use Rattle.verifier_vector.proofs.convert.Statement.{statement}
 use Rattle.verifier_vector.proofs.convert.Tie as tie
 
-mul-key : tie.Need-mul-hash-multiples
-mul-key c =
-    let start = c .before .before .before .before .before .before .before .before in
-    let f = shape-facts (start .args .s) (start .pre .1 .0 .0) in
-    let w = c .before .commitment-bytes in
-    let m = mul-limit (w .result) (start .args .i) 96 32 (w .ensures .1) (omega arith) in
-    omega arith
-
-mul-key-2 : tie.Need-mul-hash-multiples-2
-mul-key-2 c =
-    let start = c .before .before .before .before .before .before .before .before in
-    let f = shape-facts (start .args .s) (start .pre .1 .0 .0) in
-    let w = c .before .commitment-bytes in
-    let m = mul-limit (w .result) (start .args .i) 96 32 (w .ensures .1) (omega arith) in
-    omega arith
-
-add-key : tie.Need-add-hash-multiples
-add-key c =
-    let start = c .before .before .before .before .before .before .before .before in
-    let f = shape-facts (start .args .s) (start .pre .1 .0 .0) in
-    let w = c .before .commitment-bytes in
-    let m = mul-limit (w .result) (start .args .i) 96 32 (w .ensures .1) (omega arith) in
-    omega (arith, w .ensures .1)
-
-key-end : tie.Need-part-hash-multiples-end
-key-end c =
-    let start = c .before .before .before .before .before .before .before .before in
-    let w = c .before .commitment-bytes in
-    let l = start .pre .1 .0 .4 .size in
-    let all : w .result * start .args .s .tau ≡ leafCommitmentBytes (start .args .s) * start .args .s .tau = ap (λ (n : ℕ). n * start .args .s .tau) (w .ensures .0) in
-    block-end (w .result) (start .args .i) (start .args .s .tau) (length (start .args .keys .now)) (start .pre .1 .0 .1) (omega arith)
-
 hash-multiples-requires : tie.Need-hash-multiples-requires
-hash-multiples-requires c κs =
-    let start = c .before .before .before .before .before .before .before .before .before in
-    let w = c .before .before .commitment-bytes in
-    (start .pre .1 .0 .0, lent (w .result * start .args .i) _ (w .result) (start .args .keys .now) refl (key-end (c .before)) ∙ w .ensures .0)
+hash-multiples-requires c κs = (let p = c .before .before .before .before .before .before .before .before .pre .1 .0 in (p .0, p .1, p .4 .size))
 
 add-visible-requires : tie.Need-add-visible-requires
 add-visible-requires c κs =
-    let start = c .before .before .before .before .before .before .before .before .before .before .before .before .before in
+    let start = c .before .before .before .before .before .before .before .before .before .before .before .before in
     let g = start .args in
-    let p = start .pre in
-    let w = c .before .before .before .before .before .before .commitment-bytes in
-    let key = key-of (g .s) (g .iv) (g .keys .now) (p .1 .0 .4) (w .result) (g .i) (w .ensures .0) in (
+    let p = start .pre in (
       p .0,
       (
         (p .1 .0 .0, p .1 .0 .1, p .1 .0 .2, p .1 .0 .3, p .1 .0 .5),
-        ((p .1 .1 .0, p .1 .1 .1, p .1 .1 .2), c .before .before .before .hash-multiples .ensures (g .iv) (g .i) key),
+        ((p .1 .1 .0, p .1 .1 .1, p .1 .1 .2), c .before .before .before .hash-multiples .ensures (g .iv) (p .1 .0 .4)),
       ),
     )
 
 hash-vector-requires : tie.Need-hash-vector-requires
 hash-vector-requires c κs =
-    let start = c .before .before .before .before .before .before .before .before .before .before .before .before .before .before .before .before .before .before .before .before in
+    let start = c .before .before .before .before .before .before .before .before .before .before .before .before .before .before .before .before .before .before .before in
     let g = start .args in
-    let w = c .before .before .before .before .before .before .before .before .before .before .before .before .before .commitment-bytes in
-    let r = c .before .before .before .before .before .before .before .before .before .before .before .before .rate-bytes .ensures in
+    let w = c .before .before .before .before .before .before .before .before .before .before .before .before .commitment-bytes in
+    let r = c .before .before .before .before .before .before .before .before .before .before .before .rate-bytes .ensures in
     let n = entriesOf (g .s) (g .i) in
     let long = c .before .before .before .before .before .before .add-visible .kept .1 .1 .1 .1 .1 .1 .1 .1 .1 .0 ∙ start .pre .1 .1 .1 in
     let all : w .result * n ≡ leafCommitmentBytes (g .s) * n = ap (λ (m : ℕ). m * n) (w .ensures .0) in
@@ -95,14 +54,14 @@ own-size s iv tree i e = commitment-length faest s iv i (leafKey s tree i e)
 returns : tie.Need-returns
 unfolding faest vectorCommitments vectorHash verifierLeafCommitment
 returns c ch opening hd hh =
-    let start = c .before .before .before .before .before .before .before .before .before .before .before .before .before .before .before .before .before .before .before .before .before .before .before in
+    let start = c .before .before .before .before .before .before .before .before .before .before .before .before .before .before .before .before .before .before .before .before .before .before in
     let g = start .args in
     let p = start .pre in
     let s = g .s in
     let x = g .tree .now in
     let n = entriesOf s (g .i) in
-    let w = c .before .before .before .before .before .before .before .before .before .before .before .before .before .before .before .before .commitment-bytes in
-    let rated = c .before .before .before .before .before .before .before .before .before .before .before .before .before .before .before .rate-bytes .ensures .0 in
+    let w = c .before .before .before .before .before .before .before .before .before .before .before .before .before .before .before .commitment-bytes in
+    let rated = c .before .before .before .before .before .before .before .before .before .before .before .before .before .before .rate-bytes .ensures .0 in
     let made = c .before .before .before .before .before .before .before .before .before .add-visible in
     let lcs : List ℕ = made .last .1 .1 .1 .1 .1 .1 .1 .1 .1 .0 in
     let own : ℕ → List ℕ = λ e. leafCommitment faest s (g .iv) (g .i) (leafKey s x (g .i) e) in
@@ -123,12 +82,6 @@ convert-spec =
     (tie.spec
     (λ c κs. search needs)
     (λ c κs. search needs)
-    mul-key
-    mul-key-2
-    add-key
-    (λ c. le-add-right _ _)
-    (λ c. le-add-right _ _)
-    key-end
     hash-multiples-requires
     add-visible-requires
     hash-vector-requires
