@@ -46,6 +46,8 @@ MAY = {
     'report_text/proofs/Examples.antt': 'the same: the definitions of a shape unfolded',
     'standards/proofs/LongRowsExample.antt': 'the same: a shape written out',
     'standards/proofs/UnevenExample.antt': 'the same',
+    'standards_levels/proofs/Level192Example.antt': 'the same',
+    'standards_levels/proofs/Level256EmExample.antt': 'the same',
     'theorems/proofs/PlanningExamples.antt': 'the same',
     'bench_exports/src/': 'shapes written out',
     'run_round_trip/src/': 'the same',
