@@ -14,9 +14,9 @@ Shown of the public functions of `signer` and `verifier` and of all that they ca
    reads behind its call, they have at most 64. No function calls itself.
 4. Every other array above 16 bytes is in TABLE, with what it holds.
 
-Trusted: this script and its reader, sources.py, both of which refuse what they do not know; what KIT says of the kit's functions; and no array is meant that
-the compiler makes for a copy. At the end the script tests itself: each of EDITS, made in copies of the sources, must fail for the reason beside it, and what is
-ALLOWED must not.
+Trusted: this script and its reader, sources.py, both of which refuse what they do not know; what KIT says of the kit's functions; that the crates of NO_ROWS
+ask for what is said there, and make no row's tweak out of smaller numbers. No array is meant that the compiler makes for a copy. At the end the script tests
+itself: each of EDITS, made in copies of the sources, must fail for the reason beside it, and what is ALLOWED must not.
 """
 import re
 import sys
