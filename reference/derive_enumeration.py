@@ -27,8 +27,8 @@ def run(name, line):
 
 
 runs = re.findall(r'^ +(run|run_digest)\((b".*")\);$', (CRATES / 'list_challenges_runs' / 'src' / 'main.rt').read_text(), re.M)
-if len(runs) < 66:
-    sys.exit(f'derive_enumeration: {len(runs)} inputs found, fewer than 66')
+if len(runs) != 66:
+    sys.exit(f'derive_enumeration: {len(runs)} inputs found, and not 66')
 derived = {
     'list_challenges': listed((CRATES / 'list_challenges' / 'stdin').read_bytes()),
     'list_challenges_runs': b''.join(run(name, ast.literal_eval(text)) for name, text in runs),

@@ -21,8 +21,8 @@ def listed(line):
 
 
 runs = re.findall(r'^ +run\((b".*")\);$', (CRATES / 'list_nodes_runs' / 'src' / 'main.rt').read_text(), re.M)
-if len(runs) < 55:
-    sys.exit(f'derive_listing: {len(runs)} inputs found, fewer than 55')
+if len(runs) != 60:
+    sys.exit(f'derive_listing: {len(runs)} inputs found, and not 60')
 derived = {
     'list_nodes': listed((CRATES / 'list_nodes' / 'stdin').read_bytes()),
     'list_nodes_runs': b''.join(listed(ast.literal_eval(text)) for text in runs),

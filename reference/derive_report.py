@@ -72,8 +72,8 @@ def runs():
     found = Runs()
     for name, call, words in re.findall(r'^    (?:let (\w) = )?(\w+)\(input((?:, \w+)*)\);$', source[source.index('\nfn single('):], re.M):
         found.step(name, call, words.split(', ')[1:])
-    if len(found.outputs) < 44:
-        sys.exit(f'derive_report: {len(found.outputs)} runs found, fewer than 44')
+    if len(found.outputs) != 47:
+        sys.exit(f'derive_report: {len(found.outputs)} runs found, and not 47')
     return b''.join(found.outputs)
 
 

@@ -54,6 +54,10 @@ LENGTHS.update({'at_level': 11, 'stretch_at_level': 13, 'decode_at_level': 9, 'p
 LENGTHS.update({form.removesuffix('level') + 'kind': length + 1 for form, length in LENGTHS.items() if form.endswith('at_level')})
 
 
+# how many cases each program has: a form that the search below misses is noticed
+CASES = {'vectors': 264, 'vectors_stretches': 170, 'vectors_records': 58}
+
+
 def cases(name):
     """The form and the numbers of each case, in the order of the program."""
     source = re.sub(r'//[^\n]*', '', (CRATES / name / 'src' / 'main.rt').read_text())
@@ -119,9 +123,12 @@ def printed(command):
     return subprocess.run([PROGRAM, *command], check=True, capture_output=True, text=True).stdout
 
 
-def check(name, write):
+def check(name, count, write):
     stored_file = CRATES / name / 'stdout'
-    derived = [(line, command) for form, case in cases(name) for command in commands(form, case) for line in printed(command).splitlines()]
+    found = list(cases(name))
+    if len(found) != count:
+        sys.exit(f'derive_vectors: {len(found)} cases found in {name}, and not {count}')
+    derived = [(line, command) for form, case in found for command in commands(form, case) for line in printed(command).splitlines()]
     if write:
         stored_file.write_text(''.join(line + '\n' for line, _ in derived))
         return
@@ -138,8 +145,8 @@ def check(name, write):
 def main():
     if sys.argv[1:] not in ([], ['--write']):
         sys.exit(__doc__)
-    for name in 'vectors', 'vectors_stretches', 'vectors_records':
-        check(name, write=bool(sys.argv[1:]))
+    for name, count in CASES.items():
+        check(name, count, write=bool(sys.argv[1:]))
 
 
 main()

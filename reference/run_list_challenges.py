@@ -4,18 +4,18 @@
     run_list_challenges.py [PROGRAM]      exit status 1 at the first input where the two differ
 
 A good line has at most 24 bytes, of which the program reads 64: the inputs end before, at and behind both numbers. No contract can say how many bytes a program reads, nor
-that it writes each piece, so this is run, also on shapes of every number of bits up to 16, on damaged inputs, and on inputs that arrive in parts or cannot be read. The
-longest outputs must take less than a second of the processor. Last, outputs that cannot be written, or not to their end: the program must say so on standard error, and
-not write on; and the picture of docs/, drawn anew.
+that it writes each piece, so this is run, also on shapes of every number of bits up to 16, on damaged inputs, and on an input that arrives in parts. The longest outputs must
+take less than a second of the processor. Last, inputs that cannot be read, and outputs that cannot be written, or not to their end: the program must say so on standard
+error, and not write on; and the picture of docs/, drawn anew.
 """
-import os
 import random
 import resource
 import signal
 import subprocess
 import sys
-import time
 from pathlib import Path
+
+from odd_streams import failed_reads, failed_writes, in_parts
 
 HERE = Path(__file__).resolve().parent
 REFERENCE = HERE / 'target' / 'release' / 'reference'
@@ -74,41 +74,6 @@ def seconds():
     return used.ru_utime + used.ru_stime
 
 
-def said(what, text, **options):
-    program = subprocess.run([PROGRAM], input=text, stderr=subprocess.PIPE, **options)
-    if not program.stderr.startswith(b'list_challenges: standard output: ') or program.stderr.count(b'\n') != 1:
-        sys.exit(f'list_challenges, {what}: standard error has {program.stderr!r}')
-
-
-def failed_writes():
-    for text in (SHORT, LONGEST[0], b''):
-        with open('/dev/full', 'wb') as full:
-            said('output that cannot be written', text, stdout=full)
-        said('standard output closed', text, preexec_fn=lambda: os.close(1))
-        # a reader that is gone before anything is written, told by the write and not by a signal
-        read, write = os.pipe()
-        os.close(read)
-        said('a pipe without a reader', text, stdout=write, restore_signals=False, preexec_fn=lambda: signal.signal(signal.SIGPIPE, signal.SIG_IGN))
-        os.close(write)
-
-
-def odd_inputs():
-    # an input that arrives in parts is read to its end; one that cannot be read counts as empty
-    program = subprocess.Popen([PROGRAM], stdin=subprocess.PIPE, stdout=subprocess.PIPE)
-    for part in (b'2 ', b'2 12', b'', b'4', b' 3', b'\n'):
-        program.stdin.write(part)
-        program.stdin.flush()
-        time.sleep(0.02)
-    if program.communicate()[0] != listed([REFERENCE, 'list_challenges'], SHORT).stdout:
-        sys.exit('list_challenges, an input in parts: another output')
-    folder = os.open('/', os.O_RDONLY)
-    for options in ({'stdin': folder}, {'preexec_fn': lambda: os.close(0)}):
-        found = subprocess.run([PROGRAM], capture_output=True, **options)
-        if found.stdout != b'refused 7\n' or found.stderr:
-            sys.exit(f'list_challenges, an input that cannot be read: {found.stdout!r}, {found.stderr!r}')
-    os.close(folder)
-
-
 def stopped_reader():
     # a reader that takes one piece and goes away; the program ends all the same
     program = subprocess.Popen([PROGRAM], stdin=subprocess.PIPE, stdout=subprocess.PIPE, stderr=subprocess.PIPE, restore_signals=False,
@@ -150,11 +115,13 @@ def main():
         if took > 1:
             sys.exit(f'list_challenges, {text!r}: {took:.1f} s')
         tried += 1
-    odd_inputs()
-    failed_writes()
+    if in_parts(PROGRAM, (b'2 ', b'2 12', b'', b'4', b' 3', b'\n')) != listed([REFERENCE, 'list_challenges'], SHORT).stdout:
+        sys.exit('list_challenges, an input in parts: another output')
+    failed_reads(PROGRAM, SHORT + b'\n')
+    failed_writes(PROGRAM, (SHORT, LONGEST[0], b''))
     stopped_reader()
     picture()
-    print(f'list_challenges: {tried} inputs as reference/ lists them, and a failed write is said')
+    print(f'list_challenges: {tried} inputs as reference/ lists them, and a failed read or write is said')
 
 
 main()

@@ -4,11 +4,14 @@
     run_list_nodes.py [PROGRAM]      exit status 1 at the first input where the two differ
 
 A good line has at most 57 bytes, of which the program reads 64: the inputs end before, at and behind both numbers. No contract can say how many bytes a program
-reads, so this is run. Last, an output that cannot be written: the program must say so on standard error.
+reads, so this is run. Last, inputs that cannot be read and outputs that cannot be written: the program must say so on standard
+error.
 """
 import subprocess
 import sys
 from pathlib import Path
+
+from odd_streams import failed_reads, failed_writes
 
 HERE = Path(__file__).resolve().parent
 REFERENCE = HERE / 'target' / 'release' / 'reference'
@@ -42,11 +45,9 @@ def main():
         if found.stdout != derived or found.stderr:
             sys.exit(f'list_nodes, {len(text)} bytes {text[:70]!r}: {found.stdout!r}, {found.stderr!r}; reference/ has {derived!r}')
         tried += 1
-    with open('/dev/full', 'wb') as full:
-        said = subprocess.run([PROGRAM], input=LONG, stdout=full, stderr=subprocess.PIPE, check=True).stderr
-    if not said.startswith(b'list_nodes: standard output: '):
-        sys.exit(f'list_nodes, output that cannot be written: standard error has {said!r}')
-    print(f'list_nodes: {tried} inputs as reference/ lists them, and a failed write is said')
+    failed_reads(PROGRAM, SHORT + b'\n')
+    failed_writes(PROGRAM, (SHORT, LONG, b''))
+    print(f'list_nodes: {tried} inputs as reference/ lists them, and a failed read or write is said')
 
 
 main()

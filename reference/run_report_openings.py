@@ -4,18 +4,16 @@
     run_report_openings.py [PROGRAM]      exit status 1 at the first input where the two differ
 
 The inputs are records of every version and level, of shapes with few and with many nodes, drawn one after another, whole, damaged and cut; and lengths next to 65,536 bytes,
-of which the program reads one more. No contract can say how many bytes a program reads, so that is run here, also with inputs that arrive in parts or cannot be read.
-Last, outputs that cannot be written: the program must say so on standard error.
+of which the program reads one more. No contract can say how many bytes a program reads, so that is run here, also with an input that arrives in parts.
+Last, inputs that cannot be read and outputs that cannot be written: the program must say so on standard error.
 """
-import os
 import random
-import signal
 import subprocess
 import sys
-import time
 from pathlib import Path
 
 from derive_report import record, with_byte
+from odd_streams import failed_reads, failed_writes, in_parts
 
 HERE = Path(__file__).resolve().parent
 REFERENCE = HERE / 'target' / 'release' / 'reference'
@@ -80,41 +78,6 @@ def compare(text):
     return found.stdout
 
 
-def odd_inputs():
-    # an input that arrives in parts is read to its end; one that cannot be read counts as empty
-    program = subprocess.Popen([PROGRAM], stdin=subprocess.PIPE, stdout=subprocess.PIPE)
-    for part in (SMALL[:1], SMALL[1:60], b'', SMALL[60:] + EXACT[:5], EXACT[5:]):
-        program.stdin.write(part)
-        program.stdin.flush()
-        time.sleep(0.02)
-    if program.communicate()[0] != report([REFERENCE, 'report'], SMALL + EXACT).stdout:
-        sys.exit('report_openings, an input in parts: another output')
-    folder = os.open('/', os.O_RDONLY)
-    for options in ({'stdin': folder}, {'preexec_fn': lambda: os.close(0)}):
-        found = subprocess.run([PROGRAM], capture_output=True, **options)
-        if found.stdout != b'total 0 0\n' or found.stderr:
-            sys.exit(f'report_openings, an input that cannot be read: {found.stdout!r}, {found.stderr!r}')
-    os.close(folder)
-
-
-def said(what, text, **options):
-    program = subprocess.run([PROGRAM], input=text, stderr=subprocess.PIPE, **options)
-    if not program.stderr.startswith(b'report_openings: standard output: ') or program.stderr.count(b'\n') != 1:
-        sys.exit(f'report_openings, {what}: standard error has {program.stderr!r}')
-
-
-def failed_writes():
-    for text in (b'', SMALL, (SMALL * 400)[:65536], (SMALL * 400)[:65537]):
-        with open('/dev/full', 'wb') as full:
-            said('output that cannot be written', text, stdout=full)
-        said('standard output closed', text, preexec_fn=lambda: os.close(1))
-        # a reader that is gone before anything is written, told by the write and not by a signal
-        read, write = os.pipe()
-        os.close(read)
-        said('a pipe without a reader', text, stdout=write, restore_signals=False, preexec_fn=lambda: signal.signal(signal.SIGPIPE, signal.SIG_IGN))
-        os.close(write)
-
-
 def main():
     tried, numbers = 0, set()
     for text in (*lengths(), *drawn()):
@@ -123,9 +86,11 @@ def main():
     missing = {b'1', b'2', b'4', b'5', b'6', b'7', b'9', b'10'} - numbers
     if missing:
         sys.exit(f'report_openings: no input was refused with {sorted(missing)}')
-    odd_inputs()
-    failed_writes()
-    print(f'report_openings: {tried} inputs as reference/ reports them, and a failed write is said')
+    if in_parts(PROGRAM, (SMALL[:1], SMALL[1:60], b'', SMALL[60:] + EXACT[:5], EXACT[5:])) != report([REFERENCE, 'report'], SMALL + EXACT).stdout:
+        sys.exit('report_openings, an input in parts: another output')
+    failed_reads(PROGRAM, SMALL)
+    failed_writes(PROGRAM, (b'', SMALL, (SMALL * 400)[:65536], (SMALL * 400)[:65537]))
+    print(f'report_openings: {tried} inputs as reference/ reports them, and a failed read or write is said')
 
 
 main()

@@ -13,23 +13,28 @@ import sys
 from functools import reduce
 from pathlib import Path
 
-# tau, k, w, T, the bytes of a row, and the bytes of the challenge before its zeros
+# level, leaf kind, tau, k, w, T, the bytes of a row, and the bytes of the challenge before its zeros. No call takes the last two, whose w is above 127: they are examples of what
+# the definitions compute, with few leaves
 EXAMPLES = {
-    'WorkedExample': (3, 2, 122, 7, 2, [0x1E]),
-    'LongRowsExample': (3, 3, 119, 9, 18, [0x5E, 0x01]),
-    'UnevenExample': (3, 1, 123, 6, 2, [0x16]),
+    'WorkedExample': (128, 0, 3, 2, 122, 7, 2, [0x1E]),
+    'LongRowsExample': (128, 0, 3, 3, 119, 9, 18, [0x5E, 0x01]),
+    'UnevenExample': (128, 0, 3, 1, 123, 6, 2, [0x16]),
+    'Level192Example': (192, 0, 2, 1, 189, 3, 2, [0x06]),
+    'Level256EmExample': (256, 1, 2, 1, 253, 3, 2, [0x03]),
 }
 # where an example has a stretch of the rows too: the first word of its lists' names, its first byte and its width
 STRETCHES = {'WorkedExample': ('last', 1, 1)}
 NAME = Path(sys.argv[1]).stem
-TAU, K, W, T, B, FIRST = EXAMPLES[NAME]
-TAU_1 = 128 - W - TAU * K
+LEVEL, KIND, TAU, K, W, T, B, FIRST = EXAMPLES[NAME]
+NODE = LEVEL // 8
+LEAF = (2 if KIND else 3) * NODE
+TAU_1 = LEVEL - W - TAU * K
 DEPTHS = [K + (i < TAU_1) for i in range(TAU)]
 N = [1 << depth for depth in DEPTHS]
 L = sum(N)
-ROOT = [(7 * i + 1) % 256 for i in range(16)]
+ROOT = [(7 * i + 1) % 256 for i in range(NODE)]
 IV = [(11 * i + 3) % 256 for i in range(16)]
-CHALLENGE = FIRST + [0] * (16 - len(FIRST))
+CHALLENGE = FIRST + [0] * (NODE - len(FIRST))
 
 
 # ---- the stand-in primitives
@@ -49,11 +54,11 @@ def h0(message, n):
 
 def h1(message):
     a = weight(message)
-    return [(a + a // 256 * (p + 1)) % 256 for p in range(32)]
+    return [(a + a // 256 * (p + 1)) % 256 for p in range(2 * NODE)]
 
 
 def leaf_hash(u, x0, x1):
-    return [b ^ (u[p] + x0[p % 16]) % 256 for p, b in enumerate(x1)]
+    return [b ^ (u[p] + x0[p % NODE]) % 256 for p, b in enumerate(x1)]
 
 
 # ---- shared by both halves
@@ -72,14 +77,16 @@ def pos_in_tree(i, j):
 
 
 def hidden_indices():
-    bits = [CHALLENGE[b // 8] >> b % 8 & 1 for b in range(128)]
+    bits = [CHALLENGE[b // 8] >> b % 8 & 1 for b in range(LEVEL)]
     return [sum(bits[sum(DEPTHS[:i]) + j] << j for j in range(DEPTHS[i])) for i in range(TAU)]
 
 
 def leaf_commit(key, i):
-    uhash = h0(IV, 48 * TAU)[48 * i:48 * i + 48]
-    stretched = prg(key, i + L - 1, 64)
-    return stretched[:16], leaf_hash(uhash, stretched[:16], stretched[16:])
+    if KIND == 1:
+        return key, prg(key, i + L - 1, 2 * NODE)
+    uhash = h0(IV, LEAF * TAU)[LEAF * i:LEAF * i + LEAF]
+    stretched = prg(key, i + L - 1, 4 * NODE)
+    return stretched[:NODE], leaf_hash(uhash, stretched[:NODE], stretched[NODE:])
 
 
 def hashed(coms):
@@ -101,8 +108,8 @@ def convert_to_vole(seeds, i):
 def commit():
     nodes = [ROOT] + [None] * (2 * L - 2)
     for a in range(L - 1):
-        both = prg(nodes[a], a, 32)
-        nodes[2 * a + 1], nodes[2 * a + 2] = both[:16], both[16:]
+        both = prg(nodes[a], a, 2 * NODE)
+        nodes[2 * a + 1], nodes[2 * a + 2] = both[:NODE], both[NODE:]
     leaves = [[leaf_commit(nodes[pos_in_tree(i, j)], i) for j in range(N[i])] for i in range(TAU)]
     coms = [[com for _, com in vector] for vector in leaves]
     voles = [convert_to_vole([seed for seed, _ in vector], i) for i, vector in enumerate(leaves)]
@@ -132,26 +139,26 @@ def marked():
 def opened(tree, coms):
     out = []
     for i, delta in enumerate(hidden_indices()):
-        at = 48 * (sum(N[:i]) + delta)
-        out += coms[at:at + 48]
+        at = LEAF * (sum(N[:i]) + delta)
+        out += coms[at:at + LEAF]
     for a in marked()[1]:
-        out += tree[16 * a:16 * a + 16]
-    return out + [0] * (48 * TAU + 16 * T - len(out))
+        out += tree[NODE * a:NODE * a + NODE]
+    return out + [0] * (LEAF * TAU + NODE * T - len(out))
 
 
 def reconstruct(opening, corrections):
     s, given = marked()
-    nodes = [[0] * 16 for _ in s]
+    nodes = [[0] * NODE for _ in s]
     for m, a in enumerate(given):
-        nodes[a] = opening[48 * TAU + 16 * m:48 * TAU + 16 * m + 16]
+        nodes[a] = opening[LEAF * TAU + NODE * m:LEAF * TAU + NODE * m + NODE]
     for a in range(L - 1):
         if not s[a]:
-            both = prg(nodes[a], a, 32)
-            nodes[2 * a + 1], nodes[2 * a + 2] = both[:16], both[16:]
+            both = prg(nodes[a], a, 2 * NODE)
+            nodes[2 * a + 1], nodes[2 * a + 2] = both[:NODE], both[NODE:]
     coms, q = [], []
     for i, delta in enumerate(hidden_indices()):
         leaves = [leaf_commit(nodes[pos_in_tree(i, j)], i) for j in range(N[i])]
-        coms.append([opening[48 * i:48 * i + 48] if j == delta else leaves[j][1] for j in range(N[i])])
+        coms.append([opening[LEAF * i:LEAF * i + LEAF] if j == delta else leaves[j][1] for j in range(N[i])])
         permuted = [None] + [leaves[e ^ delta][0] for e in range(1, N[i])]
         _, columns = convert_to_vole(permuted, i)
         if i > 0:

@@ -9,8 +9,13 @@ int main()
     uint8_t nodes[4 * 4], count[RACHNOEL_COUNT];
     const size_t number = rachnoel_plan(2, 2, 124, 4, 128, 0, challenge, sizeof challenge, nodes, sizeof nodes, count, sizeof count);
     std::printf("plan from C++ answers %zu, %u nodes:", number, static_cast<unsigned>(rachnoel_number(count)));
-    for (int i = 0; i < 4; i++)
-        std::printf(" %u", static_cast<unsigned>(rachnoel_number(nodes + 4 * i)));
+    const unsigned expected[4] = {13, 8, 5, 4};
+    bool same = number == 0 && rachnoel_number(count) == 4;
+    for (int i = 0; i < 4; i++) {
+        const unsigned node = static_cast<unsigned>(rachnoel_number(nodes + 4 * i));
+        std::printf(" %u", node);
+        same = same && node == expected[i];
+    }
     std::printf("\n");
-    return number == 0 && rachnoel_number(count) == 4 && rachnoel_number(nodes) == 13 && rachnoel_number(nodes + 12) == 4 ? 0 : 1;
+    return same ? 0 : 1;
 }

@@ -15,7 +15,8 @@
  * rachnoel_number reads one.
  *
  * A call returns 0, or the number of the first refusal that applies. With 0 the outputs and the count are written, and so they are with 11; with 5 and 6 the count alone;
- * with any other number nothing. A slice of another length, the count's too, is refusal 3; a record of another length is 9 or 10. */
+ * with any other number nothing. A slice of another length, the count's too, is refusal 3. A record that is
+ * checked and has another length is 9 or 10; for rachnoel_write_record the record is an output like others, so another length is 3. */
 #ifndef RACHNOEL_H
 #define RACHNOEL_H
 
@@ -52,7 +53,7 @@ enum {
     RACHNOEL_RECORD_MOST = 273555 /* no record has more bytes */
 };
 
-/* stack in bytes, for any call at any shape; the deepest that was measured, 15,432 of commit_stretch, is at most seven eighths of it */
+/* stack in bytes, for any call at any shape; the deepest that was measured, 15,480 of commit_stretch, is at most seven eighths of it */
 enum { RACHNOEL_STACK = 20 * 1024 };
 
 typedef struct rachnoel_lengths {

@@ -147,7 +147,7 @@ fn call_reconstruct(
 }
 
 /// The buffers of commit, open and reconstruct, and the answers of these calls
-/// made one after another up to the first that is refused.
+/// made one after another, also behind one that is refused.
 pub struct Run {
     pub answers: Vec<Answer>,
     pub commitment: Vec<u8>,
@@ -164,30 +164,31 @@ pub struct Run {
 }
 
 impl Run {
-    /// Buffers of the exact lengths; empty ones where there is no exact length.
-    pub fn new(shape: Shape, rows: Rows) -> Run {
+    /// Buffers of the exact lengths with `fill` in each byte; empty ones where
+    /// there is no exact length.
+    pub fn new(shape: Shape, rows: Rows, fill: u8) -> Run {
         let shape = shape.resolve();
-        let bytes = |length: fn(&Shape) -> usize| vec![0; shape.as_ref().map_or(0, length)];
+        let bytes = |length: fn(&Shape) -> usize| vec![fill; shape.as_ref().map_or(0, length)];
         let b = rows.width();
         Run {
             answers: Vec::new(),
             commitment: bytes(Shape::commitment_bytes),
             tree: bytes(Shape::tree_bytes),
             leaf_commitments: bytes(Shape::leaf_commitments_bytes),
-            u: vec![0; b],
-            v: vec![0; shape.map_or(0, |shape| shape.matrix_bytes(b))],
-            corrections: vec![0; shape.map_or(0, |shape| shape.corrections_bytes(b))],
+            u: vec![fill; b],
+            v: vec![fill; shape.map_or(0, |shape| shape.matrix_bytes(b))],
+            corrections: vec![fill; shape.map_or(0, |shape| shape.corrections_bytes(b))],
             opening: bytes(Shape::opening_bytes),
             again_commitment: bytes(Shape::commitment_bytes),
             again_tree: bytes(Shape::tree_bytes),
             again_leaf_commitments: bytes(Shape::leaf_commitments_bytes),
-            q: vec![0; shape.map_or(0, |shape| shape.matrix_bytes(b))],
+            q: vec![fill; shape.map_or(0, |shape| shape.matrix_bytes(b))],
         }
     }
 
-    /// Whether every call so far answered 0.
-    fn well(&self) -> bool {
-        self.answers.iter().all(|answer| answer.number == 0)
+    /// The first answer that is not 0.
+    pub fn refused(&self) -> Option<Answer> {
+        self.answers.iter().copied().find(|answer| answer.number != 0)
     }
 
     pub fn commit(&mut self, shape: Shape, rows: Rows, root: &[u8], iv: &[u8]) {
@@ -206,28 +207,24 @@ impl Run {
     }
 
     pub fn open(&mut self, shape: Shape, challenge: &[u8]) {
-        if self.well() {
-            let (tree, coms) = (&self.tree, &self.leaf_commitments);
-            let answer = open(shape, challenge, tree, coms, &mut self.opening);
-            self.answers.push(answer);
-        }
+        let (tree, coms) = (&self.tree, &self.leaf_commitments);
+        let answer = open(shape, challenge, tree, coms, &mut self.opening);
+        self.answers.push(answer);
     }
 
     fn reconstruct(&mut self, shape: Shape, rows: Rows, iv: &[u8], challenge: &[u8]) {
-        if self.well() {
-            self.answers.push(call_reconstruct(
-                shape,
-                rows,
-                iv,
-                challenge,
-                &self.corrections,
-                &self.opening,
-                &mut self.again_commitment,
-                &mut self.again_tree,
-                &mut self.again_leaf_commitments,
-                &mut self.q,
-            ));
-        }
+        self.answers.push(call_reconstruct(
+            shape,
+            rows,
+            iv,
+            challenge,
+            &self.corrections,
+            &self.opening,
+            &mut self.again_commitment,
+            &mut self.again_tree,
+            &mut self.again_leaf_commitments,
+            &mut self.q,
+        ));
     }
 
     /// How many columns j have Q = V, or Q = V xor u where challenge bit j is 1.
@@ -348,7 +345,7 @@ fn bytes_command(command: &str, of_stretch: bool, mut rest: Arguments) -> Option
     };
     rest.end()?;
 
-    let mut run = Run::new(shape, rows);
+    let mut run = Run::new(shape, rows, PATTERN);
     run.commit(shape, rows, &root, &iv);
     if command != "commit" {
         run.open(shape, &challenge);
@@ -360,8 +357,14 @@ fn bytes_command(command: &str, of_stretch: bool, mut rest: Arguments) -> Option
         run.reconstruct(shape, rows, &iv, &challenge);
     }
 
-    let text = answer_lines(*run.answers.last()?);
-    if !run.well() {
+    // a round trip is refused by any of its calls, the others by their own
+    let last = *run.answers.last()?;
+    let answer = match command {
+        "roundtrip" => run.refused().unwrap_or(last),
+        _ => last,
+    };
+    let text = answer_lines(answer);
+    if answer.number != 0 {
         return Some((text.into_bytes(), true));
     }
     let buffers: &[(&str, &[u8])] = match command {
@@ -467,7 +470,7 @@ fn probe_command(command: &str, of_stretch: bool, mut rest: Arguments) -> Option
     };
     rest.end()?;
 
-    let exact = Run::new(shape, rows);
+    let exact = Run::new(shape, rows, PATTERN);
     let buffer = |place: usize, exact: usize, content: u8| {
         vec![content; probed_length(exact, place == which, more)]
     };

@@ -166,14 +166,12 @@ pub fn record_command(command: &str, of_version_1: bool, mut rest: Arguments) ->
     rest.end()?;
 
     let rows = Rows::whole(row_bits);
-    let mut run = Run::new(shape, rows);
+    let mut run = Run::new(shape, rows, 0);
     run.commit(shape, rows, &root, &iv);
     run.open(shape, &challenge);
-    let refused = run.answers.iter().find(|answer| answer.number != 0);
-    if let Some(answer) =
-        refused.filter(|answer| matches!(command, "record" | "named") || answer.number != 5)
-    {
-        return Some((answer_lines(*answer).into_bytes(), true));
+    let stops = |answer: &Answer| matches!(command, "record" | "named") || answer.number != 5;
+    if let Some(answer) = run.refused().filter(stops) {
+        return Some((answer_lines(answer).into_bytes(), true));
     }
     let record = Record {
         shape,

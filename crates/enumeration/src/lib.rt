@@ -4,7 +4,7 @@ ghost use mathlib.Core.Bool.{true, cond};
 ghost use mathlib.Core.List.{List, [], _∷_};
 ghost use Prim.Native.Nat.{ℕ, _+_, _*_, _^_, _<_, _≤_};
 ghost use lib.Dec.{leb};
-ghost use lib.ListN.{length, take};
+ghost use lib.ListN.{length, take, drop};
 ghost use Rattle.spec.specs.Calls.{firstRefusal};
 ghost use Rattle.spec.specs.declared.Shape.{Shape};
 ghost use Rattle.spec.specs.Shapes.{level, shapeOk, plannedCount};
@@ -197,7 +197,7 @@ fn put_list_piece(s: Shape, i: usize, out: &mut [u8]) -> usize
 // Writes piece i of the output to the front of `out`, and answers its length.
 pub fn put_piece(r: Reading, i: usize, out: &mut [u8]) -> usize
     requires { ⌜ Readable r × (39936 ≤ length (now out)) ⌝ }
-    ensures { λ n. ⌜ (n ≤ length (now (out .exit))) × (take n (now (out .exit)) ≡ pieceText r i) ⌝ }
+    ensures { λ n. ⌜ (n ≤ length (now (out .exit))) × (take n (now (out .exit)) ≡ pieceText r i) × (drop n (now (out .exit)) ≡ drop n (now (out .entry))) ⌝ }
 {
     if r.number != 0 {
         return listing_text::put_refused(out, r.number);

@@ -1,5 +1,5 @@
 // The program that lists all challenges of a small shape (document 02, E10): reads at most 64 bytes, which decide what it lists, and writes the output piece after piece. A
-// failed read counts as the end of the input.
+// failed read is said on standard error, and nothing is listed.
 ghost use Rattle.enumeration.specs.Pieces.{Readable};
 use enumeration::Reading;
 use libc::STDIN_FILENO;
@@ -25,6 +25,11 @@ fn write_pieces(r: Reading) -> bool
 fn main() {
     let mut input = [0u8; 64];
     let n = io::read_full(STDIN_FILENO, &mut input);
+    // errno is 0 when a program starts; of the calls up to here only a read that failed can have set it
+    if os::errno() != 0 {
+        os::fail(b"list_challenges: standard input");
+        return;
+    }
     let r = enumeration::read_start(input, n);
     if !write_pieces(r) {
         os::fail(b"list_challenges: standard output");

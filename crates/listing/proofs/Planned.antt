@@ -16,7 +16,8 @@ use Rattle.spec.specs.Shapes.{resolved, level, shapeOk, challengeBytes, grindin
 use Rattle.spec.specs.Calls.{firstRefusal, fits, nodesOk, countWith, planLengths, planNumber, Plan}
 use Rattle.laws.proofs.Lists.{length-zeros}
 use Rattle.planning_laws.proofs.Revealed.{revealed-below}
-use Rattle.planning_laws.proofs.ShapeFacts.{shape-facts, leaves-level, resolved-level}
+use Rattle.planning_laws.proofs.LeafKindFacts.{resolved-level}
+use Rattle.planning_laws.proofs.ShapeFacts.{shape-facts, leaves-level}
 use Rattle.planning.proofs.Planned.{planned-length}
 use Rattle.listing_text.specs.Text.{refusedText, nodesText}
 use Rattle.listing.specs.Listing.{planText}

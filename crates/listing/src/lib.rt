@@ -2,7 +2,7 @@
 ghost use mathlib.Core.Path.{_≡_};
 ghost use mathlib.Core.List.{List};
 ghost use Prim.Native.Nat.{ℕ, _≤_};
-ghost use lib.ListN.{length, take};
+ghost use lib.ListN.{length, take, drop};
 ghost use Rattle.spec.specs.Shapes.{resolved};
 ghost use Rattle.listing_text.specs.Put.{Put};
 ghost use Rattle.listing.specs.Listing.{planText, listing};
@@ -26,7 +26,7 @@ fn put_plan(out: &mut [u8], shape: Shape, challenge: &[u8], nodes: &mut [u32]) -
 // Writes the listing of an input to the front of `out`, and answers its length.
 pub fn list(input: &[u8], out: &mut [u8]) -> usize
     requires { ⌜ 4096 ≤ length (now out) ⌝ }
-    ensures { λ r. ⌜ (r ≤ length (now (out .exit))) × (take r (now (out .exit)) ≡ listing (now (input .entry))) ⌝ }
+    ensures { λ r. ⌜ (r ≤ length (now (out .exit))) × (take r (now (out .exit)) ≡ listing (now (input .entry))) × (drop r (now (out .exit)) ≡ drop r (now (out .entry))) ⌝ }
 {
     if !listing_line::line_ok(input) {
         return listing_text::put_refused(out, 7);
@@ -39,7 +39,7 @@ pub fn list(input: &[u8], out: &mut [u8]) -> usize
 // The listing of an input of which the first n bytes, at most 64, have been read: of a longer one 64 are enough.
 pub fn list_read(read: [u8; 64], n: usize, out: &mut [u8]) -> usize
     requires { ⌜ (n ≤ 64) × (4096 ≤ length (now out)) ⌝ }
-    ensures { λ r. ⌜ (r ≤ length (now (out .exit))) × ((input : List ℕ) → take 64 input ≡ take n read → take r (now (out .exit)) ≡ listing input) ⌝ }
+    ensures { λ r. ⌜ (r ≤ length (now (out .exit))) × ((input : List ℕ) → take 64 input ≡ take n read → take r (now (out .exit)) ≡ listing input) × (drop r (now (out .exit)) ≡ drop r (now (out .entry))) ⌝ }
 {
     list(&read[..n], out)
 }

@@ -8,8 +8,8 @@ pub mod Rising
 pub mod Revealed
 pub mod Bits
 pub mod Depths
+pub mod LeafKindFacts
 pub mod ShapeFacts
 pub mod HiddenLeaves
 pub mod ExpandTree
 pub mod ShapeLaws
-pub mod LeafCommitments

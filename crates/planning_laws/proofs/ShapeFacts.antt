@@ -2,8 +2,7 @@
 -- conjunction of the rules apart.
 use Prim.Native.Nat.{ℕ, zero, suc, _+_, _-_, _*_, _/_, _%_, _^_, _≤_, _<_}
 use mathlib.Core.Path.{_≡_, refl, sym, ap, ap₂, subst, _∙_}
-use mathlib.Core.Bool.{Bool, true, false, _&&_, _||_, cond, true≢false}
-use mathlib.Core.List.{[], _∷_}
+use mathlib.Core.Bool.{Bool, true, false, _&&_, _||_, true≢false}
 use native.Mathlib.Omega.{arith}
 use native.Mathlib.Nat.{mul-le-mul}
 use native.Mathlib.Decide.{decLt}
@@ -11,11 +10,11 @@ use lib.Dec.{eqb, leb, ltb}
 use lib.Pow.{pow-mono, pow-pos}
 use borrow.Author.Tests.{leb-true, ltb-true, eqb-true, le-leb, lt-ltb, le-ltb, eq-eqb, ne-eqb}
 use Rattle.spec.specs.declared.Shape.{Shape}
-use Rattle.spec.specs.Bytes.{allZero}
-use Rattle.spec.specs.Shapes.{faest128f, ordinary, resolved, level, nodeBytes, challengeBytes, leafCommitmentBytes, hashBytes, keyWords, deeper, depthOf, entriesOf, firstBit, leaves, levelOk, shapeOk}
+use Rattle.spec.specs.Shapes.{level, nodeBytes, challengeBytes, leafCommitmentBytes, hashBytes, keyWords, deeper, depthOf, entriesOf, firstBit, leaves, levelOk, shapeOk}
 use Rattle.laws.proofs.Conjunctions.{refuted}
 use Rattle.laws.proofs.Segments.{segment-before}
 use Rattle.planning_laws.proofs.Depths.{depth-range, depth-deep, depth-flat, bit-next, leaves-split}
+use Rattle.planning_laws.proofs.LeafKindFacts.{otherRules, others-kept, commitment-bounds}
 
 pub record ShapeFacts (s : Shape) : Type 0 where
   pub tau-pos : 1 ≤ s .tau
@@ -29,33 +28,31 @@ pub record ShapeFacts (s : Shape) : Type 0 where
   pub total : s .tau * s .k + deeper s + s .w ≡ level s
   pub few : deeper s < s .tau
   pub level-is : levelOk (s .level) ≡ true
-  pub kind-max : s .kind ≤ 1
 
-all-eleven : (a b c d e f g h i j k : Bool) → (a && b && c && d && e && f && g && h && i && j && k) ≡ true
-    → (a ≡ true) × (b ≡ true) × (c ≡ true) × (d ≡ true) × (e ≡ true) × (f ≡ true) × (g ≡ true) × (h ≡ true) × (i ≡ true) × (j ≡ true) × (k ≡ true)
-all-eleven false b c d e f g h i j k p = absurd (true≢false (sym p))
-all-eleven true false c d e f g h i j k p = absurd (true≢false (sym p))
-all-eleven true true false d e f g h i j k p = absurd (true≢false (sym p))
-all-eleven true true true false e f g h i j k p = absurd (true≢false (sym p))
-all-eleven true true true true false f g h i j k p = absurd (true≢false (sym p))
-all-eleven true true true true true false g h i j k p = absurd (true≢false (sym p))
-all-eleven true true true true true true false h i j k p = absurd (true≢false (sym p))
-all-eleven true true true true true true true false i j k p = absurd (true≢false (sym p))
-all-eleven true true true true true true true true false j k p = absurd (true≢false (sym p))
-all-eleven true true true true true true true true true false k p = absurd (true≢false (sym p))
-all-eleven true true true true true true true true true true false p = absurd (true≢false (sym p))
-all-eleven true true true true true true true true true true true p = (refl, refl, refl, refl, refl, refl, refl, refl, refl, refl, refl)
+all-ten : (a b c d e f g h i j : Bool) → (a && b && c && d && e && f && g && h && i && j) ≡ true
+    → (a ≡ true) × (b ≡ true) × (c ≡ true) × (d ≡ true) × (e ≡ true) × (f ≡ true) × (g ≡ true) × (h ≡ true) × (i ≡ true) × (j ≡ true)
+all-ten false b c d e f g h i j p = absurd (true≢false (sym p))
+all-ten true false c d e f g h i j p = absurd (true≢false (sym p))
+all-ten true true false d e f g h i j p = absurd (true≢false (sym p))
+all-ten true true true false e f g h i j p = absurd (true≢false (sym p))
+all-ten true true true true false f g h i j p = absurd (true≢false (sym p))
+all-ten true true true true true false g h i j p = absurd (true≢false (sym p))
+all-ten true true true true true true false h i j p = absurd (true≢false (sym p))
+all-ten true true true true true true true false i j p = absurd (true≢false (sym p))
+all-ten true true true true true true true true false j p = absurd (true≢false (sym p))
+all-ten true true true true true true true true true false p = absurd (true≢false (sym p))
+all-ten true true true true true true true true true true p = (refl, refl, refl, refl, refl, refl, refl, refl, refl, refl)
 
 pub deeper-is : (s : Shape) → deeper s ≡ level s - s .w - s .tau * s .k
 unfolding deeper
 deeper-is s = refl
 
-pub shape-facts : (s : Shape) → shapeOk s ≡ true → ShapeFacts s
-unfolding shapeOk
-shape-facts s e =
+facts-of : (s : Shape) → otherRules s ≡ true → ShapeFacts s
+unfolding otherRules
+facts-of s e =
     let q =
-    all-eleven (leb 1 (s .tau)) (leb (s .tau) 32) (leb 1 (s .k)) (leb (depthOf s 0) 12) (leb (s .w) 127) (leb 1 (s .t)) (leb (s .t) 512)
-    (leb (s .tau * s .k + s .w) (level s)) (ltb (deeper s) (s .tau)) (levelOk (s .level)) (leb (s .kind) 1) e in
+    all-ten (leb 1 (s .tau)) (leb (s .tau) 32) (leb 1 (s .k)) (leb (depthOf s 0) 12) (leb (s .w) 127) (leb 1 (s .t)) (leb (s .t) 512)
+    (leb (s .tau * s .k + s .w) (level s)) (ltb (deeper s) (s .tau)) (levelOk (s .level)) e in
     let depth : depthOf s 0 ≤ 12 = leb-true _ _ (q .3) in
     let room : s .tau * s .k + s .w ≤ level s = leb-true _ _ (q .7) in
     record {
@@ -70,16 +67,18 @@ shape-facts s e =
       total = (let d = deeper-is s in omega arith);
       few = ltb-true _ _ (q .8);
       level-is = q .9;
-      kind-max = leb-true _ _ (q .10);
     }
+
+pub shape-facts : (s : Shape) → shapeOk s ≡ true → ShapeFacts s
+shape-facts s e = facts-of s (others-kept s e)
 
 pub shape-refused : (s : Shape) → (ShapeFacts s → ⊥) → false ≡ shapeOk s
 shape-refused s h = refuted (shapeOk s) (λ e. h (shape-facts s e))
 
-shape-accepted : (s : Shape) → 1 ≤ s .tau → s .tau ≤ 32 → 1 ≤ s .k → depthOf s 0 ≤ 12 → s .w ≤ 127 → 1 ≤ s .t → s .t ≤ 512 → s .tau * s .k + s .w ≤ level s
-    → deeper s < s .tau → levelOk (s .level) ≡ true → s .kind ≤ 1 → true ≡ shapeOk s
-unfolding shapeOk
-shape-accepted s a b c d e f g h i j k =
+rules-kept : (s : Shape) → 1 ≤ s .tau → s .tau ≤ 32 → 1 ≤ s .k → depthOf s 0 ≤ 12 → s .w ≤ 127 → 1 ≤ s .t → s .t ≤ 512 → s .tau * s .k + s .w ≤ level s
+    → deeper s < s .tau → levelOk (s .level) ≡ true → true ≡ otherRules s
+unfolding otherRules
+rules-kept s a b c d e f g h i j =
     simp (
       le-leb 1 (s .tau) a,
       le-leb (s .tau) 32 b,
@@ -91,24 +90,23 @@ shape-accepted s a b c d e f g h i j k =
       le-leb (s .tau * s .k + s .w) (level s) h,
       lt-ltb (deeper s) (s .tau) i,
       j,
-      le-leb (s .kind) 1 k,
     )
 
 -- with every other limit kept, the depth of the deeper vectors decides
-pub shape-by-depth : (s : Shape) (r : ℕ) → 1 ≤ s .tau → s .tau ≤ 32 → 1 ≤ s .k → s .k ≤ 12 → s .w ≤ 127 → 1 ≤ s .t → s .t ≤ 512 → s .tau * s .k + s .w ≤ level s
-    → r ≡ deeper s → r < s .tau → levelOk (s .level) ≡ true → s .kind ≤ 1 → (eqb r 0 || ltb (s .k) 12) ≡ shapeOk s
-shape-by-depth s r a b c d e f g h i j n m = go (decLt 0 r) (decLt (s .k) 12)
+pub rules-by-depth : (s : Shape) (r : ℕ) → 1 ≤ s .tau → s .tau ≤ 32 → 1 ≤ s .k → s .k ≤ 12 → s .w ≤ 127 → 1 ≤ s .t → s .t ≤ 512 → s .tau * s .k + s .w ≤ level s
+    → r ≡ deeper s → r < s .tau → levelOk (s .level) ≡ true → (eqb r 0 || ltb (s .k) 12) ≡ otherRules s
+rules-by-depth s r a b c d e f g h i j n = go (decLt 0 r) (decLt (s .k) 12)
   where
-    accepted : depthOf s 0 ≤ 12 → true ≡ shapeOk s
-    accepted l = shape-accepted s a b c l e f g h (omega arith) n m
+    accepted : depthOf s 0 ≤ 12 → true ≡ otherRules s
+    accepted l = rules-kept s a b c l e f g h (omega arith) n
 
-    go : Dec (0 < r) → Dec (s .k < 12) → (eqb r 0 || ltb (s .k) 12) ≡ shapeOk s
+    go : Dec (0 < r) → Dec (s .k < 12) → (eqb r 0 || ltb (s .k) 12) ≡ otherRules s
     go (no p) q = ap (λ (x : Bool). x || ltb (s .k) 12) (eq-eqb r 0 (omega arith)) ∙ accepted (let z = depth-flat s 0 (omega arith) in omega arith)
     go (yes p) (yes q) =
         ap₂ _||_ (ne-eqb r 0 (λ z. omega arith)) (lt-ltb (s .k) 12 q) ∙ accepted (let z = depth-deep s 0 (omega arith) in omega arith)
     go (yes p) (no q) =
         ap₂ _||_ (ne-eqb r 0 (λ z. omega arith)) (le-ltb (s .k) 12 (omega arith))
-        ∙ shape-refused s (λ m. let z = depth-deep s 0 (omega arith) in omega (arith, m .depth-max))
+        ∙ refuted (otherRules s) (λ e. let z = depth-deep s 0 (omega arith) in omega (arith, facts-of s e .depth-max))
 
 -- ---- widths: what holds of them at every level
 
@@ -143,16 +141,11 @@ record Multiple (n : ℕ) : Type 0 where
 level-multiple : (n : ℕ) → levelOk n ≡ true → Multiple n
 level-multiple = by-level Multiple (record { least = omega arith; most = omega arith; eight = refl }) (record { least = omega arith; most = omega arith; eight = refl }) (record { least = omega arith; most = omega arith; eight = refl })
 
--- two or three nodes
-blocks : (b : Bool) (n : ℕ) → 16 ≤ n → n ≤ 32 → (1 ≤ cond b 3 2 * n) × (cond b 3 2 * n ≤ 96)
-blocks true n h l = (omega arith, omega arith)
-blocks false n h l = (omega arith, omega arith)
-
 pub widths : (s : Shape) → ShapeFacts s → Widths s
-unfolding level nodeBytes challengeBytes leafCommitmentBytes hashBytes keyWords
+unfolding level nodeBytes challengeBytes hashBytes keyWords
 widths s f =
     let m = level-multiple (s .level) (f .level-is) in
-    let c = blocks (ordinary s) (s .level / 8) (omega arith) (omega arith) in
+    let c = commitment-bounds s (omega arith) (omega arith) in
     record {
       level-max = m .most;
       node-min = omega arith;
@@ -217,17 +210,6 @@ leaves-max s f = (let w = widths s f in leaves-bounds s f .1 (omega (arith, f .t
 
 pub leaves-level : (s : Shape) → ShapeFacts s → 3 * leaves s ≤ 1024 * level s
 leaves-level s f = (let b = leaves-bounds s f .0 in omega (arith, f .total))
-
--- the default has level 128, and is put for no other
-pub resolved-level : (s : Shape) → resolved s .level ≡ s .level
-unfolding resolved faest128f
-resolved-level s = go (allZero (s .tau ∷ s .k ∷ s .w ∷ s .t ∷ [])) (eqb (s .level) 128) (ordinary s) refl
-  where
-    go : (a b c : Bool) → eqb (s .level) 128 ≡ b → cond (a && b && c) faest128f s .level ≡ s .level
-    go false b c e = refl
-    go true false c e = refl
-    go true true false e = refl
-    go true true true e = sym (eqb-true (s .level) 128 e)
 
 pub leaves-pos : (s : Shape) → ShapeFacts s → 1 ≤ leaves s
 leaves-pos s f =

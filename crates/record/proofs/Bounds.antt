@@ -13,7 +13,8 @@ use Rattle.spec.specs.Shapes.{faest128f, ordinary, resolved, level, nodeBytes, 
 use Rattle.spec.specs.Calls.{rowOk}
 use Rattle.laws.proofs.Conjunctions.{both-true}
 use Rattle.laws.proofs.Concat.{mul-limit}
-use Rattle.planning_laws.proofs.ShapeFacts.{ShapeFacts, shape-facts, widths}
+use Rattle.planning_laws.proofs.LeafKindFacts.{kind-max}
+use Rattle.planning_laws.proofs.ShapeFacts.{shape-facts, widths}
 use Rattle.record.specs.Record.{headBytes, correctionsPlace, openingPlace, commitmentPlace, recordEnd, versionFor, recordBytes}
 
 -- the version that is written for ordinary leaves, and for others
@@ -85,9 +86,10 @@ given-small s ok = go (allZero (s .tau ∷ s .k ∷ s .w ∷ s .t ∷ []) && eqb
         record { tau = omega arith; k = omega arith; w = omega arith; t = omega arith; level-max = omega arith; level-eight = omega arith; kind = omega arith }
     go false e =
         let same : resolved s ≡ s = ap (λ (z : Bool). cond z faest128f s) e in
-        let f : ShapeFacts s = shape-facts s (rw same at ok) in
+        let valid : shapeOk s ≡ true = (rw same at ok) in
+        let f = shape-facts s valid in
         let v = widths s f in
-        record { tau = f .tau-max; k = f .k-max; w = f .w-max; t = f .t-max; level-max = v .level-max; level-eight = v .node-bits; kind = f .kind-max }
+        record { tau = f .tau-max; k = f .k-max; w = f .w-max; t = f .t-max; level-max = v .level-max; level-eight = v .node-bits; kind = kind-max s valid }
 
 pub row-small : (n : ℕ) → rowOk n ≡ true → n ≤ 65536
 unfolding rowOk

@@ -56,15 +56,15 @@ sameBytes [] (y ∷ ys) = false
 sameBytes (x ∷ xs) [] = false
 sameBytes (x ∷ xs) (y ∷ ys) = eqb x y && sameBytes xs ys
 
--- what is tested behind reading and before the comparison: the work buffers, by their lengths, then what reconstruct tests
-abbrev pub workTests : Contents → List (ℕ × ℕ) → List (Bool × ℕ)
-workTests c lengths =
+-- what an opening is tested for
+abbrev pub openingTests : Contents → List (Bool × ℕ)
+openingTests c =
     let s = resolved (c .shape) in
-    (fits lengths, 3)
-    ∷ (grindingOk s (c .challenge), 4)
-    ∷ (nodesOk s (c .challenge), 5)
-    ∷ (slotsOk s (c .challenge) (c .opening), 6)
-    ∷ []
+    (grindingOk s (c .challenge), 4) ∷ (nodesOk s (c .challenge), 5) ∷ (slotsOk s (c .challenge) (c .opening), 6) ∷ []
+
+-- what is tested behind reading and before the comparison: the work buffers, by their lengths, then the opening
+abbrev pub workTests : Contents → List (ℕ × ℕ) → List (Bool × ℕ)
+workTests c lengths = (fits lengths, 3) ∷ openingTests c
 
 unfoldable pub recordNumber : Primitives → List ℕ → List (ℕ × ℕ) → ℕ
 recordNumber P rec lengths =

@@ -272,4 +272,7 @@ module _ (P : Primitives) where
               h .bytes ∙ ap (λ (m : ℕ). written m (wordBytes (recordBytes (resolved s) (bits / 8) ∷ [])) before) same
                   ∙ put-same (l .number) (recordBytes (resolved s) (bits / 8) ∷ []) (l .bytes ∷ []) before (λ z. sym (rw (w .bytes, z) refl)),
             );
+        write = λ c before after host r n w h.
+            let same = h .number ∙ sym (w .number) in
+            (same, h .rec ∙ ap (λ (m : ℕ). written m (recordOf c) before) same ∙ sym (w .rec));
       }

@@ -18,7 +18,7 @@ use Rattle.record.specs.declared.Lengths.{Lengths}
 use Rattle.record.specs.declared.RecordLength.{RecordLength}
 use Rattle.record.specs.Record.{versionOf, Contents, contentsOf, headNumber, readNumber, recordOf, recordBytes, recordOfVersion1}
 use Rattle.record.specs.RecordCalls.{Work, workLengths, WorkLengths, Reconstructs, sameBytes, answered, CheckRecord, LengthOf, WriteRecord}
-use Rattle.record.specs.HostRecordCalls.{HostCheckRecord, HostWorkLengths, HostRecordLength}
+use Rattle.record.specs.HostRecordCalls.{HostCheckRecord, HostWorkLengths, HostRecordLength, HostWriteRecord}
 use Rattle.named_sets.specs.NamedSets.{namedOk}
 use Rattle.named_sets.specs.NamedCalls.{CheckNamed, HostCheckNamed}
 
@@ -138,3 +138,9 @@ pub record Exported (P : Primitives) : Type 0 where
       → HostRecordLength s bits before after n
       → length before ≡ 4
       → (n ≡ l .number) × (after ≡ written (l .number) (wordBytes (l .bytes ∷ [])) before)
+  -- it has no such slice: its count is always 0
+  pub write :
+      (c : Contents) (before after host : List ℕ) (r : Answer) (n : ℕ)
+      → WriteRecord c before after r
+      → HostWriteRecord c before host n
+      → (n ≡ r .number) × (host ≡ after)

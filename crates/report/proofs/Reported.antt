@@ -90,13 +90,13 @@ module _ (input out : List ℕ) (nodes unused place end at : ℕ) (q : Reported 
     unfolding entriesWithin
     none = ap entries (drop-of-length-le input {i = at} done)
 
-    pub reported-all : (out₀ out′ : List ℕ) (r : ℕ) → end ≤ length out → Put (totalText nodes unused) end out out′ r
+    pub reported-all : (out₀ out′ : List ℕ) (r : ℕ) → end ≤ length out → drop end out ≡ drop end out₀ → Put (totalText nodes unused) end out out′ r
         → Put (entriesText (entries input)) 0 out₀ out′ r
     unfolding entriesText linesFrom sumOf accepted nodesTotal unusedTotal
-    reported-all out₀ out′ r h p =
+    reported-all out₀ out′ r h kept p =
         let front : take end out ≡ linesFrom 1 (entries input) =
         sym (append-nil (take end out)) ∙ ap (λ (es : List Entry). take end out ++ linesFrom place es) (sym none) ∙ q .lines in
         let n : nodes ≡ nodesTotal (entries input) = (let z = q .nodes-left in let e = ap nodesTotal none in omega arith) in
         let u : unused ≡ unusedTotal (entries input) = (let z = q .unused-left in let e = ap unusedTotal none in omega arith) in
-        let put : Put (linesFrom 1 (entries input)) 0 out₀ out end = record { end = (let a = ap length front in let b = length-take-le end out h in omega arith); front = front } in
+        let put : Put (linesFrom 1 (entries input)) 0 out₀ out end = record { end = (let a = ap length front in let b = length-take-le end out h in omega arith); front = front; rest = kept } in
         rw (← n, ← u) (put-next put p)

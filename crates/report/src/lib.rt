@@ -2,7 +2,7 @@
 ghost use mathlib.Core.Path.{_≡_};
 ghost use mathlib.Core.Bool.{true};
 ghost use Prim.Native.Nat.{_≤_};
-ghost use lib.ListN.{length, take};
+ghost use lib.ListN.{length, take, drop};
 ghost use Rattle.spec.specs.Shapes.{challengeBytes, shapeOk, plannedCount};
 ghost use Rattle.record.specs.Record.{readNumber};
 ghost use Rattle.listing_text.specs.Put.{Put};
@@ -93,7 +93,7 @@ fn put_entries(input: &[u8], out: &mut [u8]) -> usize
 // Writes the report of an input to the front of `out`, and answers its length.
 pub fn report(input: &[u8], out: &mut [u8]) -> usize
     requires { ⌜ 65600 ≤ length (now out) ⌝ }
-    ensures { λ r. ⌜ (r ≤ length (now (out .exit))) × (take r (now (out .exit)) ≡ reportText (now (input .entry))) ⌝ }
+    ensures { λ r. ⌜ (r ≤ length (now (out .exit))) × (take r (now (out .exit)) ≡ reportText (now (input .entry))) × (drop r (now (out .exit)) ≡ drop r (now (out .entry))) ⌝ }
 {
     if 65536 < input.len() {
         return listing_text::put_refused(out, 7);

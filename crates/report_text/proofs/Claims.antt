@@ -1,22 +1,34 @@
--- The entries are the first, and those of what is left behind it: by induction on the bytes left. A longer input is refused, and so is its front.
+-- The entries are the first, and those of what is left behind it: by induction on the bytes left. A longer input is refused, and so is its front. check_record tests what the report
+-- tests, and the end of the record and the commitment besides.
 use Prim.Native.Nat.{ℕ, zero, suc, _+_, _≤_, _<_}
 use mathlib.Core.Path.{_≡_, refl, sym, ap, _∙_, subst}
-use mathlib.Core.Bool.{true, false}
+use mathlib.Core.Bool.{Bool, true, false, cond}
 use mathlib.Core.List.{List, [], _∷_}
 use native.Mathlib.Omega.{arith}
 use native.Mathlib.Decide.{ℕ-discrete, decLt}
+use lib.Dec.{eqb}
 use lib.ListN.{length, getD, take, drop, length-drop}
-use lib.Seq.{drop-drop, take-all, length-take-le}
-use borrow.Author.Tests.{lt-leb}
+use lib.Seq.{drop-drop, take-all, take-length, length-take-le}
+use borrow.Author.Tests.{lt-leb, ne-eqb}
+use Rattle.spec.specs.declared.Answer.{Answer}
 use Rattle.spec.specs.Bytes.{part}
+use Rattle.spec.specs.Shapes.{resolved, grindingOk, plannedCount}
+use Rattle.spec.specs.Primitives.{Primitives}
+use Rattle.spec.specs.Verifier.{slotsOk}
+use Rattle.spec.specs.Calls.{firstRefusal, fits, nodesOk, countWith, written}
+use Rattle.laws.specs.Lengths.{Sized}
+use Rattle.laws.proofs.Lengths.{sized-fits}
+use Rattle.laws.proofs.Refusals.{then}
 use Rattle.laws.proofs.Conjunctions.{refuted, contrary}
-use Rattle.record.specs.Record.{contentsOf, fieldsNumber, readNumber}
+use Rattle.record.specs.Record.{Contents, contentsOf, fieldsTests, fieldsNumber, endOf, readNumber}
+use Rattle.record.specs.RecordCalls.{Work, made, sameBytes, openingTests, recordNumber, answered, CheckRecord}
 use Rattle.record.proofs.Cut.{cut-read, cut-contents}
+use Rattle.record.proofs.Reconstructing.{number-refused, number-read}
 use Rattle.report_text.specs.declared.Entry.{Entry}
-use Rattle.report_text.specs.Entries.{stops, entryOf, entriesWithin, entries, sumOf}
+use Rattle.report_text.specs.Entries.{entryNumber, stops, entryOf, entriesWithin, entries, sumOf}
 use Rattle.report_text.specs.Text.{reportText}
-use Rattle.report_text.specs.Claims.{beginOf, Consecutive, Claims}
-use Rattle.report_text.proofs.Entries.{Bounds, bounds, entry-stopping, entry-end, entries-next, stopped}
+use Rattle.report_text.specs.Claims.{beginOf, workOfRecord, Consecutive, AsChecked, Claims}
+use Rattle.report_text.proofs.Entries.{Bounds, bounds, number-stops, number-opened, entry-stops, not-eleven, entry-stopping, entry-end, entries-next, stopped}
 
 -- an entry that does not stop has its fields, and is read up to its end
 read-first : (xs : List ℕ) → stops (entryOf xs .number) ≡ false
@@ -85,6 +97,69 @@ within (suc n) (x ∷ xs) h =
     subst (Consecutive (x ∷ xs)) (sym (entries-next (x ∷ xs) (omega arith)))
     (consecutive (x ∷ xs) (entries rest) (omega arith) (within n rest (omega arith)) (λ z. ap entries (stopped (x ∷ xs) z)))
 
+-- ---- the number and the count of check_record
+
+-- without the comparison the tests of the opening decide
+uncompared : (a b c same : Bool) → (let k = firstRefusal ((a, 4) ∷ (b, 5) ∷ (c, 6) ∷ []) in k ≡ answered (cond (eqb k 0) (cond same 0 11) k))
+uncompared false b c same = refl
+uncompared true false c same = refl
+uncompared true true false same = refl
+uncompared true true true true = refl
+uncompared true true true false = refl
+
+-- where a field is missing or the front is refused, reading says so too
+read-refused : (xs : List ℕ) → (fieldsNumber xs ≡ 0 → ⊥) → readNumber xs ≡ fieldsNumber xs
+unfolding readNumber fieldsNumber
+read-refused xs bad =
+    then (fieldsTests xs) ((eqb (length xs) (endOf xs), 10) ∷ []) (refl, (refl, (refl, (refl, (refl, tt)))))
+    ∙ ap (λ (t : Bool). cond t (cond (eqb (length xs) (endOf xs)) 0 10) (fieldsNumber xs)) (ne-eqb (fieldsNumber xs) 0 bad)
+
+module _ (P : Primitives) (xs : List ℕ) (lengths : List (ℕ × ℕ)) (fit : fits lengths ≡ true) where
+  checked-number : entryNumber xs ≡ answered (recordNumber P (take (entryOf xs .bytes) xs) lengths)
+  checked-number = go (ℕ-discrete (fieldsNumber xs) 0)
+    where
+      go : Dec (fieldsNumber xs ≡ 0) → entryNumber xs ≡ answered (recordNumber P (take (entryOf xs .bytes) xs) lengths)
+      go (yes ok) =
+          let p = take (endOf xs) xs in
+          let c = contentsOf p in
+          let s = resolved (c .shape) in
+          let same = sameBytes (made P c .commitment) (c .commitment) in
+          rw (entry-end xs ok)
+          (number-opened xs ok ∙ ap (λ (x : Contents). firstRefusal (openingTests x)) (sym (cut-contents xs ok))
+          ∙ uncompared (grindingOk s (c .challenge)) (nodesOk s (c .challenge)) (slotsOk s (c .challenge) (c .opening)) same
+          ∙ sym (ap answered (number-read P p lengths (cut-read xs ok))
+          ∙ ap (λ (t : Bool). let k = cond t (firstRefusal (openingTests c)) 3 in answered (cond (eqb k 0) (cond same 0 11) k)) fit))
+      go (no bad) =
+          rw (entry-stops xs bad, take-length xs)
+          (number-stops xs bad
+          ∙ sym (ap answered (number-refused P xs lengths (λ z. bad (sym (read-refused xs bad) ∙ z)) ∙ read-refused xs bad)
+          ∙ ap (λ (t : Bool). cond t 0 (fieldsNumber xs)) (not-eleven xs bad)))
+
+-- an entry beside check_record on the bytes that it takes
+checked-first : (P : Primitives) (xs : List ℕ) (entry : Entry) (before after : Work) (r : Answer) → entry ≡ entryOf xs
+    → CheckRecord P (take (entry .bytes) xs) before after r
+    → Sized (workOfRecord (take (entry .bytes) xs) before)
+    → (entry .number ≡ answered (r .number)) × (entry .number ≡ 0 → entry .count ≡ r .count)
+unfolding entryOf countWith
+checked-first P xs entry before after r is k sized = (number, count)
+  where
+    entry-number : entry .number ≡ entryNumber xs
+    entry-number = ap (λ (x : Entry). x .number) is
+
+    number : entry .number ≡ answered (r .number)
+    number =
+        entry-number ∙ checked-number P xs (workOfRecord (take (entry .bytes) xs) before) (sized-fits (workOfRecord (take (entry .bytes) xs) before) sized)
+        ∙ ap (λ (n : ℕ). answered (recordNumber P (take n xs) (workOfRecord (take (entry .bytes) xs) before))) (sym (ap (λ (x : Entry). x .bytes) is)) ∙ ap answered (sym (k .number))
+
+    count : entry .number ≡ 0 → entry .count ≡ r .count
+    count z =
+        let same : contentsOf (take (entry .bytes) xs) ≡ contentsOf xs = rw is (read-first xs (ap stops (sym entry-number ∙ z)) .1) in
+        let c = contentsOf xs in
+        let planned : ℕ = plannedCount (resolved (c .shape)) (c .challenge) in
+        let here : entry .count ≡ planned = ap (λ (x : Entry). x .count) is ∙ ap (λ (n : ℕ). written n planned 0) (sym entry-number ∙ z) in
+        let there : r .count ≡ planned = k .count ∙ rw (same, sym number ∙ z) refl in
+        here ∙ sym there
+
 first-bytes : (input : List ℕ) → reportText (take 65537 input) ≡ reportText input
 unfolding reportText
 first-bytes input = go (decLt 65536 (length input))
@@ -96,4 +171,12 @@ first-bytes input = go (decLt 65536 (length input))
         rw (lt-leb (length (take 65537 input)) 65536 (omega arith), lt-leb (length input) 65536 h) refl
 
 pub claims : Claims
-claims = record { consecutive = λ input. within (length input) input (omega arith); enough = first-bytes }
+claims =
+    record {
+      consecutive = all;
+      as-checked = λ P input. record { same = λ i d before after r h. checked-first P _ _ before after r (all input .each i d h) };
+      enough = first-bytes;
+    }
+  where
+    all : (input : List ℕ) → Consecutive input (entries input)
+    all input = within (length input) input (omega arith)

@@ -18,10 +18,11 @@ use Rattle.laws.proofs.Refusals.{then}
 use Rattle.planning_laws.proofs.ShapeFacts.{shape-facts}
 use Rattle.record.specs.Fields.{fieldOk}
 use Rattle.record.specs.Record.{versionOf, headBytes, versionOk, restOk, Contents, contentsOf, fieldsTests, fieldsNumber, endOf, readNumber, kindFits}
+use Rattle.record.specs.RecordCalls.{openingTests}
 use Rattle.record.proofs.ReadBack.{read-length}
 use Rattle.record.proofs.Cut.{read-fields, fields-shape, end-least, end-within, cut-read, cut-contents}
 use Rattle.report_text.specs.declared.Entry.{Entry}
-use Rattle.report_text.specs.Entries.{openingTests, entryNumber, stops, entryOf, entriesWithin, entries, accepted, sumOf, nodesTotal, unusedTotal}
+use Rattle.report_text.specs.Entries.{entryNumber, stops, entryOf, entriesWithin, entries, accepted, sumOf, nodesTotal, unusedTotal}
 
 -- ---- the number
 
@@ -70,6 +71,9 @@ module _ (xs : List ℕ) where
     pub entry-stops : entryOf xs ≡ record { number = fieldsNumber xs; count = 0; unused = 0; bytes = length xs }
     unfolding entryOf
     entry-stops = rw (number-stops, fields-stop xs bad .0, fields-stop xs bad .1) refl
+
+    pub not-eleven : eqb (fieldsNumber xs) 11 ≡ false
+    not-eleven = ne-eqb (fieldsNumber xs) 11 (λ z. let n = fields-stop xs bad .2 in omega arith)
 
     pub entry-stopping : stops (entryOf xs .number) ≡ true
     entry-stopping = ap (λ (e : Entry). stops (e .number)) entry-stops ∙ fields-stop xs bad .0

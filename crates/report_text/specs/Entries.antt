@@ -4,17 +4,11 @@ use mathlib.Core.Bool.{Bool, _||_, cond}
 use mathlib.Core.List.{List, [], _∷_, _++_}
 use lib.Dec.{eqb}
 use lib.ListN.{length, drop}
-use Rattle.spec.specs.Shapes.{resolved, grindingOk, plannedCount}
-use Rattle.spec.specs.Verifier.{slotsOk}
-use Rattle.spec.specs.Calls.{firstRefusal, nodesOk, written}
-use Rattle.record.specs.Record.{Contents, contentsOf, fieldsTests, endOf}
+use Rattle.spec.specs.Shapes.{resolved, plannedCount}
+use Rattle.spec.specs.Calls.{firstRefusal, written}
+use Rattle.record.specs.Record.{contentsOf, fieldsTests, endOf}
+use Rattle.record.specs.RecordCalls.{openingTests}
 use Rattle.report_text.specs.declared.Entry.{Entry}
-
--- what an opening is tested for
-abbrev pub openingTests : Contents → List (Bool × ℕ)
-openingTests c =
-    let s = resolved (c .shape) in
-    (grindingOk s (c .challenge), 4) ∷ (nodesOk s (c .challenge), 5) ∷ (slotsOk s (c .challenge) (c .opening), 6) ∷ []
 
 -- E6's tests of the record that begins a string, without 3 and 11, and without the end: what stands behind the sixth field begins the next record
 unfoldable pub entryNumber : List ℕ → ℕ

@@ -9,7 +9,7 @@ use lib.Bits.{bitXor, xor-zero-l, xor-zero-r}
 use lib.Pow.{pow-pos}
 use lib.ListN.{length, getD, take, drop, drop-of-length-le}
 use lib.Seq.{take-length, take-at}
-use Rattle.planning_laws.proofs.LeafCommitments.{commitment-length}
+use Rattle.planning_laws.proofs.LeafKindFacts.{commitment-length}
 use Rattle.spec.specs.declared.Shape.{Shape}
 use Rattle.spec.specs.declared.Stretch.{Stretch}
 use Rattle.spec.specs.Bytes.{bit, tabulate, concat, zeros}

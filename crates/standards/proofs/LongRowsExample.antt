@@ -1,8 +1,8 @@
 -- Commit, open and reconstruct of three vectors of depth three in a tree of five levels, with rows of 18 bytes, more than a block of the generator, over the
 -- stand-in primitives of crates/spec: every byte of every buffer. The index of vector 2 has bits in two bytes of the challenge. The lists are those that
--- reference/worked_example.py derives. By computing, each buffer from the tree as it is listed.
+-- reference/worked_example.py derives. By computing.
 use Prim.Native.Nat.{ℕ, _*_}
-use mathlib.Core.Path.{_≡_, refl, ap, _∙_}
+use mathlib.Core.Path.{_≡_, refl}
 use mathlib.Core.List.{List, [], _∷_, _++_}
 use Rattle.spec.specs.declared.Shape.{Shape}
 use Rattle.spec.specs.declared.Stretch.{Stretch}
@@ -60,88 +60,23 @@ verifier-tree = 0 ∷ 0 ∷ 0 ∷ 0 ∷ 0 ∷ 0 ∷ 0 ∷ 0 ∷ 0 ∷ 0 ∷ 0 �
 abbrev verifier-q : List ℕ
 verifier-q = 32 ∷ 218 ∷ 40 ∷ 94 ∷ 192 ∷ 250 ∷ 216 ∷ 150 ∷ 224 ∷ 10 ∷ 24 ∷ 46 ∷ 128 ∷ 170 ∷ 232 ∷ 214 ∷ 32 ∷ 186 ∷ 95 ∷ 69 ∷ 75 ∷ 37 ∷ 55 ∷ 45 ∷ 251 ∷ 205 ∷ 207 ∷ 5 ∷ 123 ∷ 229 ∷ 23 ∷ 157 ∷ 203 ∷ 253 ∷ 191 ∷ 69 ∷ 159 ∷ 186 ∷ 135 ∷ 102 ∷ 135 ∷ 162 ∷ 31 ∷ 6 ∷ 47 ∷ 218 ∷ 7 ∷ 54 ∷ 7 ∷ 18 ∷ 79 ∷ 246 ∷ 191 ∷ 122 ∷ 200 ∷ 108 ∷ 104 ∷ 140 ∷ 56 ∷ 20 ∷ 152 ∷ 36 ∷ 152 ∷ 92 ∷ 120 ∷ 252 ∷ 200 ∷ 20 ∷ 232 ∷ 100 ∷ 8 ∷ 108 ∷ 168 ∷ 33 ∷ 156 ∷ 33 ∷ 232 ∷ 9 ∷ 228 ∷ 185 ∷ 24 ∷ 81 ∷ 44 ∷ 241 ∷ 24 ∷ 233 ∷ 68 ∷ 89 ∷ 40 ∷ 65 ∷ 209 ∷ 204 ∷ 197 ∷ 60 ∷ 65 ∷ 140 ∷ 253 ∷ 28 ∷ 17 ∷ 140 ∷ 69 ∷ 188 ∷ 193 ∷ 108 ∷ 173 ∷ 124 ∷ 177 ∷ 236 ∷ 24 ∷ 60 ∷ 120 ∷ 172 ∷ 168 ∷ 180 ∷ 88 ∷ 116 ∷ 104 ∷ 44 ∷ 8 ∷ 60 ∷ 248 ∷ 20 ∷ 168 ∷ 148 ∷ 120 ∷ 92 ∷ 128 ∷ 244 ∷ 64 ∷ 60 ∷ 32 ∷ 252 ∷ 0 ∷ 84 ∷ 0 ∷ 244 ∷ 224 ∷ 12 ∷ 64 ∷ 76 ∷ 192 ∷ 52 ∷ 0 ∷ 20 ∷ 211 ∷ 123 ∷ 175 ∷ 103 ∷ 3 ∷ 27 ∷ 103 ∷ 207 ∷ 179 ∷ 75 ∷ 255 ∷ 7 ∷ 163 ∷ 139 ∷ 231 ∷ 255 ∷ 179 ∷ 91 ∷ []
 
--- the stretch z of the rows of a tree
-abbrev rows : Stretch → List ℕ → ℕ → ℕ → ℕ → ℕ
-rows z tree = stretchByte standIn shape z iv tree
-
--- ---- commit
-
-tree-of-root : signerTree standIn shape root iv ≡ signer-tree
-unfolding tabulate expandTree level nodeBytes leaves prg children signerTree deeper
-tree-of-root = refl
-
-commitments-of-tree : leafCommitments shape (signerLeafCommitment standIn shape iv signer-tree) ≡ signer-leaf-commitments
-unfolding tabulate level nodeBytes leafCommitmentBytes leaves leafOf prg nodeAt leafKey stretched leafSeed concat depthOf entriesOf hashKey leafCommitment vectorCommitments leafCommitments signerLeafCommitment deeper
-commitments-of-tree = refl
-
-hash-of-tree : commitmentOf standIn shape (signerLeafCommitment standIn shape iv signer-tree) ≡ signer-commitment
-unfolding tabulate level nodeBytes leafCommitmentBytes leaves leafOf prg nodeAt leafKey stretched leafSeed concat depthOf entriesOf hashKey leafCommitment vectorCommitments vectorHash commitmentOf signerLeafCommitment deeper
-hash-of-tree = refl
-
-u-of-tree : signerU shape 18 (rows whole signer-tree) ≡ signer-u
-unfolding tabulate level nodeBytes leafCommitmentBytes leaves leafOf prg nodeAt leafKey stretched leafSeed xorBelow depthOf entriesOf rowByte stretchByte uByte signerU deeper
-u-of-tree = refl
-
-v-of-tree : matrixOf shape 18 (signerColumn shape 18 (rows whole signer-tree)) ≡ signer-v ++ zeros (18 * 119)
-unfolding tabulate level nodeBytes leafCommitmentBytes leaves leafOf prg nodeAt leafKey stretched leafSeed xorBelow depthOf entriesOf rowByte stretchByte concat zeros columnByte matrixOf signerColumn deeper
-v-of-tree = refl
-
-corrections-of-tree : corrections shape 18 (rows whole signer-tree) ≡ signer-corrections
-unfolding tabulate level nodeBytes leafCommitmentBytes leaves leafOf prg nodeAt leafKey stretched leafSeed xorBelow depthOf entriesOf rowByte stretchByte concat uByte correction corrections deeper
-corrections-of-tree = refl
-
-pub commits :
-    let x = committed standIn shape whole root iv in
-    (x .commitment ≡ signer-commitment)
-    × (x .tree ≡ signer-tree)
-    × (x .leafCommitments ≡ signer-leaf-commitments)
-    × (x .u ≡ signer-u)
-    × (x .v ≡ signer-v ++ zeros (18 * 119))
-    × (x .corrections ≡ signer-corrections)
-unfolding committed
-commits = (
-  ap (λ (tree : List ℕ). commitmentOf standIn shape (signerLeafCommitment standIn shape iv tree)) tree-of-root ∙ hash-of-tree,
-  tree-of-root,
-  ap (λ (tree : List ℕ). leafCommitments shape (signerLeafCommitment standIn shape iv tree)) tree-of-root ∙ commitments-of-tree,
-  ap (λ (tree : List ℕ). signerU shape 18 (rows whole tree)) tree-of-root ∙ u-of-tree,
-  ap (λ (tree : List ℕ). matrixOf shape 18 (signerColumn shape 18 (rows whole tree))) tree-of-root ∙ v-of-tree,
-  ap (λ (tree : List ℕ). corrections shape 18 (rows whole tree)) tree-of-root ∙ corrections-of-tree,
-)
-
--- ---- open
+pub commits : committed standIn shape whole root iv
+    ≡ record {
+      commitment = signer-commitment;
+      tree = signer-tree;
+      leafCommitments = signer-leaf-commitments;
+      u = signer-u;
+      v = signer-v ++ zeros (18 * 119);
+      corrections = signer-corrections;
+    }
+unfolding tabulate concat zeros level nodeBytes leafCommitmentBytes deeper depthOf entriesOf leaves leafOf prg nodeAt leafKey expandTree children stretched leafSeed hashKey leafCommitment vectorCommitments leafCommitments vectorHash commitmentOf xorBelow rowByte stretchByte columnByte matrixOf uByte signerTree signerLeafCommitment signerU signerColumn correction corrections committed
+commits = refl
 
 pub opens : openingOf shape challenge signer-tree signer-leaf-commitments ≡ opening
-unfolding tabulate number bitAt bitsAt indexAt depthOf firstBit leaves leafOf hiddenIndex parent isAncestorWithin isAncestor some covered siblingToReveal revealedFrom revealed nodeCount hiddenLeaf hiddenLeaves planned plannedCount concat zeros level nodeBytes leafCommitmentBytes firstEntry nodeAt leafCommitmentAt openingOf deeper
+unfolding tabulate concat zeros level nodeBytes leafCommitmentBytes deeper depthOf leaves leafOf firstEntry nodeAt number bitAt bitsAt indexAt firstBit hiddenIndex parent isAncestorWithin isAncestor some covered siblingToReveal revealedFrom revealed nodeCount hiddenLeaf hiddenLeaves planned plannedCount leafCommitmentAt openingOf
 opens = refl
 
--- ---- reconstruct
-
-tree-of-opening : reconstructedTree standIn shape iv challenge opening ≡ verifier-tree
-unfolding tabulate number bitAt bitsAt indexAt depthOf firstBit leaves leafOf hiddenIndex parent isAncestorWithin isAncestor some covered siblingToReveal revealedFrom revealed nodeCount hiddenLeaf hiddenLeaves planned plannedCount zeros indexOf expandTree level nodeBytes leafCommitmentBytes prg children slot givenNode reconstructedChildren reconstructedTree deeper
-tree-of-opening = refl
-
-commitments-again : leafCommitments shape (verifierLeafCommitment standIn shape iv challenge opening verifier-tree) ≡ signer-leaf-commitments
-unfolding tabulate level nodeBytes leafCommitmentBytes leaves leafOf prg nodeAt leafKey stretched leafSeed concat depthOf entriesOf hashKey leafCommitment number bitAt bitsAt indexAt firstBit hiddenIndex hiddenLeafCommitment verifierLeafCommitment vectorCommitments leafCommitments deeper
-commitments-again = refl
-
-hash-again : commitmentOf standIn shape (verifierLeafCommitment standIn shape iv challenge opening verifier-tree) ≡ signer-commitment
-unfolding tabulate level nodeBytes leafCommitmentBytes leaves leafOf prg nodeAt leafKey stretched leafSeed concat depthOf entriesOf hashKey leafCommitment number bitAt bitsAt indexAt firstBit hiddenIndex hiddenLeafCommitment verifierLeafCommitment vectorCommitments vectorHash commitmentOf deeper
-hash-again = refl
-
-q-of-tree : matrixOf shape 18 (verifierColumn shape 18 (rows whole verifier-tree) challenge signer-corrections) ≡ verifier-q ++ zeros (18 * 119)
-unfolding tabulate level nodeBytes leafCommitmentBytes leaves leafOf prg nodeAt leafKey stretched leafSeed xorBelow depthOf entriesOf rowByte stretchByte number bitAt bitsAt indexAt firstBit hiddenIndex concat zeros columnByte matrixOf correctionByte verifierColumn deeper
-q-of-tree = refl
-
-pub reconstructs :
-    let x = reconstructed standIn shape whole iv challenge signer-corrections opening in
-    (x .commitment ≡ signer-commitment)
-    × (x .tree ≡ verifier-tree)
-    × (x .leafCommitments ≡ signer-leaf-commitments)
-    × (x .q ≡ verifier-q ++ zeros (18 * 119))
-unfolding reconstructed
-reconstructs = (
-  ap (λ (tree : List ℕ). commitmentOf standIn shape (verifierLeafCommitment standIn shape iv challenge opening tree)) tree-of-opening ∙ hash-again,
-  tree-of-opening,
-  ap (λ (tree : List ℕ). leafCommitments shape (verifierLeafCommitment standIn shape iv challenge opening tree)) tree-of-opening ∙ commitments-again,
-  ap (λ (tree : List ℕ). matrixOf shape 18 (verifierColumn shape 18 (rows whole tree) challenge signer-corrections)) tree-of-opening ∙ q-of-tree,
-)
+pub reconstructs : reconstructed standIn shape whole iv challenge signer-corrections opening
+    ≡ record { commitment = signer-commitment; tree = verifier-tree; leafCommitments = signer-leaf-commitments; q = verifier-q ++ zeros (18 * 119) }
+unfolding tabulate concat zeros level nodeBytes leafCommitmentBytes deeper depthOf entriesOf leaves leafOf prg nodeAt leafKey expandTree children stretched leafSeed hashKey leafCommitment vectorCommitments leafCommitments vectorHash commitmentOf xorBelow rowByte stretchByte columnByte matrixOf number bitAt bitsAt indexAt firstBit hiddenIndex parent isAncestorWithin isAncestor some covered siblingToReveal revealedFrom revealed nodeCount hiddenLeaf hiddenLeaves planned plannedCount indexOf slot givenNode reconstructedChildren reconstructedTree hiddenLeafCommitment verifierLeafCommitment correctionByte verifierColumn reconstructed
+reconstructs = refl

@@ -129,7 +129,14 @@ module _ (L : ℕ) (hs : List ℕ) (ls : Leaves L hs) (some-hidden : 1 ≤ lengt
     no-shorter = no-longer (λ r s. isAncestor r s ≡ true) (revealed L hs) ns (revealed-distinct L hs) one-beneath one-above
 
 fewest-of : (L : ℕ) (hs : List ℕ) → Leaves L hs → 1 ≤ length hs → Fewest L hs (revealed L hs)
-fewest-of L hs ls h = record { reveals = revealed-reveals L hs ls h; distinct = revealed-distinct L hs; fewest = no-shorter L hs ls h }
+unfolding nodeCount
+fewest-of L hs ls h =
+    record {
+      within = λ m l. (let low = revealed-low L hs m (leaves-pos L hs ls h) l in omega arith);
+      reveals = revealed-reveals L hs ls h;
+      distinct = revealed-distinct L hs;
+      fewest = no-shorter L hs ls h;
+    }
 
 pub no-smaller-opening : NoSmallerOpening
 unfolding planned

@@ -29,7 +29,7 @@ use Rattle.planning_laws.proofs.Covered.{covered-leaf, covered-inner, root-hidd
 use Rattle.planning_laws.proofs.Revealed.{left-revealed, right-revealed}
 use Rattle.planning_laws.proofs.HiddenLeaves.{hidden-count, hidden-leaves}
 use Rattle.planning_laws.proofs.ExpandTree.{expand-length, expand-front, expand-left, expand-right}
-use Rattle.planning_laws.proofs.LeafCommitments.{commitment-length}
+use Rattle.planning_laws.proofs.LeafKindFacts.{commitment-length}
 use Rattle.planning_laws.proofs.ShapeLaws.{ShapeLaws, hidden-at}
 use Rattle.theorems.proofs.Buffers.{commitments-length, commitments-at, opening-hidden, opening-slot}
 

@@ -5,7 +5,7 @@ use mathlib.Core.Path.{_≡_}
 use mathlib.Core.Bool.{true, not}
 use mathlib.Core.List.{List}
 use lib.Dec.{eqb}
-use lib.ListN.{length}
+use lib.ListN.{length, getD}
 use Rattle.spec.specs.declared.Shape.{Shape}
 use Rattle.spec.specs.Tree.{isAncestor, some, revealed}
 use Rattle.spec.specs.Shapes.{resolved, shapeOk, leaves, hiddenIndex, hiddenLeaves, planned, plannedCount}
@@ -19,8 +19,9 @@ RevealedAt hidden nodes y = some (λ a. isAncestor a y) nodes ≡ not (some (eqb
 abbrev pub Reveals : ℕ → List ℕ → List ℕ → Type 0
 Reveals L hidden nodes = (y : ℕ) → L ≤ y + 1 → y + 1 < 2 * L → RevealedAt hidden nodes y
 
--- the nodes are such nodes, each stands once in the list, and no such list is shorter
+-- the nodes are nodes of the tree, which has 2 L - 1, and such nodes; each stands once in the list, and no such list is shorter, whatever numbers it holds
 pub record Fewest (L : ℕ) (hidden nodes : List ℕ) : Type 0 where
+  pub within : (m : ℕ) → m < length nodes → getD nodes m 0 + 1 < 2 * L
   pub reveals : Reveals L hidden nodes
   pub distinct : WithoutDuplicates nodes
   pub fewest : (others : List ℕ) → Reveals L hidden others → length nodes ≤ length others

@@ -57,6 +57,16 @@ fn roundtrip() {
     assert_eq!(program(&args, ""), (0, expected.into()));
 }
 
+/// The command answers this number and count, and with another number than 0 it
+/// prints nothing else.
+fn answered(command: &str, (number, count): (u32, u32)) {
+    let (status, text) = program(command, "");
+    let head = format!("number {number}\ncount {count}\n");
+    assert_eq!(status, 0, "{command}");
+    assert!(text.starts_with(&head), "{command}: {text}");
+    assert!(number == 0 || text == head, "{command}: {text}");
+}
+
 #[test]
 fn stretches() {
     // The whole row is the stretch 0, b.
@@ -86,20 +96,20 @@ fn stretches() {
     }
     assert_eq!(part[6][1], "640");
     // A refused stretch, with each of the numbers in its turn.
-    let refused = |number: u32| (0, format!("number {number}\ncount 0\n"));
-    for (shape, bits, challenge, number) in [
-        ("2 2 124 4 128 0", 200, CHALLENGE_0C, 8),
-        ("2 2 124 4 128 0", 200, CHALLENGE_10, 8),
-        ("2 2 124 4 128 0", 200, &ROOT[2..], 8),
-        ("2 2 124 4 128 0", 201, CHALLENGE_0C, 2),
-        ("2 2 122 4 128 0", 200, CHALLENGE_0C, 1),
+    // Open is not concerned with rows, and gives its own number.
+    for (shape, bits, challenge, number, opened) in [
+        ("2 2 124 4 128 0", 200, CHALLENGE_0C, 8, (0, 4)),
+        ("2 2 124 4 128 0", 200, CHALLENGE_10, 8, (4, 0)),
+        ("2 2 124 4 128 0", 200, &ROOT[2..], 8, (3, 0)),
+        ("2 2 124 4 128 0", 201, CHALLENGE_0C, 2, (0, 4)),
+        ("2 2 122 4 128 0", 200, CHALLENGE_0C, 1, (1, 0)),
     ] {
         let huge = usize::MAX;
         for stretch in ["0 0", "1 25", &format!("{huge} 1"), &format!("1 {huge}")] {
             let args = format!("{shape} {bits} {stretch} {ROOT} {ROOT} {challenge}");
-            for command in ["open", "reconstruct", "roundtrip"] {
-                let output = program(&format!("{command}_stretch {args}"), "");
-                assert_eq!(output, refused(number), "{command} {args}");
+            answered(&format!("open_stretch {args}"), opened);
+            for command in ["reconstruct", "roundtrip"] {
+                answered(&format!("{command}_stretch {args}"), (number, 0));
             }
         }
     }
@@ -109,36 +119,40 @@ fn stretches() {
 fn refusals() {
     let refused = |number: u32, count: u32| (0, format!("number {number}\ncount {count}\n"));
     let short = &ROOT[2..];
-    for (rest, answer) in [
+    // The answers of open and of reconstruct, each its own, also behind a commit
+    // that is refused, and that of the round trip, the first that is not 0.
+    for (rest, answers) in [
         (
             format!("2 2 122 4 128 0 200 {ROOT} {ROOT} {CHALLENGE_0C}"),
-            (1, 0),
+            [(1, 0), (1, 0), (1, 0)],
         ),
         (
             format!("2 2 124 4 128 0 201 {ROOT} {ROOT} {CHALLENGE_0C}"),
-            (2, 0),
+            [(0, 4), (2, 0), (2, 0)],
         ),
         (
             format!("2 2 124 4 128 0 200 {ROOT} {short} {CHALLENGE_0C}"),
-            (3, 0),
+            [(0, 4), (3, 0), (3, 0)],
         ),
         (
             format!("2 2 124 4 128 0 200 {short} {ROOT} {CHALLENGE_0C}"),
-            (3, 0),
+            [(0, 4), (0, 4), (3, 0)],
         ),
-        (format!("2 2 124 4 128 0 200 {ROOT} {ROOT} {short}"), (3, 0)),
+        (
+            format!("2 2 124 4 128 0 200 {ROOT} {ROOT} {short}"),
+            [(3, 0), (3, 0), (3, 0)],
+        ),
         (
             format!("2 2 124 4 128 0 200 {ROOT} {ROOT} {CHALLENGE_10}"),
-            (4, 0),
+            [(4, 0), (4, 0), (4, 0)],
         ),
         (
             format!("2 2 124 3 128 0 200 {ROOT} {ROOT} {CHALLENGE_0C}"),
-            (5, 4),
+            [(5, 4), (5, 4), (5, 4)],
         ),
     ] {
-        for command in ["open", "reconstruct", "roundtrip"] {
-            let output = program(&format!("{command} {rest}"), "");
-            assert_eq!(output, refused(answer.0, answer.1), "{command} {rest}");
+        for (command, answer) in ["open", "reconstruct", "roundtrip"].iter().zip(answers) {
+            answered(&format!("{command} {rest}"), answer);
         }
     }
     let huge = format!("commit 2 2 124 4 128 0 {} {ROOT} {ROOT}", usize::MAX);
@@ -334,7 +348,10 @@ fn levels() {
         // A node of another level, and a record of version 1.
         let other = format!("{ROOT} {ROOT} {challenge}");
         let refused = (0, "number 3\ncount 0\n".into());
-        assert_eq!(program(&format!("open {shape} 8 {other}"), ""), refused);
+        assert_eq!(
+            program(&format!("roundtrip {shape} 8 {other}"), ""),
+            refused
+        );
         let older = format!("record_version_1 {shape} 8 {tail}");
         assert_eq!(program(&older, ""), (2, String::new()));
         for (probe, outputs) in [

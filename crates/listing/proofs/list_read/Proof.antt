@@ -13,7 +13,7 @@ slice-aggregate-list : tie.Need-slice-aggregate-list
 slice-aggregate-list c = (let a = c .before .before .args in let long : length (a .t1) ≡ 64 = search needs in sym (length-take-le (a .n) (a .t1) (omega arith)))
 
 returns : tie.Need-returns
-returns c = (c .before .before .list .ensures .0, λ input e. c .before .before .list .ensures .1 ∙ ap listing (sym e) ∙ first-64 input)
+returns c = (c .before .before .list .ensures .0, λ input e. c .before .before .list .ensures .1 ∙ ap listing (sym e) ∙ first-64 input, c .before .before .list .ensures .2)
 
 pub list-read-spec : {M : Type 1} → statement M
 list-read-spec =

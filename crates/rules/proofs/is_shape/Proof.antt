@@ -5,14 +5,16 @@ use mathlib.Core.Bool.{true≢false}
 use native.Mathlib.Omega.{arith}
 use native.Mathlib.Nat.{mul-le-mul}
 use borrow.Author.Needs.{needs}
-use Rattle.spec.specs.Shapes.{level}
+use Rattle.spec.specs.Shapes.{level, shapeOk}
+use Rattle.laws.proofs.Conjunctions.{refuted}
 use Rattle.laws.proofs.Tests.{failed, passed}
-use Rattle.planning_laws.proofs.ShapeFacts.{deeper-is, shape-refused, shape-by-depth}
+use Rattle.planning_laws.proofs.LeafKindFacts.{kind-max, others-decide}
+use Rattle.planning_laws.proofs.ShapeFacts.{deeper-is, shape-refused, rules-by-depth}
 use Rattle.rules.proofs.is_shape.Statement.{statement}
 use Rattle.rules.proofs.is_shape.Tie as tie
 
 returns : tie.Need-returns
-returns c = shape-refused (c .before .before .args .s) (λ f. omega (arith, f .kind-max))
+returns c = (let s = c .before .before .args .s in refuted (shapeOk s) (λ e. omega (arith, kind-max s e)))
 
 returns-2 : tie.Need-returns-2
 returns-2 c = shape-refused (c .before .before .before .before .args .s) (λ f. true≢false (sym (f .level-is) ∙ failed (c .before .is-level .ensures) (c .if2 .taken)))
@@ -68,7 +70,8 @@ returns-12 c =
     let s = c .before .before .before .before .before .before .before .before .before .before .before .before .before .before .before .before .before .before .before .before .before .before .before .before .args .s in
     let d = deeper-is s in
     let l = passed (c .before .before .before .before .before .before .before .before .before .before .before .before .before .before .before .before .before .before .before .before .before .is-level .ensures) (c .before .before .before .before .before .before .before .before .before .before .before .before .before .before .before .before .before .before .before .before .if2 .left) in
-    shape-by-depth s (s .level - (s .tau * s .k + s .w)) (omega arith) (omega arith) (omega arith) (omega arith) (omega arith) (omega arith) (omega arith) (omega arith) (omega arith) (omega arith) l (omega (arith, c .before .before .before .before .before .before .before .before .before .before .before .before .before .before .before .before .before .before .before .before .before .before .if1 .left))
+    rules-by-depth s (s .level - (s .tau * s .k + s .w)) (omega arith) (omega arith) (omega arith) (omega arith) (omega arith) (omega arith) (omega arith) (omega arith) (omega arith) (omega arith) l
+    ∙ others-decide s (omega (arith, c .before .before .before .before .before .before .before .before .before .before .before .before .before .before .before .before .before .before .before .before .before .before .if1 .left))
 
 pub is-shape-spec : {M : Type 1} → statement M
 is-shape-spec =

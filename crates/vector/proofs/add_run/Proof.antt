@@ -9,7 +9,7 @@ use native.Mathlib.Nat.{mul-le-mul}
 use native.Mathlib.Omega.{arith}
 use lib.Bits.{bitXor}
 use lib.ListN.{length}
-use Rattle.planning_laws.proofs.LeafCommitments.{commitment-length}
+use Rattle.planning_laws.proofs.LeafKindFacts.{commitment-length}
 use Rattle.spec.specs.declared.Shape.{Shape}
 use Rattle.spec.specs.declared.Stretch.{Stretch}
 use Rattle.spec.specs.Shapes.{leafCommitmentBytes, entriesOf, shapeOk}

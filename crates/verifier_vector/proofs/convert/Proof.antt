@@ -6,7 +6,7 @@ use Prim.Native.Nat.{ℕ, _+_, _*_}
 use native.Mathlib.Omega.{arith}
 use lib.Bits.{bitXor}
 use lib.ListN.{length, take, drop}
-use Rattle.planning_laws.proofs.LeafCommitments.{commitment-length}
+use Rattle.planning_laws.proofs.LeafKindFacts.{commitment-length}
 use Rattle.spec.specs.declared.Shape.{Shape}
 use Rattle.spec.specs.Bytes.{tabulate, concat}
 use Rattle.spec.specs.Hashes.{hash1}

@@ -1,0 +1,132 @@
+#!/usr/bin/env python3
+"""Document 02, E8: tree, plan and matrices are shared by the leaf kinds, and their proofs do not mention the kind.
+
+A file of crates/*/{src,specs,proofs} mentions the kind if one of the names or words of it stands in the file or in its path: `kind` and what is made with it
+(`.kind`, `kindFits`, `kind-max`), `ordinary` (`is_ordinary`, `ordinary-seed`), Even-Mansour, `em_leaf`, `em-seed`, FAEST-EM. A file also mentions it that
+unfolds a definition of spec that looks at it, as `leafCommitmentBytes`. The module planning_laws/proofs/LeafKindFacts.antt has what others cite instead, and
+its name alone is no mention: a proof may cite a fact from it whose name does not mention the kind.
+
+MAY has the files that may mention it, each with the reason; any other that does fails, and so does an entry for nothing. Then the script tests itself: each of
+MORE, added to the files in memory, must fail, and each of FINE must not.
+"""
+import re
+import sys
+
+from sources import TOP, Refused
+
+MENTION = re.compile(r'[A-Za-z_.-]*(?:kind|ordinary|mansour)[\w-]*|\bem[-_]\w+|-EM\b', re.I)
+CITED = 'LeafKindFacts'
+DEFINITIONS = ['spec/specs/Shapes.antt', 'spec/specs/Leaves.antt']
+
+# a file, or the beginning of several paths, and why it may mention the kind
+MAY = {
+    'spec/src/lib.rt': 'the field of a shape',
+    'spec/specs/Shapes.antt': 'its definition, the default, the shape rules, the bytes of a leaf commitment',
+    'spec/specs/Leaves.antt': 'the seed and the commitment of a leaf',
+    'spec/proofs/': 'examples of the definitions, computed, and the kinds that are refused',
+    'rules/': 'the shape rules, the default, the bytes of a leaf commitment',
+    'leaf/': 'the leaves of each kind, and the hash keys of ordinary ones',
+    'leaf_hash/': 'the hash of ordinary leaves',
+    'planning_laws/proofs/LeafKindFacts.antt': 'what other proofs cite, so that they need not see the kind',
+    'record/': 'version 3 of a record has the kind',
+    'record_fields/': 'the same',
+    'record_reading/': 'the same',
+    'record_writer/': 'the same',
+    'record_theorems/': 'the same',
+    'broker/proofs/Answers.antt': 'the test of the kind among the others of a record',
+    'report_text/proofs/Entries.antt': 'the same',
+    'named_sets/': 'the sets of both kinds',
+    'shape_host/src/': 'the six numbers of a shape from a C host',
+    'signer_host/src/': 'the same',
+    'verifier_host/src/': 'the same',
+    'writer_host/src/': 'the same',
+    'listing_line/': 'the listing programs are of kind 0',
+    'enumeration/src/': 'the same',
+    'enumeration/proofs/Examples.antt': 'an example, computed: a shape written out',
+    'report_text/proofs/Examples.antt': 'the same: the definitions of a shape unfolded',
+    'standards/proofs/LongRowsExample.antt': 'the same: a shape written out',
+    'standards/proofs/UnevenExample.antt': 'the same',
+    'standards_levels/proofs/Level192Example.antt': 'the same',
+    'standards_levels/proofs/Level256EmExample.antt': 'the same',
+    'theorems/proofs/PlanningExamples.antt': 'the same',
+    'bench_exports/src/': 'shapes written out',
+    'run_round_trip/src/': 'the same',
+    'vectors/src/': 'cases of each kind',
+    'vectors_stretches/src/': 'the same',
+    'vectors_records/src/': 'the same',
+    'vectors_calls/src/': 'the same',
+    'record_cases/src/': 'the same',
+    'report_runs/src/': 'the same',
+    'listing_text/proofs/+put_decimal/': 'another word: the kit\'s `Kinds` of parameters',
+}
+
+
+def looking(texts):
+    """The definitions that look at the kind, beside those that write a shape out; a definition ends at an empty line."""
+    written = '\n\n'.join(re.sub(r'kind = \d', '', texts[path]) for path in DEFINITIONS)
+    return {name for name, body in re.findall(r'(?ms)^(?:unfoldable|abbrev) pub (\w+) :(.*?)(?:\n\n|\Z)', written) if MENTION.search(body)}
+
+
+def mentions(path, text, names):
+    text = f'{path}\n{text}'.replace(CITED, '')
+    unfolded = [name for line in re.findall(r'(?m)^ *unfolding (.*)$', text) for name in line.split() if name in names]
+    return MENTION.findall(text) + unfolded
+
+
+def entry_of(path):
+    return next((entry for entry in MAY if path == entry or entry.endswith('/') and path.startswith(entry)), None)
+
+
+def check(texts):
+    names = looking(texts)
+    found = {path: mentions(path, text, names) for path, text in texts.items()}
+    found = {path: words for path, words in found.items() if words}
+    faults = [f'{path} mentions the leaf kind: {words[0]}' for path, words in sorted(found.items()) if entry_of(path) is None]
+    faults += [f'{entry} is in the table and does not mention the leaf kind' for entry in MAY if entry not in map(entry_of, found)]
+    if faults:
+        raise Refused('\n'.join(faults))
+    return f'{len(found)} of {len(texts)} files mention it, each by the table; {len(names)} definitions look at it: ' + ', '.join(sorted(names))
+
+
+# a file, what is added to it, and what is named as the mention
+MORE = [
+    ('tree/proofs/expand_node/Proof.antt', 'by-leaf : (s : Shape) → ordinary s ≡ true → leaves s ≡ leaves s', 'ordinary'),
+    ('planning_laws/proofs/Covered.antt', '-- the same for Even-Mansour leaves', 'Even-Mansour'),
+    ('planning_laws/proofs/ShapeFacts.antt', '  pub most : s .kind ≤ 1', '.kind'),
+    ('planning/proofs/walk/Proof.antt', 'use Rattle.planning_laws.proofs.LeafKindFacts.{kind-max}', 'kind-max'),
+    ('verifier_tree/src/lib.rt', '    if rules::is_ordinary(s) {', 'is_ordinary'),
+    ('columns/proofs/ByKind.antt', '', 'ByKind'),
+    ('signer_vectors/proofs/Steps.antt', 'unfolding leafCommitmentBytes\n', 'leafCommitmentBytes'),
+    ('vector/proofs/add_run/Proof.antt', '    unfolding level shapeOk\n', 'shapeOk'),
+    ('theorems/proofs/Reconstruction.antt', 'cited = em-seed faest s', 'em-seed'),
+    ('verifier_vectors/specs/Vectors.antt', '-- as in FAEST-EM', '-EM'),
+]
+FINE = [
+    ('vector/proofs/add_run/Proof.antt', 'use Rattle.planning_laws.proofs.LeafKindFacts.{commitment-length}'),
+    ('rows/proofs/add_row/Proof.antt', 'nearer b at from el em ee = omega arith'),
+    ('signer_vectors/proofs/Steps.antt', 'unfolding entriesOf\n'),
+]
+
+
+def main():
+    files = sorted(f for part in ('src', 'specs', 'proofs') for f in (TOP / 'crates').glob(f'*/{part}/**/*') if f.is_file())
+    texts = {f.relative_to(TOP / 'crates').as_posix(): f.read_text(encoding='utf-8') for f in files}
+    print('leaf kind:', check(texts))
+    for path, added, word in MORE:
+        try:
+            check({**texts, path: texts.get(path, '') + added})
+        except Refused as why:
+            if str(why) != f'{path} mentions the leaf kind: {word}':
+                sys.exit(f'leaf kind: {path} with {added} is refused for another reason: {why}')
+        else:
+            sys.exit(f'leaf kind: {path} with {added} is not refused')
+    for path, added in FINE:
+        check({**texts, path: texts[path] + added})
+    print(f'leaf kind: {len(MORE)} additions refused, as they must be, and {len(FINE)} allowed')
+
+
+if __name__ == '__main__':
+    try:
+        main()
+    except Refused as why:
+        sys.exit(f'leaf kind: {why}')
