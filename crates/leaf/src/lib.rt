@@ -65,14 +65,7 @@ fn stretch_leaf(
 }
 
 // The same of an Even-Mansour leaf: it is its own seed.
-fn em_leaf(
-    t: &[u8; 256],
-    s: Shape,
-    key: &[u8],
-    x: Nonce,
-    seed: &mut [u8],
-    out: &mut [u8],
-)
+fn em_leaf(t: &[u8; 256], s: Shape, key: &[u8], x: Nonce, seed: &mut [u8], out: &mut [u8])
     requires { ⌜ SboxTable (now t) ⌝ }
     requires { ⌜ (shapeOk s ≡ true) × (ordinary s ≡ false) × (length (now key) ≡ nodeBytes s) × (length (now seed) ≡ nodeBytes s) × (length (now out) ≡ leafCommitmentBytes s) ⌝ }
     ensures { λ _. ⌜ ((i : ℕ) → x .tweak ≡ i + leaves s - 1

@@ -121,7 +121,17 @@ pub fn write_vectors(
     for j in 0..others {
         let at = b * j;
         buffers::copy_part(u, 0, b, corrections, at);
-        next_vector(t, g, j + 1, keys, tree, &mut corrections[at..at + b], lcs, v, hashes);
+        next_vector(
+            t,
+            g,
+            j + 1,
+            keys,
+            tree,
+            &mut corrections[at..at + b],
+            lcs,
+            v,
+            hashes,
+        );
     }
     let used = vector::columns_from(g.shape, g.shape.tau, b);
     buffers::clear_from(v, used);

@@ -20,7 +20,7 @@ use Rattle.laws.proofs.Strings.{getD-append-zeros}
 use Rattle.laws.proofs.Concat.{part-whole, mul-next, mul-within}
 use Rattle.laws.proofs.Segments.{segment-before}
 use Rattle.planning_laws.proofs.Depths.{bit-next, entry-next}
-use Rattle.planning_laws.proofs.ShapeFacts.{shape-facts, bit-all, depth-small}
+use Rattle.planning_laws.proofs.ShapeFacts.{shape-facts, bit-all}
 use Rattle.planning_laws.proofs.ShapeLaws.{shape-laws}
 
 -- ---- string i, of w bytes, put behind the i before it, which end at p, in a part lent from v on; it ends at q
@@ -111,9 +111,6 @@ module _ (s : Shape) (ok : shapeOk s ≡ true) where
       let e = ap (firstBit s) (add-one i) ∙ bit-next s i in
       let m : b * firstBit s (i + 1) ≤ b * firstBit s (s .tau) = mul-le-mul (le-refl b) (omega arith) in
       omega (arith, all-columns b)
-
-  pub columns-fit : (b i : ℕ) → b ≤ 8192 → Fits w64 (b * depthOf s i)
-  columns-fit b i h = (let m : b * depthOf s i ≤ 8192 * 12 = mul-le-mul h (depth-small s i (shape-facts s ok)) in record { fits = omega arith })
 
 -- ---- a buffer into which a string of w bytes was copied
 

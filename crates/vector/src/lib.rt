@@ -60,7 +60,15 @@ fn add_leaf(
     let a = n * rules::leaf_of(s, i, e);
     let tweak = leaf::leaf_tweak(i, rules::leaf_count(s));
     let row = (i as u32) + 2147483648;
-    leaf::commit_leaf(t, m, s, &tree[a..a + n], Nonce { iv, tweak }, seed, commitment);
+    leaf::commit_leaf(
+        t,
+        m,
+        s,
+        &tree[a..a + n],
+        Nonce { iv, tweak },
+        seed,
+        commitment,
+    );
     rows::add_row(t, seed, Nonce { iv, tweak: row }, g.stretch.first, sum);
 }
 

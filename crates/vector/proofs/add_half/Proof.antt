@@ -147,8 +147,7 @@ add-half-spec =
     (tie.spec
     Inv-loop
     μ-loop
-    (λ c κs. search needs)
-    (λ c κs. search needs)
+    (λ c κs. search needs) (λ c κs. search needs)
     (λ c. let m = small c in omega arith)
     (λ c. let m = small c in omega arith)
     clear-from-requires
@@ -156,18 +155,15 @@ add-half-spec =
     (λ c. let e = entry c in omega arith)
     (λ c. let e = entry c in omega arith)
     (λ c. let e = entry c in omega arith)
-    (λ c. search needs)
-    (λ c. search needs)
+    (λ c. search needs) (λ c. search needs)
     part-add-entry-end
     add-last-column
-    (λ c. search needs)
-    (λ c. search needs)
+    (λ c. search needs) (λ c. search needs)
     part-add-entry-end-2
     add-entry-requires
     (λ c. search needs)
     add-last-requires
-    (λ c. search needs)
-    (λ c. search needs)
+    (λ c. search needs) (λ c. search needs)
     loop-again
     (λ c. c .before .loop .inv .2 .size)
     (λ c. c .before .loop .inv .3 .size ∙ sym (marked (c .before .before .before .before .before .before) .size))

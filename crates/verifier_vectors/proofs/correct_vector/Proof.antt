@@ -49,17 +49,13 @@ correct-vector-spec =
     (tie.spec
     (λ c. search needs)
     (λ c. start-fits _ _ _ (correction-end c) (c .before .before .before .good .1 .1 .1 .1 .0 .0))
-    (λ c κs. search needs)
-    (λ c. search needs)
-    (λ c κs. search needs)
-    (λ c κs. search needs)
+    (λ c κs. search needs) (λ c. search needs) (λ c κs. search needs) (λ c κs. search needs)
     (λ c. lent-order _ _ _ (q-size c))
     (λ c. lent-order _ _ _ (q-size c))
     q-end
     (λ c κs. search needs)
     (λ c. end-fits _ _ _ (correction-end (c .before .before .before .before .before)) (c .before .before .before .before .before .before .before .before .good .1 .1 .1 .1 .0 .0))
-    (λ c. search needs)
-    (λ c. search needs)
+    (λ c. search needs) (λ c. search needs)
     (λ c. correction-end (c .before .before .before .before .before))
     add-bytes-requires
     (λ c. search needs)
