@@ -97,12 +97,12 @@ MORE = [
     ('verifier_tree/src/lib.rt', '    if rules::is_ordinary(s) {', 'is_ordinary'),
     ('columns/proofs/ByKind.antt', '', 'ByKind'),
     ('signer_vectors/proofs/Steps.antt', 'unfolding leafCommitmentBytes\n', 'leafCommitmentBytes'),
-    ('vector/proofs/add_run/Proof.antt', '    unfolding level shapeOk\n', 'shapeOk'),
+    ('vector/proofs/add_half/Proof.antt', '    unfolding level shapeOk\n', 'shapeOk'),
     ('theorems/proofs/Reconstruction.antt', 'cited = em-seed faest s', 'em-seed'),
     ('verifier_vectors/specs/Vectors.antt', '-- as in FAEST-EM', '-EM'),
 ]
 FINE = [
-    ('vector/proofs/add_run/Proof.antt', 'use Rattle.planning_laws.proofs.LeafKindFacts.{commitment-length}'),
+    ('vector/proofs/add_half/Proof.antt', 'use Rattle.planning_laws.proofs.LeafKindFacts.{commitment-length}'),
     ('rows/proofs/add_row/Proof.antt', 'nearer b at from el em ee = omega arith'),
     ('signer_vectors/proofs/Steps.antt', 'unfolding entriesOf\n'),
 ]

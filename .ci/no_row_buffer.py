@@ -361,23 +361,27 @@ def edited(texts, edits):
 
 
 def block(n):
-    return f'generator::block(t, &aes::key_schedule(t, seed), 10, iv, tweak, {n})'
+    return f'generator::block(t, &aes::key_schedule(t, seed), 10, x, {n})'
 
 
 def at(n):
     """A function that makes block n, calls the next such function, and only then adds its block."""
-    head = f'fn at_{n}(t: &[u8; 256], seed: &[u8], iv: [u8; 16], tweak: u32, sum: &mut [u8])'
-    return head + f'{{ let one = {block(n)}; ' + (f'at_{n + 1}(t, seed, iv, tweak, sum); ' if n < 4 else '') + f'add_block(one, 0, {16 * n}, sum); }}'
+    head = f'fn at_{n}(t: &[u8; 256], seed: &[u8], x: Nonce, sum: &mut [u8])'
+    return head + f'{{ let one = {block(n)}; ' + (f'at_{n + 1}(t, seed, x, sum); ' if n < 4 else '') + f'add_block(one, 0, {16 * n}, sum); }}'
+
+
+def with_tweak(tweak):
+    return f'let iv = x.iv; let tweak = x.tweak; let other = {tweak}; ' + STRETCH.replace(' x,', ' Nonce { iv, tweak: other },')
 
 
 def stretched_with(tweak):
     """A leaf stretched with another tweak."""
     reason = 'stretched of leaf::commit_leaf, [u8; 128], holds bytes of rows'
-    return (reason, ('leaf', STRETCH, STRETCH.replace('tweak', tweak)), VERSIONS, ('leaf', '', 'const HALF: u32 = 1_073_741_824;'))
+    return (reason, ('leaf', STRETCH, with_tweak(tweak)), VERSIONS, ('leaf', '', 'const HALF: u32 = 1_073_741_824;'))
 
 
 ROW = [f'x{n}' for n in range(14)]
-STRETCH = 'stretch_leaf(t, m, s, key, iv, tweak, &mut stretched'
+STRETCH = 'stretch_leaf(t, m, s, key, x, &mut stretched'
 VERSIONS = ('leaf', '', 'pub enum Version { One, Two }')
 ARMS = 'match Version::Two { Version::One => { tweak } Version::Two => tweak + %s, }'
 
@@ -385,7 +389,7 @@ ARMS = 'match Version::Two { Version::One => { tweak } Version::Two => tweak + %
 EDITS = [
     ('[u8; 8192] in rows::add_row (row) is not in the table', ('rows', 'fn add_row', 'let mut row = [0u8; 8192];')),
     ('row of rows::add_row, [u8; 32], holds bytes of rows',
-     ('rows', 'fn add_row', 'let mut row = [0u8; 32]; generator::fill(t, seed, iv, tweak, 0, &mut row);')),
+     ('rows', 'fn add_row', 'let mut row = [0u8; 32]; generator::fill(t, seed, x, 0, &mut row);')),
     ('pair of rows::add_row, Blocks, holds bytes of rows',
      ('aes', 'pub first: [u8; 16],\n    pub second: [u8; 16],', 'pub both: [[u8; 16]; 2],'),
      ('aes', 'first: bytes_of(last_round(t, x, keys[n])),\n        second: bytes_of(last_round(t, y, keys[n])),',
@@ -394,8 +398,8 @@ EDITS = [
     ('pair of vector::add_leaf, [u8; 32], holds bytes of rows',
      ('vector', 'fn add_leaf', 'let mut pair = [0u8; 32]; buffers::copy_part(sum, 0, 32, &mut pair, 0);')),
     ('block of columns::block_at, [u64; 4], holds bytes of rows', ('columns', 'let mut block = [0u8; 16];', 'let mut block = [0u64; 4];')),
-    ('[u8; 8192] in signer_vectors::other_vector (sum) is not in the table', ('signer_vectors', 'fn other_vector', 'let mut sum = [0u8; 8192];')),
-    ('hashes of signer_commit::write_commitment, [u8; 2048], holds bytes of rows', ('signer_vectors', 'lcs, total, cols);', 'lcs, total, hash);')),
+    ('[u8; 8192] in signer_vectors::next_vector (sum) is not in the table', ('signer_vectors', 'fn next_vector', 'let mut sum = [0u8; 8192];')),
+    ('hashes of signer_commit::write_commitment, [u8; 2048], holds bytes of rows', ('signer_vectors', 'fn convert', 'columns::add_part(hash, cols, 0);')),
     ('a form of rows::add_row that cannot be read: const ROW', ('rows', 'fn add_row', 'const ROW: [u8; 64] = [0; 64];')),
     ('keys of tree::expand_node, [[[u8; 4]; 4]; 15], holds bytes of rows', ('signer_tree', 'iv, a, tree);', 'iv, a + 2147483648, tree);')),
     ('an item of columns that cannot be read: type Row', ('columns', '', 'type Row = u8;')),
@@ -407,14 +411,14 @@ EDITS = [
      ('rows', 'fn add_row', 'let row = Row { ' + ', '.join(f'{x}: {block(n)}' for n, x in enumerate(ROW)) + ' }; add_block(row.x0, 0, 0, sum);')),
     ('rows::add_row holds 224 bytes of rows at once',
      ('rows', 'fn add_row', ''.join(f'let {x} = {block(n)}; ' for n, x in enumerate(ROW)) + ''.join(f'add_block({x}, 0, 0, sum); ' for x in ROW))),
-    ('hold 80 bytes of rows at once', ('rows', 'fn add_row', 'at_0(t, seed, iv, tweak, sum);'), ('rows', '', ''.join(map(at, range(5))))),
+    ('hold 80 bytes of rows at once', ('rows', 'fn add_row', 'at_0(t, seed, x, sum);'), ('rows', '', ''.join(map(at, range(5))))),
     ('rows::again calls itself', ('rows', 'fn add_row', 'again(sum);'), ('rows', '', 'fn again(sum: &mut [u8]) { again(sum); }')),
     ('held of rows::add_row, [[[u8; 4]; 4]; 15], holds bytes of rows',
      ('rows', 'let mid =', 'let mut held = keys; held[0] = aes::load_state(&one); let mid =')),
     # the tweak of rows for a leaf, however it is written
     *map(stretched_with, ('0x80000000', '0x8000_0000u32', '0b1 << 31', 'tweak + 2_147_483_648', 'tweak + 2 * HALF', 'leaf_tweak(HALF as usize, HALF as usize)',
                           ARMS % '0x80000000')),
-    ('a pattern of leaf::commit_leaf that cannot be read: x', ('leaf', 'fn commit_leaf', 'let two = match tweak { x => x, };')),
+    ('a pattern of leaf::commit_leaf that cannot be read: y', ('leaf', 'fn commit_leaf', 'let two = match x.tweak { y => y, };')),
     # u, a sum of rows and the corrections in arrays that are there for something else
     ('keys of signer_commit::write_commitment, [u8; 3072], holds bytes of rows', ('signer_commit', 'fn write_all', 'bytes::copy(u, keys);')),
     ('keys of signer_commit::write_commitment, [u8; 3072], holds bytes of rows',
@@ -424,7 +428,7 @@ EDITS = [
     ('a branch, a loop or a bound of vector::add_leaf depends on bytes of rows', ('vector', 'fn add_leaf', 'if sum[0] == 1 { seed[0] = 1; }')),
 ]
 ALLOWED = [
-    [('leaf', STRETCH, STRETCH.replace('tweak', ARMS % '1')), VERSIONS],
+    [('leaf', STRETCH, with_tweak(ARMS % '1')), VERSIONS],
     [('rows', '', 'enum Half { First, Second } fn cut(h: Half) -> usize { match h { Half::First => 0, Half::Second => { return 8; } } }'),
      ('rows', 'fn add_row', f'let one = {block(0)}; add_block(one, cut(Half::First), 0, sum);')],
 ]

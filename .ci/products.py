@@ -16,7 +16,7 @@ from sources import TOP, Refused, closure, crate_lines
 CRATES, README = 'crates.txt', 'README.md'
 
 GROUPS = {
-    'base': 'spec laws planning_laws numbers rules lengths buffers host_words',
+    'base': 'spec laws planning_laws numbers rules lengths buffers job host_words',
     'planning': 'challenge planning',
     'decode and plan': 'shape shape_host',
     'primitives': 'aes_steps aes_keys aes generator keccak shake field_limbs field_384 field_576 field_768 leaf_hash',

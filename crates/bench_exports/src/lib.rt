@@ -20,6 +20,7 @@ ghost use Rattle.spec.specs.Calls.{Plan};
 ghost use Rattle.field_limbs.specs.Multiples.{Multiples};
 ghost use Rattle.field_384.specs.Field.{p384};
 ghost use Rattle.columns.specs.Columns.{Xored};
+use job::Nonce;
 use spec::Answer;
 use spec::Shape;
 
@@ -48,7 +49,8 @@ pub extern "C" fn rattle_node(t: &[u8; 256], key: &[u8; 16], iv: &[u8; 16], out:
     requires { ⌜ SboxTable (now t) ⌝ }
     ensures { λ _. ⌜ now (out .exit) ≡ tabulate (length (now (out .entry))) (λ p. generatorByte 4 (now (key .entry)) (now (iv .entry)) 5 (0 + p)) ⌝ }
 {
-    generator::fill(t, key, *iv, 5, 0, out);
+    let x = *iv;
+    generator::fill(t, key, Nonce { iv: x, tweak: 5 }, 0, out);
 }
 
 // A row of 1,680 bits and some more: 224 bytes of the generator.
@@ -57,7 +59,8 @@ pub extern "C" fn rattle_row(t: &[u8; 256], key: &[u8; 16], iv: &[u8; 16], out: 
     requires { ⌜ SboxTable (now t) ⌝ }
     ensures { λ _. ⌜ now (out .exit) ≡ tabulate (length (now (out .entry))) (λ p. generatorByte 4 (now (key .entry)) (now (iv .entry)) 5 (0 + p)) ⌝ }
 {
-    generator::fill(t, key, *iv, 5, 0, out);
+    let x = *iv;
+    generator::fill(t, key, Nonce { iv: x, tweak: 5 }, 0, out);
 }
 
 #[no_mangle]
@@ -138,7 +141,8 @@ pub extern "C" fn rattle_add_row(
     requires { ⌜ (length (now seed) ≡ 16) × (length (now sum) ≤ 8192) ⌝ }
     ensures { λ _. ⌜ Xored 0 (length (now (sum .entry))) (λ p. generatorByte 4 (now (seed .entry)) (now (iv .entry)) tweak (0 + p)) (now (sum .entry)) (now (sum .exit)) ⌝ }
 {
-    rows::add_row(t, seed, *iv, tweak, 0, sum);
+    let x = *iv;
+    rows::add_row(t, seed, Nonce { iv: x, tweak }, 0, sum);
 }
 
 fn count_of(r: Answer) -> usize

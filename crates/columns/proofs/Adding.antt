@@ -9,7 +9,6 @@ use lib.Bits.{bitXor, xor-zero-r}
 use lib.ListN.{length, getD, set, length-set}
 use lib.Seq.{getD-set-same, getD-set-other}
 use Rattle.spec.specs.Bytes.{part}
-use Rattle.laws.proofs.Xor.{xor-assoc}
 use Rattle.laws.proofs.Lists.{length-part, getD-part}
 use Rattle.laws.proofs.Putting.{put, put-size, put-byte, put-other-byte}
 use Rattle.laws.proofs.Concat.{mul-within}
@@ -122,14 +121,6 @@ done-skip b j f old new e r =
 
 pub added-none : (b k : ℕ) (old : List ℕ) (f : ℕ → ℕ → ℕ) → ((j p : ℕ) → j < k → p < b → f j p ≡ 0) → Added b k f old old
 added-none b k old f h = record { size = refl; known = λ j p hj hp. sym (ap (bitXor (getD old (b * j + p) 0)) (h j p hj hp) ∙ xor-zero-r (getD old (b * j + p) 0)) }
-
-pub added-then : (b k : ℕ) (f g : ℕ → ℕ → ℕ) (old mid new : List ℕ) → Added b k f old mid → Added b k g mid new → Added b k (λ j p. bitXor (f j p) (g j p)) old new
-added-then b k f g old mid new r s =
-    record {
-      size = s .size ∙ r .size;
-      known = λ j p hj hp.
-          s .known j p hj hp ∙ ap (λ (x : ℕ). bitXor x (g j p)) (r .known j p hj hp) ∙ xor-assoc (getD old (b * j + p) 0) (f j p) (g j p);
-    }
 
 pub added-same : (b k : ℕ) (f g : ℕ → ℕ → ℕ) (old new : List ℕ) → ((j p : ℕ) → j < k → p < b → f j p ≡ g j p) → Added b k f old new → Added b k g old new
 added-same b k f g old new h r =

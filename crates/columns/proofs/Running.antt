@@ -1,4 +1,4 @@
--- The columns while rows are added in the order of their numbers: at the start, with one row more, with the last column cleared when half of the numbers are
+-- The columns while rows are added in the order of their numbers: columns of zeros, with the last column cleared, with one row more, when half of the numbers are
 -- done, and at the end. By the laws of the running sum.
 use mathlib.Core.Path.{_≡_, refl, sym, ap, ap₂, _∙_, subst}
 use mathlib.Core.List.{List}
@@ -14,7 +14,7 @@ use Rattle.laws.proofs.Xor.{xor-assoc, xor-cancel}
 use Rattle.laws.proofs.Lists.{getD-part}
 use Rattle.laws.proofs.Concat.{mul-within, is-concat}
 use Rattle.laws.proofs.Running.{bit-zero, bit-power, marked, marked-next, marked-highest}
-use Rattle.columns.specs.Columns.{Xored, Done, Running}
+use Rattle.columns.specs.Columns.{Xored, Done, Running, Marked}
 use Rattle.columns.proofs.Adding.{behind-start}
 
 -- a power of two has no lower bit
@@ -29,12 +29,21 @@ module _ (b h : ℕ) (row : ℕ → ℕ → ℕ) where
   none (suc zero) j p l = ap (λ (d : ℕ). bitXor 0 (d * row 0 p)) (bit-zero j) ∙ ap (bitXor 0) (zero-mul (row 0 p))
   none (suc (suc first)) j p l = absurd (omega arith)
 
-  pub running-start : (first : ℕ) (cols : List ℕ) → first ≤ 1 → length cols ≡ b * (h + 1) → ((q : ℕ) → getD cols q 0 ≡ 0) → Running b h first first row cols
-  running-start first cols l s z =
+  -- columns of zeros
+  pub marked-start : (first : ℕ) (cols : List ℕ) → first ≤ 1 → length cols ≡ b * (h + 1) → ((q : ℕ) → getD cols q 0 ≡ 0) → Marked b h first row cols
+  marked-start first cols l s z = record { size = s; others = λ j p hj hp. z (b * j + p) ∙ sym (none first j p l) }
+
+  -- the last column is cleared
+  pub running-start : (n : ℕ) (old new : List ℕ) → Marked b h n row old → length new ≡ length old
+      → ((q : ℕ) → q < b * h → getD new q 0 ≡ getD old q 0) → ((q : ℕ) → b * h ≤ q → getD new q 0 ≡ 0) → Running b h n n row new
+  running-start n old new r s same clear =
       record {
-        size = s;
-        last = λ p hp. z (b * h + p) ∙ sym (xor-self (xorBelow first (λ x. row x p)));
-        others = λ j p hj hp. z (b * j + p) ∙ sym (ap₂ bitXor (none first j p l) (ap (λ (x : ℕ). bit j first * x) (z (b * h + p)) ∙ mul-zero (bit j first)));
+        size = s ∙ r .size;
+        last = λ p hp. clear (b * h + p) (omega arith) ∙ sym (xor-self (xorBelow n (λ x. row x p)));
+        others = λ j p hj hp.
+            same (b * j + p) (omega (arith, mul-within b j h hj)) ∙ r .others j p hj hp
+            ∙ sym (ap (λ (x : ℕ). bitXor (marked j n (λ x. row x p)) (bit j n * x)) (clear (b * h + p) (omega arith))
+            ∙ ap (bitXor (marked j n (λ x. row x p))) (mul-zero (bit j n)) ∙ xor-zero-r (marked j n (λ x. row x p)));
       }
 
   -- the row of number n is added to the last column, and then the last column to those whose bit changes from n to n + 1
@@ -59,16 +68,15 @@ module _ (b h : ℕ) (row : ℕ → ℕ → ℕ) where
       sum : (p : ℕ) → p < b → getD mid (b * h + p) 0 ≡ bitXor (getD old (b * h + p) 0) (row n p)
       sum p hp = x .inside (b * h + p) (omega arith) (omega arith) ∙ ap (λ (i : ℕ). bitXor (getD old (b * h + p) 0) (row n i)) (behind-start (b * h) p)
 
-  -- the last column is cleared
-  pub running-half : (from n : ℕ) (old new : List ℕ) → n ≡ 2 ^ h → Running b h from n row old → length new ≡ length old
-      → ((q : ℕ) → q < b * h → getD new q 0 ≡ getD old q 0) → ((q : ℕ) → b * h ≤ q → getD new q 0 ≡ 0) → Running b h n n row new
-  running-half from n old new e r s same clear =
+  -- half of the numbers are done, or all
+  pub running-marked : (from n k : ℕ) (cols : List ℕ) → h ≤ k → n ≡ 2 ^ k → Running b h from n row cols → Marked b h n row cols
+  running-marked from n k cols l e r =
       record {
-        size = s ∙ r .size;
-        last = λ p hp. clear (b * h + p) (omega arith) ∙ sym (xor-self (xorBelow n (λ x. row x p)));
+        size = r .size;
         others = λ j p hj hp.
-            same (b * j + p) (omega (arith, mul-within b j h hj)) ∙ r .others j p hj hp
-            ∙ ap (bitXor (marked j n (λ x. row x p))) (off j h n (getD old (b * h + p) 0) hj e ∙ sym (off j h n (getD new (b * h + p) 0) hj e));
+            r .others j p hj hp
+            ∙ ap (bitXor (marked j n (λ x. row x p))) (off j k n (getD cols (b * h + p) 0) (omega arith) e)
+            ∙ xor-zero-r (marked j n (λ x. row x p));
       }
 
   -- all rows are added
@@ -77,10 +85,7 @@ module _ (b h : ℕ) (row : ℕ → ℕ → ℕ) where
   running-end half n cols e₁ e r = is-concat b (h + 1) (λ j p. marked j n (λ x. row x p)) cols (r .size) (λ j p hj hp. go j p hj hp (decLt j h))
     where
       go : (j p : ℕ) → j < h + 1 → p < b → Dec (j < h) → getD cols (b * j + p) 0 ≡ marked j n (λ x. row x p)
-      go j p hj hp (yes q) =
-          r .others j p q hp
-          ∙ ap (bitXor (marked j n (λ x. row x p))) (off j (h + 1) n (getD cols (b * h + p) 0) hj e)
-          ∙ xor-zero-r (marked j n (λ x. row x p))
+      go j p hj hp (yes q) = running-marked half n (h + 1) cols (omega arith) e r .others j p q hp
       go j p hj hp (no q) =
           let same : h ≡ j = omega arith in
           let whole : n ≡ 2 ^ suc h = e ∙ ap (λ (m : ℕ). 2 ^ m) (add-one h) in
@@ -89,19 +94,8 @@ module _ (b h : ℕ) (row : ℕ → ℕ → ℕ) where
           ∙ ap₂ (λ (l m : ℕ). bitXor (xorBelow l (λ x. row x p)) (xorBelow m (λ x. row x p))) e₁ whole
           ∙ sym (ap (λ (m : ℕ). marked h m (λ x. row x p)) whole ∙ marked-highest h (λ x. row x p)))
 
-  -- the sums of the two halves, added to one column where the first starts at 0
-  pub running-total : (first half n j p : ℕ) (x y : List ℕ) → j < 1 - first → p < b → Running b h first half row x → Running b h half n row y
-      → bitXor (bit j 1 * getD (part x (b * h) (b * h + b - b * h)) p 0) (bit j 1 * getD (part y (b * h) (b * h + b - b * h)) p 0) ≡ xorBelow n (λ x. row x p)
+  -- the sums of the two halves
+  pub running-total : (half n p : ℕ) (x y : List ℕ) → p < b → Running b h 0 half row x → Running b h half n row y
+      → bitXor (getD x (b * h + p) 0) (getD y (b * h + p) 0) ≡ xorBelow n (λ x. row x p)
   unfolding xorBelow
-  running-total first half n j p x y hj hp r s =
-      ap₂ bitXor (byte x ∙ r .last p hp ∙ ap (λ (m : ℕ). bitXor (sum m) (sum half)) (let z : first ≡ 0 = omega arith in z)) (byte y ∙ s .last p hp)
-      ∙ xor-cancel (sum half) (sum n)
-    where
-      sum : ℕ → ℕ
-      sum m = xorBelow m (λ x. row x p)
-
-      byte : (l : List ℕ) → bit j 1 * getD (part l (b * h) (b * h + b - b * h)) p 0 ≡ getD l (b * h + p) 0
-      byte l =
-          ap (λ (i : ℕ). 1 / 2 ^ i % 2 * getD (part l (b * h) (b * h + b - b * h)) p 0) (let z : j ≡ 0 = omega arith in z)
-          ∙ one-mul (getD (part l (b * h) (b * h + b - b * h)) p 0)
-          ∙ getD-part l (b * h) (b * h + b - b * h) p (omega arith)
+  running-total half n p x y hp r s = ap₂ bitXor (r .last p hp) (s .last p hp) ∙ xor-cancel (xorBelow half (λ x. row x p)) (xorBelow n (λ x. row x p))

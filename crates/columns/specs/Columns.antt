@@ -29,3 +29,8 @@ pub record Running (b h from n : ℕ) (row : ℕ → ℕ → ℕ) (cols : List �
   pub last : (p : ℕ) → p < b → getD cols (b * h + p) 0 ≡ bitXor (xorBelow from (λ x. row x p)) (xorBelow n (λ x. row x p))
   pub others : (j p : ℕ) → j < h → p < b
       → getD cols (b * j + p) 0 ≡ bitXor (xorBelow n (λ x. bit j x * row x p)) (bit j n * getD cols (b * h + p) 0)
+
+-- the same columns but the last, of which nothing is known: each has the sum of the rows below n whose number has its bit set
+pub record Marked (b h n : ℕ) (row : ℕ → ℕ → ℕ) (cols : List ℕ) : Type 0 where
+  pub size : length cols ≡ b * (h + 1)
+  pub others : (j p : ℕ) → j < h → p < b → getD cols (b * j + p) 0 ≡ xorBelow n (λ x. bit j x * row x p)

@@ -16,6 +16,15 @@ fn xor_bytes(d: &mut [u8], at: usize, digit: u8, bytes: &[u8])
     }
 }
 
+// Xors the bytes of a string from byte `at` on, as many as the sum has, into the sum.
+pub fn add_part(sum: &mut [u8], bytes: &[u8], at: usize)
+    requires { ⌜ at + length (now sum) ≤ length (now bytes) ⌝ }
+    ensures { λ _. ⌜ Xored 0 (length (now (sum .entry))) (λ p. getD (now (bytes .entry)) (at + p) 0) (now (sum .entry)) (now (sum .exit)) ⌝ }
+{
+    let n = sum.len();
+    xor_bytes(sum, 0, 1, &bytes[at..at + n]);
+}
+
 // Xors a string of b bytes into each of k columns of b bytes whose bit the number has set.
 pub fn add_bytes(cols: &mut [u8], b: usize, k: usize, number: usize, bytes: &[u8])
     requires { ⌜ (k ≤ 12) × (length (now bytes) ≡ b) × (length (now cols) ≡ b * k) ⌝ }

@@ -9,6 +9,7 @@ ghost use Rattle.spec.specs.Generator.{addToWord, addToUpperWord, addToLowerWor
 ghost use Rattle.aes_keys.specs.RoundKeys.{Keyed};
 ghost use Rattle.generator.specs.Stored.{Stored};
 use aes::Blocks;
+use job::Nonce;
 
 // An IV of 16 lent bytes.
 pub fn load_iv(s: &[u8]) -> [u8; 16]
@@ -37,19 +38,13 @@ fn counter(iv: [[u8; 4]; 4], tweak: u32, n: u32) -> [[u8; 4]; 4]
 }
 
 // Block n, for the round keys of any key.
-pub fn block(
-    t: &[u8; 256],
-    keys: &[[[u8; 4]; 4]; 15],
-    rounds: usize,
-    iv: [u8; 16],
-    tweak: u32,
-    n: u32,
-) -> [u8; 16]
+pub fn block(t: &[u8; 256], keys: &[[[u8; 4]; 4]; 15], rounds: usize, x: Nonce, n: u32) -> [u8; 16]
     requires { ⌜ SboxTable (now t) ⌝ }
     requires { ⌜ (10 ≤ rounds) × (rounds ≤ 14) × (rounds % 2 ≡ 0) ⌝ }
-    ensures { λ r. ⌜ ((nk : ℕ) (key : List ℕ) → rounds ≡ nk + 6 → Keyed nk key (now (keys .entry)) → r ≡ generatorBlock nk key iv tweak n) ⌝ }
+    ensures { λ r. ⌜ ((nk : ℕ) (key : List ℕ) → rounds ≡ nk + 6 → Keyed nk key (now (keys .entry)) → r ≡ generatorBlock nk key (x .iv) (x .tweak) n) ⌝ }
 {
-    aes::bytes_of(aes::encrypt(t, keys, rounds, counter(aes::load_state(&iv), tweak, n)))
+    let iv = x.iv;
+    aes::bytes_of(aes::encrypt(t, keys, rounds, counter(aes::load_state(&iv), x.tweak, n)))
 }
 
 // Blocks n and n + 1, encrypted together.
@@ -57,22 +52,22 @@ pub fn block_pair(
     t: &[u8; 256],
     keys: &[[[u8; 4]; 4]; 15],
     rounds: usize,
-    iv: [u8; 16],
-    tweak: u32,
+    x: Nonce,
     n: u32,
 ) -> Blocks
     requires { ⌜ SboxTable (now t) ⌝ }
     requires { ⌜ (n + 1 < 2 ^ 32) × (10 ≤ rounds) × (rounds ≤ 14) × (rounds % 2 ≡ 0) ⌝ }
     ensures { λ r. ⌜ ((nk : ℕ) (key : List ℕ) → rounds ≡ nk + 6 → Keyed nk key (now (keys .entry))
-        → (r .first ≡ generatorBlock nk key iv tweak n) × (r .second ≡ generatorBlock nk key iv tweak (n + 1))) ⌝ }
+        → (r .first ≡ generatorBlock nk key (x .iv) (x .tweak) n) × (r .second ≡ generatorBlock nk key (x .iv) (x .tweak) (n + 1))) ⌝ }
 {
+    let iv = x.iv;
     let s = aes::load_state(&iv);
     aes::encrypt_pair(
         t,
         keys,
         rounds,
-        counter(s, tweak, n),
-        counter(s, tweak, n + 1),
+        counter(s, x.tweak, n),
+        counter(s, x.tweak, n + 1),
     )
 }
 
@@ -117,20 +112,19 @@ pub fn fill_keyed(
     t: &[u8; 256],
     keys: &[[[u8; 4]; 4]; 15],
     rounds: usize,
-    iv: [u8; 16],
-    tweak: u32,
+    x: Nonce,
     first: usize,
     out: &mut [u8],
 )
     requires { ⌜ SboxTable (now t) ⌝ }
     requires { ⌜ (10 ≤ rounds) × (rounds ≤ 14) × (rounds % 2 ≡ 0) × (first + length (now out) < 2 ^ 32) ⌝ }
     ensures { λ _. ⌜ ((nk : ℕ) (key : List ℕ) → rounds ≡ nk + 6 → Keyed nk key (now (keys .entry))
-        → now (out .exit) ≡ tabulate (length (now (out .entry))) (λ p. generatorByte nk key iv tweak (first + p))) ⌝ }
+        → now (out .exit) ≡ tabulate (length (now (out .entry))) (λ p. generatorByte nk key (x .iv) (x .tweak) (first + p))) ⌝ }
 {
     let mut p = 0;
     while p < out.len() {
         let at = first + p;
-        let pair = block_pair(t, keys, rounds, iv, tweak, (at / 16) as u32);
+        let pair = block_pair(t, keys, rounds, x, (at / 16) as u32);
         let one = pair.first;
         let two = pair.second;
         let mid = store(one, at % 16, p, out);
@@ -139,12 +133,12 @@ pub fn fill_keyed(
 }
 
 // The same for a key.
-pub fn fill(t: &[u8; 256], key: &[u8], iv: [u8; 16], tweak: u32, first: usize, out: &mut [u8])
+pub fn fill(t: &[u8; 256], key: &[u8], x: Nonce, first: usize, out: &mut [u8])
     requires { ⌜ SboxTable (now t) ⌝ }
     requires { ⌜ (16 ≤ length (now key)) × (length (now key) ≤ 32) × (length (now key) % 8 ≡ 0) × (first + length (now out) < 2 ^ 32) ⌝ }
     ensures { λ _. ⌜ ((nk : ℕ) → length (now (key .entry)) ≡ 4 * nk
-        → now (out .exit) ≡ tabulate (length (now (out .entry))) (λ p. generatorByte nk (now (key .entry)) iv tweak (first + p))) ⌝ }
+        → now (out .exit) ≡ tabulate (length (now (out .entry))) (λ p. generatorByte nk (now (key .entry)) (x .iv) (x .tweak) (first + p))) ⌝ }
 {
     let keys = aes::key_schedule(t, key);
-    fill_keyed(t, &keys, key.len() / 4 + 6, iv, tweak, first, out);
+    fill_keyed(t, &keys, key.len() / 4 + 6, x, first, out);
 }

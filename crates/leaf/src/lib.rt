@@ -9,6 +9,7 @@ ghost use Rattle.spec.specs.Shapes.{ordinary, nodeBytes, leafCommitmentBytes, l
 ghost use Rattle.spec.specs.Primitives.{faest};
 ghost use Rattle.spec.specs.Leaves.{leafSeed, leafCommitment};
 ghost use Rattle.leaf.specs.HashKeys.{HashKeys, HashMultiples};
+use job::Nonce;
 use spec::Shape;
 
 // The tweak of the leaves of vector i, in a tree of n leaves.
@@ -47,39 +48,30 @@ fn stretch_leaf(
     m: &[[u64; 12]; 16],
     s: Shape,
     key: &[u8],
-    iv: [u8; 16],
-    tweak: u32,
+    x: Nonce,
     stretched: &mut [u8],
     seed: &mut [u8],
     out: &mut [u8],
 )
     requires { ⌜ SboxTable (now t) ⌝ }
     requires { ⌜ (shapeOk s ≡ true) × (ordinary s ≡ true) × (length (now key) ≡ nodeBytes s) × (length (now stretched) ≡ nodeBytes s + leafCommitmentBytes s) × (length (now seed) ≡ nodeBytes s) × (length (now out) ≡ leafCommitmentBytes s) ⌝ }
-    ensures { λ _. ⌜ ((i : ℕ) → tweak ≡ i + leaves s - 1 → HashMultiples s iv i (now (m .entry))
-        → (now (seed .exit) ≡ leafSeed faest s iv i (now (key .entry))) × (now (out .exit) ≡ leafCommitment faest s iv i (now (key .entry)))) ⌝ }
+    ensures { λ _. ⌜ ((i : ℕ) → x .tweak ≡ i + leaves s - 1 → HashMultiples s (x .iv) i (now (m .entry))
+        → (now (seed .exit) ≡ leafSeed faest s (x .iv) i (now (key .entry))) × (now (out .exit) ≡ leafCommitment faest s (x .iv) i (now (key .entry)))) ⌝ }
 {
     let n = rules::node_bytes(s);
-    generator::fill(t, key, iv, tweak, 0, stretched);
+    generator::fill(t, key, x, 0, stretched);
     leaf_hash::leaf_hash(s, m, stretched, out);
     buffers::copy_part(stretched, 0, n, seed, 0);
 }
 
 // The same of an Even-Mansour leaf: it is its own seed.
-fn em_leaf(
-    t: &[u8; 256],
-    s: Shape,
-    key: &[u8],
-    iv: [u8; 16],
-    tweak: u32,
-    seed: &mut [u8],
-    out: &mut [u8],
-)
+fn em_leaf(t: &[u8; 256], s: Shape, key: &[u8], x: Nonce, seed: &mut [u8], out: &mut [u8])
     requires { ⌜ SboxTable (now t) ⌝ }
     requires { ⌜ (shapeOk s ≡ true) × (ordinary s ≡ false) × (length (now key) ≡ nodeBytes s) × (length (now seed) ≡ nodeBytes s) × (length (now out) ≡ leafCommitmentBytes s) ⌝ }
-    ensures { λ _. ⌜ ((i : ℕ) → tweak ≡ i + leaves s - 1
-        → (now (seed .exit) ≡ leafSeed faest s iv i (now (key .entry))) × (now (out .exit) ≡ leafCommitment faest s iv i (now (key .entry)))) ⌝ }
+    ensures { λ _. ⌜ ((i : ℕ) → x .tweak ≡ i + leaves s - 1
+        → (now (seed .exit) ≡ leafSeed faest s (x .iv) i (now (key .entry))) × (now (out .exit) ≡ leafCommitment faest s (x .iv) i (now (key .entry)))) ⌝ }
 {
-    generator::fill(t, key, iv, tweak, 0, out);
+    generator::fill(t, key, x, 0, out);
     buffers::copy_part(key, 0, key.len(), seed, 0);
 }
 
@@ -89,21 +81,20 @@ pub fn commit_leaf(
     m: &[[u64; 12]; 16],
     s: Shape,
     key: &[u8],
-    iv: [u8; 16],
-    tweak: u32,
+    x: Nonce,
     seed: &mut [u8],
     out: &mut [u8],
 )
     requires { ⌜ SboxTable (now t) ⌝ }
     requires { ⌜ (shapeOk s ≡ true) × (length (now key) ≡ nodeBytes s) × (length (now seed) ≡ nodeBytes s) × (length (now out) ≡ leafCommitmentBytes s) ⌝ }
-    ensures { λ _. ⌜ ((i : ℕ) → tweak ≡ i + leaves s - 1 → HashMultiples s iv i (now (m .entry))
-        → (now (seed .exit) ≡ leafSeed faest s iv i (now (key .entry))) × (now (out .exit) ≡ leafCommitment faest s iv i (now (key .entry)))) ⌝ }
+    ensures { λ _. ⌜ ((i : ℕ) → x .tweak ≡ i + leaves s - 1 → HashMultiples s (x .iv) i (now (m .entry))
+        → (now (seed .exit) ≡ leafSeed faest s (x .iv) i (now (key .entry))) × (now (out .exit) ≡ leafCommitment faest s (x .iv) i (now (key .entry)))) ⌝ }
 {
     if !rules::is_ordinary(s) {
-        em_leaf(t, s, key, iv, tweak, seed, out);
+        em_leaf(t, s, key, x, seed, out);
         return;
     }
     let n = rules::node_bytes(s) + rules::commitment_bytes(s);
     let mut stretched = [0u8; 128];
-    stretch_leaf(t, m, s, key, iv, tweak, &mut stretched[0..n], seed, out);
+    stretch_leaf(t, m, s, key, x, &mut stretched[0..n], seed, out);
 }

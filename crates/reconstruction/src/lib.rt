@@ -6,6 +6,7 @@ ghost use lib.ListN.{length};
 ghost use Rattle.spec.specs.Shapes.{challengeBytes, leafCommitmentBytes, hashBytes, ivBytes, shapeOk, plannedCount, treeBytes, leafCommitmentsBytes, openingBytes, matrixBytes, correctionsBytes};
 ghost use Rattle.spec.specs.Primitives.{faest};
 ghost use Rattle.spec.specs.Calls.{Reconstructed, reconstructed};
+use job::Job;
 use spec::Shape;
 use spec::Stretch;
 
@@ -36,20 +37,13 @@ fn write_all(
     let x = generator::load_iv(iv);
     leaf::hash_keys(s, iv, keys);
     verifier_tree::reconstruct_tree(&t, s, ch, x, n, opening, tree);
-    verifier_vectors::write_vectors(
-        &t,
-        s,
-        z,
-        x,
-        keys,
-        ch,
-        tree,
-        corrections,
-        opening,
-        lcs,
-        q,
-        hashes,
-    );
+    let g = Job {
+        shape: s,
+        stretch: z,
+        iv: x,
+    };
+    verifier_vectors::write_vectors(&t, g, keys, ch, tree, opening, lcs, q, hashes);
+    verifier_vectors::correct_vectors(s, z.width, ch, corrections, q);
     shake::h1(r, hashes, commitment);
 }
 

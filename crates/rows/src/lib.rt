@@ -6,6 +6,7 @@ ghost use lib.ListN.{length, getD};
 ghost use Rattle.spec.specs.Gf256.{SboxTable};
 ghost use Rattle.spec.specs.Generator.{generatorByte};
 ghost use Rattle.columns.specs.Columns.{Xored};
+use job::Nonce;
 
 // Adds a block's bytes from byte `from` on to the sum from byte `at` on, as many as there is room for, and gives the place after them.
 fn add_block(block: [u8; 16], from: usize, at: usize, sum: &mut [u8]) -> usize
@@ -19,11 +20,11 @@ fn add_block(block: [u8; 16], from: usize, at: usize, sum: &mut [u8]) -> usize
 }
 
 // Adds the bytes of a seed's row from byte `first` on, as many as the sum has, to the sum.
-pub fn add_row(t: &[u8; 256], seed: &[u8], iv: [u8; 16], tweak: u32, first: usize, sum: &mut [u8])
+pub fn add_row(t: &[u8; 256], seed: &[u8], x: Nonce, first: usize, sum: &mut [u8])
     requires { ⌜ SboxTable (now t) ⌝ }
     requires { ⌜ (16 ≤ length (now seed)) × (length (now seed) ≤ 32) × (length (now seed) % 8 ≡ 0) × (first + length (now sum) ≤ 8192) ⌝ }
     ensures { λ _. ⌜ ((nk : ℕ) → length (now (seed .entry)) ≡ 4 * nk
-        → Xored 0 (length (now (sum .entry))) (λ p. generatorByte nk (now (seed .entry)) iv tweak (first + p)) (now (sum .entry)) (now (sum .exit))) ⌝ }
+        → Xored 0 (length (now (sum .entry))) (λ p. generatorByte nk (now (seed .entry)) (x .iv) (x .tweak) (first + p)) (now (sum .entry)) (now (sum .exit))) ⌝ }
 {
     let keys = aes::key_schedule(t, seed);
     let rounds = seed.len() / 4 + 6;
@@ -34,13 +35,13 @@ pub fn add_row(t: &[u8; 256], seed: &[u8], iv: [u8; 16], tweak: u32, first: usiz
         // the first block is cut in front, the last behind
         let from = p % 16;
         if 16 - from < b - at {
-            let pair = generator::block_pair(t, &keys, rounds, iv, tweak, (p / 16) as u32);
+            let pair = generator::block_pair(t, &keys, rounds, x, (p / 16) as u32);
             let one = pair.first;
             let two = pair.second;
             let mid = add_block(one, from, at, sum);
             at = add_block(two, 0, mid, sum);
         } else {
-            let block = generator::block(t, &keys, rounds, iv, tweak, (p / 16) as u32);
+            let block = generator::block(t, &keys, rounds, x, (p / 16) as u32);
             at = add_block(block, from, at, sum);
         }
     }

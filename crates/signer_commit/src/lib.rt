@@ -7,6 +7,7 @@ ghost use lib.ListN.{length};
 ghost use Rattle.spec.specs.Shapes.{nodeBytes, leafCommitmentBytes, hashBytes, ivBytes, shapeOk, treeBytes, leafCommitmentsBytes, matrixBytes, correctionsBytes};
 ghost use Rattle.spec.specs.Primitives.{faest};
 ghost use Rattle.spec.specs.Calls.{fits, Committed, committed, Commit, CommitStretch};
+use job::Job;
 use spec::Answer;
 use spec::Shape;
 use spec::Stretch;
@@ -72,7 +73,12 @@ fn write_all(
     let x = generator::load_iv(iv);
     leaf::hash_keys(s, iv, keys);
     signer_tree::grow(&t, s, root, x, tree);
-    signer_vectors::write_vectors(&t, s, z, x, keys, tree, lcs, u, v, corrections, hashes);
+    let g = Job {
+        shape: s,
+        stretch: z,
+        iv: x,
+    };
+    signer_vectors::write_vectors(&t, g, keys, tree, lcs, u, v, corrections, hashes);
     shake::h1(r, hashes, commitment);
 }
 

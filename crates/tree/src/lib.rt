@@ -10,6 +10,7 @@ ghost use Rattle.spec.specs.Gf256.{SboxTable};
 ghost use Rattle.spec.specs.Shapes.{nodeBytes, shapeOk};
 ghost use Rattle.spec.specs.Primitives.{faest};
 ghost use Rattle.spec.specs.Leaves.{children};
+use job::Nonce;
 
 // Writes the two children of node a, whose bytes stand in the tree; n is the length of a node.
 pub fn expand_node(t: &[u8; 256], n: usize, iv: [u8; 16], a: usize, tree: &mut [u8])
@@ -20,12 +21,12 @@ pub fn expand_node(t: &[u8; 256], n: usize, iv: [u8; 16], a: usize, tree: &mut [
 {
     let from = n * (2 * a + 1);
     let keys = aes::key_schedule(t, &tree[n * a..n * a + n]);
+    let tweak = a as u32;
     generator::fill_keyed(
         t,
         &keys,
         n / 4 + 6,
-        iv,
-        a as u32,
+        Nonce { iv, tweak },
         0,
         &mut tree[from..from + 2 * n],
     );

@@ -7,7 +7,7 @@ use mathlib.Core.List.{List, [], _++_}
 use native.Mathlib.Nat.{mul-add, mul-le-mul, le-refl}
 use native.Mathlib.Numerals.{add-one}
 use native.Mathlib.Omega.{arith}
-use lib.ListN.{length, getD, take, List·getD-eq-default}
+use lib.ListN.{length, getD, take, drop, List·getD-eq-default}
 use lib.Seq.{take-all, length-take-le, getD-take}
 use mir.Syntax.{w64}
 use mir.Val.{Fits}
@@ -15,12 +15,12 @@ use Rattle.spec.specs.declared.Shape.{Shape}
 use Rattle.spec.specs.Bytes.{part, concat, zeros}
 use Rattle.spec.specs.Shapes.{leafCommitmentBytes, depthOf, entriesOf, firstBit, firstEntry, shapeOk, leafCommitmentsBytes, matrixBytes}
 use Rattle.laws.proofs.Lists.{length-part}
-use Rattle.laws.proofs.Putting.{put-next}
+use Rattle.laws.proofs.Putting.{behind, put, put-next}
 use Rattle.laws.proofs.Strings.{getD-append-zeros}
-use Rattle.laws.proofs.Concat.{mul-next, mul-within}
+use Rattle.laws.proofs.Concat.{part-whole, mul-next, mul-within}
 use Rattle.laws.proofs.Segments.{segment-before}
 use Rattle.planning_laws.proofs.Depths.{bit-next, entry-next}
-use Rattle.planning_laws.proofs.ShapeFacts.{shape-facts, bit-all, depth-small}
+use Rattle.planning_laws.proofs.ShapeFacts.{shape-facts, bit-all}
 use Rattle.planning_laws.proofs.ShapeLaws.{shape-laws}
 
 -- ---- string i, of w bytes, put behind the i before it, which end at p, in a part lent from v on; it ends at q
@@ -58,6 +58,10 @@ lent-order v w n e = omega arith
 -- string i of n, each of w bytes, ends within a buffer that has room for all
 pub block-end : (w i n d : ℕ) → i < n → w * n ≤ d → w * i + w ≤ d
 block-end w i n d h l = (let m = mul-within w i n h in omega arith)
+
+-- the end of the last of h + 1 strings
+pub last-end : (b h n : ℕ) → n ≡ b * (h + 1) → b * h + b ≤ n
+last-end b h n e = block-end b h (h + 1) n (omega arith) (omega arith)
 
 -- the start and the end of a part that is lent are numbers of a word
 module _ (at n d : ℕ) (e : at + n ≤ d) (h : d < 2 ^ 64) where
@@ -108,8 +112,10 @@ module _ (s : Shape) (ok : shapeOk s ≡ true) where
       let m : b * firstBit s (i + 1) ≤ b * firstBit s (s .tau) = mul-le-mul (le-refl b) (omega arith) in
       omega (arith, all-columns b)
 
-  pub columns-fit : (b i : ℕ) → b ≤ 8192 → Fits w64 (b * depthOf s i)
-  columns-fit b i h = (let m : b * depthOf s i ≤ 8192 * 12 = mul-le-mul h (depth-small s i (shape-facts s ok)) in record { fits = omega arith })
+-- ---- a buffer into which a string of w bytes was copied
+
+pub copied : (at w : ℕ) (d y new : List ℕ) → length y ≡ w → new ≡ take at d ++ (part y 0 w ++ drop (at + w) d) → new ≡ put d at w y
+copied at w d y new l e = e ∙ ap₂ (λ (v z : List ℕ). take at d ++ (v ++ z)) (part-whole y w l) (sym (behind at w d))
 
 -- ---- a buffer that was cleared from a place on
 

@@ -2,3 +2,5 @@
 pub mod Buffers
 pub mod Numbers
 pub mod Entries
+pub mod Halves
+pub mod Fronts

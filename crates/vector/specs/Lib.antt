@@ -1,2 +1,3 @@
--- What the contracts of this crate cite beside the definitions of crates/spec.
+-- What the contracts of this crate, and of both halves above it, cite beside the definitions of crates/spec.
 pub mod Entries
+pub mod Vectors

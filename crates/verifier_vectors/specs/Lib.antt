@@ -1,2 +1,2 @@
 -- What the contracts of this crate cite beside the definitions of crates/spec.
-pub mod Vectors
+pub mod Corrections

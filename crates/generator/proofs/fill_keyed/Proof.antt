@@ -15,12 +15,12 @@ use Rattle.generator.proofs.fill_keyed.Statement.{statement}
 use Rattle.generator.proofs.fill_keyed.Tie as tie
 
 abbrev Inv-loop : tie.InvT-loop
-Inv-loop t keys rounds iv tweak first out₀ p₀ out p =
+Inv-loop t keys rounds x first out₀ p₀ out p =
     (p ≤ length out₀) × (length out ≡ length out₀)
-    × ((nk : ℕ) (key : List ℕ) → rounds ≡ nk + 6 → Keyed nk key keys → Front (λ q. generatorByte nk key iv tweak (first + q)) (length out₀) p out)
+    × ((nk : ℕ) (key : List ℕ) → rounds ≡ nk + 6 → Keyed nk key keys → Front (λ q. generatorByte nk key (x .iv) (x .tweak) (first + q)) (length out₀) p out)
 
 abbrev μ-loop : tie.MeasureT-loop
-μ-loop t keys rounds iv tweak first out₀ p₀ out p = length out₀ - p
+μ-loop t keys rounds x first out₀ p₀ out p = length out₀ - p
 
 loop-holds : tie.Need-loop-holds Inv-loop μ-loop
 loop-holds c = (omega arith, refl, λ nk key e k. front-none _ _)
@@ -43,8 +43,8 @@ loop-again c =
       search needs,
       λ nk key e k.
           let pair = c .before .before .before .before .before .before .before .before .before .before .block-pair .ensures nk key e k in
-          let f : ℕ → ℕ = λ q. generatorByte nk key (a .iv) (a .tweak) (a .first + q) in
-          let byte = block-byte nk key (a .iv) (a .tweak) in
+          let f : ℕ → ℕ = λ q. generatorByte nk key (a .x .iv) (a .x .tweak) (a .first + q) in
+          let byte = block-byte nk key (a .x .iv) (a .x .tweak) in
           two .ensures .written f _ (λ i h room. byte _ _ _ i _ (pair .1) (omega (arith, one .ensures .whole (omega arith))) h)
           (one .ensures .written f _ (λ i h room. byte _ _ _ i _ (pair .0) (omega arith) h) (l .inv .2 nk key e k)),
     )

@@ -52,8 +52,8 @@ returns c = λ i tweak.
     let g = start .args in
     let p = start .pre .1 in
     let words = p .2 ∙ widths (g .s) (shape-facts (g .s) (p .0)) .node-words in (
-      seed (g .s) (g .key .now) (g .iv) i (g .seed .now) _ (p .1) (p .2 ∙ sym (p .3)) (c .before .before .copy-part .ensures),
-      commitment (g .s) (g .key .now) (g .iv) i (g .tweak) (length (g .out .now)) _ (p .1) tweak (p .4)
+      seed (g .s) (g .key .now) (g .x .iv) i (g .seed .now) _ (p .1) (p .2 ∙ sym (p .3)) (c .before .before .copy-part .ensures),
+      commitment (g .s) (g .key .now) (g .x .iv) i (g .x .tweak) (length (g .out .now)) _ (p .1) tweak (p .4)
           (c .before .before .before .before .before .before .fill .ensures (keyWords (g .s)) words),
     )
 

@@ -70,10 +70,10 @@ returns c = λ i tweak multiples.
     let n = c .before .before .before .before .before .before .before .before .before .before .before .before .before .before .node-bytes in
     let call = c .before .before .before .before .before .before .before .before .before .before .before .before .fill in
     let words = p .2 ∙ widths (g .s) (shape-facts (g .s) (p .0)) .node-words in
-    let x = call .last .1 .1 .1 .1 .1 .0 in
-    let e = filled (g .s) (g .key .now) (g .iv) i (g .tweak) (length (g .stretched .now)) x tweak (p .3) (call .ensures (keyWords (g .s)) words) in (
-      seed (g .s) (g .key .now) (g .iv) i (n .result) x (g .seed .now) _ (p .1) e (n .ensures .0) (p .4) (c .before .before .copy-part .ensures),
-      commitment (g .s) (g .key .now) (g .iv) i x _ (p .1) e (c .before .before .before .before .before .before .before .leaf-hash .ensures (hashKey faest (g .s) (g .iv) i) (multiples (p .1))),
+    let x = call .last .1 .1 .1 .1 .0 in
+    let e = filled (g .s) (g .key .now) (g .x .iv) i (g .x .tweak) (length (g .stretched .now)) x tweak (p .3) (call .ensures (keyWords (g .s)) words) in (
+      seed (g .s) (g .key .now) (g .x .iv) i (n .result) x (g .seed .now) _ (p .1) e (n .ensures .0) (p .4) (c .before .before .copy-part .ensures),
+      commitment (g .s) (g .key .now) (g .x .iv) i x _ (p .1) e (c .before .before .before .before .before .before .before .leaf-hash .ensures (hashKey faest (g .s) (g .x .iv) i) (multiples (p .1))),
     )
 
 pub stretch-leaf-spec : {M : Type 1} → statement M

@@ -23,11 +23,11 @@ block-added nk seed iv tweak first n from at end block old mid new e place h wit
     (λ p a b. block-byte nk seed iv tweak block n from (p - at) (first + p) e (omega arith) (omega arith)) added)
 
 abbrev Inv-loop : tie.InvT-loop
-Inv-loop t seed iv tweak first sum₀ keys rounds b at₀ sum at =
-    (at ≤ b) × Xored 0 at (λ p. generatorByte (length seed / 4) seed iv tweak (first + p)) sum₀ sum × (rounds ≡ length seed / 4 + 6)
+Inv-loop t seed x first sum₀ keys rounds b at₀ sum at =
+    (at ≤ b) × Xored 0 at (λ p. generatorByte (length seed / 4) seed (x .iv) (x .tweak) (first + p)) sum₀ sum × (rounds ≡ length seed / 4 + 6)
 
 abbrev μ-loop : tie.MeasureT-loop
-μ-loop t seed iv tweak first sum₀ keys rounds b at₀ sum at = b - at
+μ-loop t seed x first sum₀ keys rounds b at₀ sum at = b - at
 
 loop-holds : tie.Need-loop-holds Inv-loop μ-loop
 loop-holds c = (omega arith, xored-none 0 _ _, omega arith)
@@ -47,7 +47,7 @@ loop-again c =
     let g = c .before .before .before .before .before .before .before .before .before .before .before .before .before .before .before .before .before .before .args in
     let l = c .before .before .before .before .before .before .before .before .before .before .before .before .before .before .loop in
     let pair = c .before .before .before .before .before .before .before .before .before .before .block-pair .ensures (length (g .seed .now) / 4) (g .seed .now) (l .inv .2) (c .before .before .before .before .before .before .before .before .before .before .before .before .before .before .before .key-schedule .ensures) in
-    let added = block-added (length (g .seed .now) / 4) (g .seed .now) (g .iv) (g .tweak) (g .first) in
+    let added = block-added (length (g .seed .now) / 4) (g .seed .now) (g .x .iv) (g .x .tweak) (g .first) in
     let one = c .before .before .before .before .before .before .add-block .ensures in
     let two = c .before .before .add-block2 .ensures in
     let size = l .inv .1 .size in
@@ -67,7 +67,7 @@ loop-again-2 c =
     let one = c .before .before .add-block3 .ensures in
     let size = l .inv .1 .size in (
       omega (arith, one .0),
-      block-added (length (g .seed .now) / 4) (g .seed .now) (g .iv) (g .tweak) (g .first) _ _ _ _ _ _ _ _ block (omega arith) (omega (arith, one .0)) (omega (arith, one .0)) (l .inv .1) (one .1),
+      block-added (length (g .seed .now) / 4) (g .seed .now) (g .x .iv) (g .x .tweak) (g .first) _ _ _ _ _ _ _ _ block (omega arith) (omega (arith, one .0)) (omega (arith, one .0)) (l .inv .1) (one .1),
       l .inv .2,
     )
 
@@ -77,8 +77,8 @@ returns c = λ nk words.
     let l = c .before .loop in
     let e : l .at ≡ length (g .sum .now) = omega arith in
     let d : length (g .seed .now) / 4 ≡ nk = omega arith in
-    subst (λ (m : ℕ). Xored 0 (length (g .sum .now)) (λ p. generatorByte m (g .seed .now) (g .iv) (g .tweak) (g .first + p)) (g .sum .now) (l .sum)) d
-    (subst (λ (n : ℕ). Xored 0 n (λ p. generatorByte (length (g .seed .now) / 4) (g .seed .now) (g .iv) (g .tweak) (g .first + p)) (g .sum .now) (l .sum)) e (l .inv .1))
+    subst (λ (m : ℕ). Xored 0 (length (g .sum .now)) (λ p. generatorByte m (g .seed .now) (g .x .iv) (g .x .tweak) (g .first + p)) (g .sum .now) (l .sum)) d
+    (subst (λ (n : ℕ). Xored 0 n (λ p. generatorByte (length (g .seed .now) / 4) (g .seed .now) (g .x .iv) (g .x .tweak) (g .first + p)) (g .sum .now) (l .sum)) e (l .inv .1))
 
 pub add-row-spec : {M : Type 1} → statement M
 add-row-spec =

@@ -24,7 +24,8 @@ write-vectors-requires c κs =
     let p = start .pre .0 in
     let q = start .pre .1 in
     let keys = keys-same (g .s) _ _ _ (c .before .before .before .before .before .before .before .before .before .before .before .before .before .before .before .before .before .load-iv .ensures) (c .before .before .before .before .before .before .before .before .before .before .before .before .before .before .before .hash-keys .ensures) in
-    (c .before .before .before .before .before .before .before .before .before .before .before .before .before .before .before .before .before .before .table .ensures, ((p .0, p .1, keys, c .before .before .before .before .before .before .before .before .before .before .grow .kept .1 .1 .1 .1 .0 ∙ q .1), (q .2, q .3, q .4, q .5, p .5)))
+    let lent-tree = c .before .before .before .before .before .before .before .before .before .before .grow .kept .1 .1 .1 .1 .0 ∙ q .1 in
+    ((record { job = record { shape = p .0; row = p .1 }; table = c .before .before .before .before .before .before .before .before .before .before .before .before .before .before .before .before .before .before .table .ensures; tree = lent-tree }, keys, q .2, p .5), (q .3, q .4, q .5))
 
 returns : tie.Need-returns
 unfolding faest commitmentOf
@@ -33,7 +34,7 @@ returns c =
     let g = start .args in
     let x = c .before .before .before .before .before .before .before .before .before .before .before .before .before .before .before .before .before .before .before .before .before .before .before .before .before .before .before .before .before .before .before .before .before .load-iv in
     let made = c .before .before .before .before .before .before .before .before .before .before .before .before .before .before .before .write-vectors .ensures in
-    let hashes = c .before .before .before .before .before .before .before .before .before .before .before .before .before .before .before .write-vectors .last .1 .1 .1 .1 .1 .1 .1 .1 .1 .1 .0 in
+    let hashes = c .before .before .before .before .before .before .before .before .before .before .before .before .before .before .before .write-vectors .last .1 .1 .1 .1 .1 .1 .1 .1 .0 in
     let hash =
     c .before .before .h1 .ensures ∙ ap (λ (r : ℕ). hash1 r hashes (length (g .commitment .now))) (c .before .before .before .before .before .before .before .before .before .before .before .before .before .before .before .before .before .before .before .before .before .before .before .before .before .before .before .before .before .before .before .before .before .before .before .rate-bytes .ensures .0)
     ∙ ap₂ (λ (m : List ℕ) (n : ℕ). hash1 (rate (g .s)) m n) (made .1 .1 .1 .1) (start .pre .1 .0) in

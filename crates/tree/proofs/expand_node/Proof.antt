@@ -76,8 +76,8 @@ key-schedule-requires c κs =
     let e = key-size (c .before) in
     (start .pre .0, (omega (arith, p .0), omega (arith, p .1), ap (λ (m : ℕ). m % 8) e ∙ p .2))
 
-cast-a : tie.Need-cast-fill-keyed
-cast-a c = (let p = at (c .before .before .before .before) in omega arith)
+cast-a : tie.Need-cast-tweak
+cast-a c = (let p = at (c .before .before .before) in omega arith)
 
 add-to : tie.Need-add-fill-keyed-2
 add-to c = (let p = at (c .before .before .before .before) in omega (arith, c .before .before .before .before .before .pre .1 .4))
@@ -141,8 +141,8 @@ expand-node-spec =
     (λ c. le-add-right _ _)
     key-end
     key-schedule-requires
-    (λ c. search needs)
     cast-a
+    (λ c. search needs)
     (λ c. search needs)
     add-to
     (λ c. le-add-right _ _)

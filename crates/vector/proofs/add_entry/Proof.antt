@@ -14,10 +14,7 @@ add-leaf-requires : tie.Need-add-leaf-requires
 add-leaf-requires c κs =
     let start = c .before .before .before .before .before .before .before in
     let n = c .before .before .before .node-bytes in
-    let p = start .pre .1 in (
-      start .pre .0,
-      (p .0, ((lent 0 (n .result) (n .result) (replicate 32 0) (omega arith) (seed-end (c .before .before .before)) ∙ n .ensures .0, p .1 .0 .0, p .1 .0 .1), p .1 .1)),
-    )
+    (start .pre .0, (lent 0 (n .result) (n .result) (replicate 32 0) (omega arith) (seed-end (c .before .before .before)) ∙ n .ensures .0, start .pre .1 .0, start .pre .1 .1))
 
 pub add-entry-spec : {M : Type 1} → statement M
 add-entry-spec =

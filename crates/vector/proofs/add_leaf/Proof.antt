@@ -11,7 +11,7 @@ use Rattle.spec.specs.Leaves.{nodeAt, leafKey, leafSeed, leafCommitment}
 use Rattle.spec.specs.Rows.{rowByte, stretchByte}
 use Rattle.laws.proofs.Concat.{mul-within, mul-limit}
 use Rattle.planning_laws.proofs.ShapeFacts.{shape-facts, widths}
-use Rattle.vector.proofs.Buffers.{lent}
+use Rattle.vector.proofs.Buffers.{part-size, lent}
 use Rattle.vector.proofs.add_leaf.Statement.{statement}
 use Rattle.vector.proofs.add_leaf.Tie as tie
 
@@ -23,9 +23,15 @@ mul-a c =
 
 leaf-tweak-requires : tie.Need-leaf-tweak-requires
 leaf-tweak-requires c κs =
-    let start = c .before .before .before .before .before .before .before in
-    let f = shape-facts (start .args .s) (start .pre .1 .0 .0) in
+    let start = c .before .before .before .before .before .before .before .before .before in
+    let f = shape-facts (start .args .g .shape) (start .pre .0 .0 .job .shape) in
     (omega arith, omega arith)
+
+add-tweak : tie.Need-add-row
+add-tweak c =
+    let start = c .before .before .before .before .before .before .before .before .before .before in
+    let f = shape-facts (start .args .g .shape) (start .pre .0 .0 .job .shape) in
+    omega arith
 
 add-leaf : tie.Need-add-commit-leaf
 add-leaf c =
@@ -37,57 +43,51 @@ add-leaf c =
 leaf-end : tie.Need-part-commit-leaf-end
 unfolding treeBytes
 leaf-end c =
-    let start = c .before .before .before .before .before .before .before .before in
-    let s = start .args .s in
+    let start = c .before .before .before .before .before .before .before .before .before .before in
+    let s = start .args .g .shape in
     let n = c .before .before .before .node-bytes in
     let l = c .before .before .leaf-of in
     let m = mul-within (n .result) (l .result) (2 * leaves s - 1) (omega (arith, l .ensures .2)) in
     let all : n .result * (2 * leaves s - 1) ≡ nodeBytes s * (2 * leaves s - 1) = ap (λ (w : ℕ). w * (2 * leaves s - 1)) (n .ensures .0) in
-    omega (arith, start .pre .1 .0 .3)
+    omega (arith, start .pre .0 .0 .tree)
 
 commit-leaf-requires : tie.Need-commit-leaf-requires
 commit-leaf-requires c κs =
-    let start = c .before .before .before .before .before .before .before .before .before .before .before in
+    let start = c .before .before .before .before .before .before .before .before .before .before .before .before .before in
     let n = c .before .before .before .before .before .before .node-bytes in
     let a = n .result * c .before .before .before .before .before .leaf-of .result in
-    let p = start .pre .1 .1 .0 in
-    (start .pre .0, (start .pre .1 .0 .0, lent a (a + n .result) (n .result) (start .args .tree .now) refl (leaf-end (c .before .before .before)) ∙ n .ensures .0, p .0, p .1))
-
-add-add-row : tie.Need-add-add-row
-add-add-row c =
-    let start = c .before .before .before .before .before .before .before .before .before .before .before .before .before .before .before .before .before in
-    let f = shape-facts (start .args .s) (start .pre .1 .0 .0) in
-    omega arith
+    let lent-tree = start .pre .0 .0 in
+    (lent-tree .table, (lent-tree .job .shape, lent a (a + n .result) (n .result) (start .args .tree .now) refl (leaf-end (c .before .before .before)) ∙ n .ensures .0, start .pre .1 .0, start .pre .1 .1))
 
 -- the seed has a node's length
-seed-size : (c : tie.After-slice-known5) → length (c .before .before .before .before .commit-leaf .last .1 .1 .1 .1 .1 .1 .0) ≡ nodeBytes (c .before .before .before .before .before .before .before .before .before .before .before .before .before .before .before .before .args .s)
-seed-size c = c .before .before .before .before .commit-leaf .kept .1 .1 .1 .1 .1 .1 .0 ∙ c .before .before .before .before .before .before .before .before .before .before .before .before .before .before .before .before .pre .1 .1 .0 .0
+seed-size : (c : tie.After-slice-known5) → length (c .before .before .before .before .commit-leaf .last .1 .1 .1 .1 .1 .0) ≡ nodeBytes (c .before .before .before .before .before .before .before .before .before .before .before .before .before .before .before .before .before .before .args .g .shape)
+seed-size c = c .before .before .before .before .commit-leaf .kept .1 .1 .1 .1 .1 .0 ∙ c .before .before .before .before .before .before .before .before .before .before .before .before .before .before .before .before .before .before .pre .1 .0
 
 add-row-requires : tie.Need-add-row-requires
 add-row-requires c κs =
-    let start = c .before .before .before .before .before .before .before .before .before .before .before .before .before .before .before .before .before .before in
-    let w = widths (start .args .s) (shape-facts (start .args .s) (start .pre .1 .0 .0)) in
+    let start = c .before .before .before .before .before .before .before .before .before .before .before .before .before .before .before .before .before .before .before .before in
+    let job = start .pre .0 .0 .job in
+    let w = widths (start .args .g .shape) (shape-facts (start .args .g .shape) (job .shape)) in
     let e = seed-size (c .before .before) in
-    (start .pre .0, (omega (arith, w .node-min), omega (arith, w .node-max), ap (λ (n : ℕ). n % 8) e ∙ w .node-eight, start .pre .1 .1 .0 .2))
+    (start .pre .0 .0 .table, (omega (arith, w .node-min), omega (arith, w .node-max), ap (λ (n : ℕ). n % 8) e ∙ w .node-eight, omega (arith, job .row, start .pre .1 .2)))
 
 returns : tie.Need-returns
 unfolding faest nodeAt leafKey rowByte stretchByte
 returns c =
-    let start = c .before .before .before .before .before .before .before .before .before .before .before .before .before .before .before .before .before .before .before .before .before in
-    let g = start .args in
-    let x = g .tree .now in
+    let start = c .before .before .before .before .before .before .before .before .before .before .before .before .before .before .before .before .before .before .before .before .before .before .before in
+    let i = start .args .i in
+    let s = start .args .g .shape in
+    let iv = start .args .g .iv in
+    let x = start .args .tree .now in
     let leaf = c .before .before .before .before .before .before .before .before .before .before .before .before .before .before .before .leaf-of in
     let n = c .before .before .before .before .before .before .before .before .before .before .before .before .before .before .before .before .node-bytes in
-    let count = c .before .before .before .before .before .before .before .before .before .before .before .before .before .before .leaf-count .ensures .0 in
-    let tweak = c .before .before .before .before .before .before .before .before .before .before .before .before .before .leaf-tweak .ensures in
-    let committed = c .before .before .before .before .before .before .before .before .before .commit-leaf .ensures in
-    let made = committed (g .i) (tweak ∙ ap (λ (n : ℕ). g .i + n - 1) count) (start .pre .1 .1 .1) in
+    let tweak = c .before .before .before .before .before .before .before .before .before .before .before .before .before .leaf-tweak .ensures ∙ ap (λ (n : ℕ). i + n - 1) (c .before .before .before .before .before .before .before .before .before .before .before .before .before .before .leaf-count .ensures .0) in
+    let made = c .before .before .before .before .before .before .before .before .before .commit-leaf .ensures i tweak (start .pre .0 .1) in
     let a = n .result * leaf .result in
-    let one : a + n .result - a ≡ n .result = omega arith in
-    let key = ap (part x a) one ∙ ap₂ (λ (w k : ℕ). part x (w * k) w) (n .ensures .0) (leaf .ensures .0) in
-    let w = widths (g .s) (shape-facts (g .s) (start .pre .1 .0 .0)) in
-    let seed = made .0 ∙ ap (leafSeed faest (g .s) (g .iv) (g .i)) key in
-    (made .1 ∙ ap (leafCommitment faest (g .s) (g .iv) (g .i)) key, rw seed at (c .before .before .add-row .ensures (keyWords (g .s)) (seed-size (c .before .before .before .before .before) ∙ w .node-words)))
+    let key = ap (part x a) (part-size a (n .result)) ∙ ap₂ (λ (w k : ℕ). part x (w * k) w) (n .ensures .0) (leaf .ensures .0) in
+    let w = widths s (shape-facts s (start .pre .0 .0 .job .shape)) in
+    let seed = made .0 ∙ ap (leafSeed faest s iv i) key in
+    (made .1 ∙ ap (leafCommitment faest s iv i) key, rw seed at (c .before .before .add-row .ensures (keyWords s) (seed-size (c .before .before .before .before .before) ∙ w .node-words)))
 
 pub add-leaf-spec : {M : Type 1} → statement M
 add-leaf-spec =
@@ -98,13 +98,13 @@ add-leaf-spec =
     mul-a
     (λ c κs. search needs)
     leaf-tweak-requires
+    (λ c. search needs)
+    add-tweak
     add-leaf
     (λ c. search needs)
     (λ c. search needs)
     leaf-end
     commit-leaf-requires
-    (λ c. search needs)
-    add-add-row
     add-row-requires
     (λ c. search needs)
     (λ c. search needs)

@@ -12,9 +12,10 @@ use lib.Seq.{drop-drop}
 use borrow.Author.Tests.{eq-eqb, ne-eqb}
 use Rattle.spec.specs.Bytes.{part, concat}
 use Rattle.laws.proofs.Xor.{xor-cancel-r}
-use Rattle.laws.proofs.Concat.{part-whole, even-part, mul-within}
-use Rattle.laws.proofs.Putting.{behind, put, put-size, put-here}
+use Rattle.laws.proofs.Concat.{even-part, mul-within}
+use Rattle.laws.proofs.Putting.{put, put-size, put-here}
 use Rattle.vector.specs.Entries.{Written}
+use Rattle.vector.proofs.Buffers.{copied}
 use Rattle.vector.proofs.Entries.{written-all}
 use Rattle.verifier_vector.specs.Vector.{given}
 
@@ -32,20 +33,18 @@ module _ (w : ℕ) (hidden : List ℕ) (own : ℕ → List ℕ) (d : ℕ) where
 
   pub all-given : (k : ℕ) (lcs old new : List ℕ) → d < 2 ^ k → length lcs ≡ w * 2 ^ k → length hidden ≡ w
       → old ≡ take (w * d) lcs ++ (part hidden 0 w ++ drop (w * d + w) lcs) → Written w own d 1 (2 ^ k) old new → new ≡ concat (2 ^ k) (given hidden own d)
-  all-given k lcs old new m l s e g = written-all w own d k 1 (given hidden own d) old new m (ap length copied ∙ put-size lcs hidden (w * d) w room s ∙ l) elsewhere (λ x h. first x (omega arith)) g
+  all-given k lcs old new m l s e g = written-all w own d k 1 (given hidden own d) old new m (ap length there ∙ put-size lcs hidden (w * d) w room s ∙ l) elsewhere (λ x h. first x (omega arith)) g
     where
       room : w * d + w ≤ length lcs
       room = (let h = mul-within w d (2 ^ k) m in omega arith)
 
-      copied : old ≡ put lcs (w * d) w hidden
-      copied =
-          e ∙ ap (λ (v : List ℕ). take (w * d) lcs ++ (v ++ drop (w * d + w) lcs)) (part-whole hidden w s)
-          ∙ ap (λ (v : List ℕ). take (w * d) lcs ++ (hidden ++ v)) (sym (behind (w * d) w lcs))
+      there : old ≡ put lcs (w * d) w hidden
+      there = copied (w * d) w lcs hidden old s e
 
       first : (x : ℕ) → x ≡ 0 → part old (w * bitXor x d) w ≡ given hidden own d (bitXor x d)
       first x z =
           ap (λ (y : ℕ). part old (w * bitXor y d) w) z
-          ∙ ap (λ (v : List ℕ). part v (w * d) w) copied
+          ∙ ap (λ (v : List ℕ). part v (w * d) w) there
           ∙ put-here lcs hidden (w * d) w room s
           ∙ sym (ap (λ (y : ℕ). given hidden own d (bitXor y d)) z ∙ at-hidden)
 
