@@ -1,5 +1,5 @@
 #!/usr/bin/env python3
-"""What check_record --json prints, read by Python: each line one object with the right keys, and the name escaped as docs/TOOLS.md says, which is done here anew.
+"""What check_record --json prints, read by Python: each line one object with the right keys, and the name escaped as docs/TOOLS.md says, done here anew.
 
     json_lines.py < LINES      prints how many lines there were of each number; exit status 1 where a line is wrong
 """
@@ -43,8 +43,8 @@ def read(line):
         raise ValueError('a control byte, or no line feed')
     found = json.loads(line.decode())
     name, right = named_right(found)
-    keys = {'file', 'error'} if 'error' in found else {'file', 'accepted', 'set', 'nodes', 'allowed'} if found['accepted'] else {'file', 'accepted', 'number', 'word', 'reason'}
-    if not right or set(found) != keys or ('number' in found and WORDS[found['number']] != found['word']):
+    keys = {'error'} if 'error' in found else {'accepted', 'set', 'nodes', 'allowed'} if found['accepted'] else {'accepted', 'number', 'word', 'reason'}
+    if not right or set(found) != {'file', *keys} or ('number' in found and WORDS[found['number']] != found['word']):
         raise ValueError('another name, or other keys')
     return name, found
 
