@@ -82,6 +82,24 @@ static inline shape random_shape(void)
     return (shape){tau, k, w > 127 ? 127 : w, below(5) ? tau * (k + 1) + below(3) : 1 + below(tau), level, below(4) == 0};
 }
 
+/* at level 128 with kind 0 one in three becomes version 1, whose first field has no level; then the places of the fields are known */
+static inline void choose_version(struct base *base, shape s, const rachnoel_lengths *n)
+{
+    const int first = s.level == 128 && s.kind == 0 && below(3) == 0;
+    if (first) {
+        base->bytes[0] = 1;
+        base->bytes[4] = 9;
+        base->length--;
+        memmove(base->bytes + 14, base->bytes + 15, base->length - 14);
+    }
+    const size_t lengths[6] = {first ? 9 : s.kind == 0 ? 10 : 11, RACHNOEL_IV, n->node, n->corrections, n->opening, n->commitment};
+    size_t at = 1;
+    for (size_t i = 0; i < 6; i++) {
+        base->fields[i] = at;
+        at += 4 + lengths[i];
+    }
+}
+
 static inline void make_base(struct base *base)
 {
     uint8_t root[RACHNOEL_NODE_MOST], iv[RACHNOEL_IV], challenge[RACHNOEL_NODE_MOST], commitment[RACHNOEL_COMMITMENT_MOST], count[RACHNOEL_COUNT], length[RACHNOEL_RECORD_LENGTH];
@@ -110,20 +128,7 @@ static inline void make_base(struct base *base)
     must(rachnoel_write_record(NUMBERS(s), row_bits, iv, sizeof iv, challenge, n.node, corrections, n.corrections, opening, n.opening, commitment,
              n.commitment, base->bytes, base->length),
         "write_record");
-    /* at level 128 with kind 0 one in three becomes version 1, whose first field has no level */
-    const int first = s.level == 128 && s.kind == 0 && below(3) == 0;
-    if (first) {
-        base->bytes[0] = 1;
-        base->bytes[4] = 9;
-        base->length--;
-        memmove(base->bytes + 14, base->bytes + 15, base->length - 14);
-    }
-    const size_t lengths[6] = {first ? 9 : s.kind == 0 ? 10 : 11, sizeof iv, n.node, n.corrections, n.opening, n.commitment};
-    size_t at = 1;
-    for (size_t i = 0; i < 6; i++) {
-        base->fields[i] = at;
-        at += 4 + lengths[i];
-    }
+    choose_version(base, s, &n);
     free(tree), free(lcs), free(u), free(v), free(corrections), free(opening);
 }
 
@@ -133,6 +138,13 @@ static inline void put_number(uint8_t *p, size_t x)
 {
     for (size_t i = 0; i < 4; i++)
         p[i] = (uint8_t)(x >> (24 - 8 * i));
+}
+
+/* a part of another record in its place */
+static inline void put_part(uint8_t *bytes, size_t length, const struct base *other)
+{
+    const size_t most = length < other->length ? length : other->length, at = below(most), n = 1 + below(most - at);
+    memcpy(bytes + at, other->bytes + at, n);
 }
 
 /* changes the record of `base` in `bytes`, which has room for 16 bytes more, and gives its length */
@@ -162,11 +174,7 @@ static inline size_t change(const struct base *base, uint8_t *bytes, size_t leng
         if (length >= 16)
             memcpy(bytes + 5, other->bytes + 5, 11);
         break;
-    case 6: {
-        const size_t most = length < other->length ? length : other->length, at = below(most), n = 1 + below(most - at);
-        memcpy(bytes + at, other->bytes + at, n);
-        break;
-    }
+    case 6: put_part(bytes, length, other); break;
     case 7: {
         const size_t at = below(length), n = 1 + below(length - at < 16 ? length - at : 16);
         memset(bytes + at, 0, n);

@@ -252,6 +252,8 @@ static void work(const options *o, size_t first, int pipe)
     _exit(0);
 }
 
+static pid_t children[JOBS_MOST];
+
 /* starts the processes; a place of `pipes` is -1 where one could not be started. Where this process ends they end too, also while they wait for a file */
 static void start(const options *o, int pipes[JOBS_MOST])
 {
@@ -270,6 +272,7 @@ static void start(const options *o, int pipes[JOBS_MOST])
             work(o, j, ends[1]);
         }
         close(ends[1]);
+        children[j] = child;
         if (child > 0)
             pipes[j] = ends[0];
         else
@@ -358,7 +361,9 @@ static void check_all(options *o, totals *sum)
         free(text[0]), free(text[1]);
         show_progress(o, i + 1, &begin);
     }
-    while (o->jobs > 1 && wait(NULL) > 0) { }
+    for (size_t j = 0; j < o->jobs; j++)
+        if (children[j] > 0)
+            waitpid(children[j], NULL, 0);
 }
 
 static void put_summary(const options *o, const totals *sum)
