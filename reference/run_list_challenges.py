@@ -6,7 +6,7 @@
 A good line has at most 24 bytes, of which the program reads 64: the inputs end before, at and behind both numbers. No contract can say how many bytes a program reads, nor
 that it writes each piece, so this is run, also on shapes of every number of bits up to 16, on damaged inputs, and on an input that arrives in parts. The longest outputs must
 take less than a second of the processor. Last, inputs that cannot be read, and outputs that cannot be written, or not to their end: the program must say so on standard
-error, and not write on; and the picture of docs/, drawn anew.
+error, and not write on.
 """
 import random
 import resource
@@ -19,8 +19,6 @@ from odd_streams import failed_reads, failed_writes, in_parts
 
 HERE = Path(__file__).resolve().parent
 REFERENCE = HERE / 'target' / 'release' / 'reference'
-DRAW = [sys.executable, HERE / 'draw_counts.py']
-PICTURE = HERE.parent / 'docs' / 'counts.svg'
 PROGRAM = sys.argv[1] if sys.argv[1:] else HERE.parent / 'target' / 'bin' / 'list_challenges'
 
 SHORT = b'2 2 124 3'                        # 9 bytes
@@ -89,17 +87,6 @@ def stopped_reader():
         sys.exit(f'list_challenges, a reader that stops: standard error has {error!r}')
 
 
-def picture():
-    output = listed([PROGRAM], b'5 3 112 13\n').stdout
-    if listed([*DRAW, '5', '3', '112', '13'], output).stdout != PICTURE.read_bytes():
-        sys.exit(f'{PICTURE} is not what draw_counts.py makes of the output')
-    wrong = (('5 3 112 12', output), ('5 3 113 13', output), ('5 3 112 13', output[:-1]), ('5 3 112 13', output[33:]), ('5 3 112 13', b'refused 7\n'), ('5 3 112 13', b''))
-    for numbers, text in wrong:
-        drawn = subprocess.run([*DRAW, *numbers.split()], input=text, capture_output=True)
-        if drawn.returncode == 0 or drawn.stdout:
-            sys.exit(f'draw_counts.py {numbers}: draws what is no output of it')
-
-
 def main():
     tried = 0
     for text in (*ends(), *shapes(), *damaged()):
@@ -120,7 +107,6 @@ def main():
     failed_reads(PROGRAM, SHORT + b'\n')
     failed_writes(PROGRAM, (SHORT, LONGEST[0], b''))
     stopped_reader()
-    picture()
     print(f'list_challenges: {tried} inputs as reference/ lists them, and a failed read or write is said')
 
 

@@ -2,6 +2,7 @@
 // failed read is said on standard error, and nothing is listed.
 ghost use Rattle.enumeration.specs.Pieces.{Readable};
 use enumeration::Reading;
+use libc::STDERR_FILENO;
 use libc::STDIN_FILENO;
 use libc::STDOUT_FILENO;
 
@@ -23,6 +24,14 @@ fn write_pieces(r: Reading) -> bool
 }
 
 fn main() {
+    // with arguments it does not wait for input: a line of usage, and nothing on standard output
+    if os::arg_count() > 1 {
+        io::write_all(
+            STDERR_FILENO,
+            b"usage: list_challenges < LINE, which has tau, k, w and T; it takes no arguments\n",
+        );
+        return;
+    }
     let mut input = [0u8; 64];
     let n = io::read_full(STDIN_FILENO, &mut input);
     // errno is 0 when a program starts; of the calls up to here only a read that failed can have set it
