@@ -1,6 +1,6 @@
 -- The entries are the first, and those of what is left behind it: by induction on the bytes left. A longer input is refused, and so is its front. check_record tests what the report
 -- tests, and the end of the record and the commitment besides.
-use Prim.Native.Nat.{ℕ, zero, suc, _+_, _≤_, _<_}
+use Prim.Native.Nat.{ℕ, zero, suc, _+_, _/_, _≤_, _<_}
 use mathlib.Core.Path.{_≡_, refl, sym, ap, _∙_, subst}
 use mathlib.Core.Bool.{Bool, true, false, cond}
 use mathlib.Core.List.{List, [], _∷_}
@@ -16,18 +16,16 @@ use Rattle.spec.specs.Shapes.{resolved, grindingOk, plannedCount}
 use Rattle.spec.specs.Primitives.{Primitives}
 use Rattle.spec.specs.Verifier.{slotsOk}
 use Rattle.spec.specs.Calls.{firstRefusal, fits, nodesOk, countWith, written}
-use Rattle.laws.specs.Lengths.{Sized}
-use Rattle.laws.proofs.Lengths.{sized-fits}
 use Rattle.laws.proofs.Refusals.{then}
 use Rattle.laws.proofs.Conjunctions.{refuted, contrary}
 use Rattle.record.specs.Record.{Contents, contentsOf, fieldsTests, fieldsNumber, endOf, readNumber}
-use Rattle.record.specs.RecordCalls.{Work, made, sameBytes, openingTests, recordNumber, answered, CheckRecord}
+use Rattle.record.specs.RecordCalls.{Work, workLengths, made, sameBytes, openingTests, recordNumber, answered, CheckRecord}
 use Rattle.record.proofs.Cut.{cut-read, cut-contents}
 use Rattle.record.proofs.Reconstructing.{number-refused, number-read}
 use Rattle.report_text.specs.declared.Entry.{Entry}
 use Rattle.report_text.specs.Entries.{entryNumber, stops, entryOf, entriesWithin, entries, sumOf}
 use Rattle.report_text.specs.Text.{reportText}
-use Rattle.report_text.specs.Claims.{beginOf, workOfRecord, Consecutive, AsChecked, Claims}
+use Rattle.report_text.specs.Claims.{beginOf, Consecutive, AsChecked, Claims}
 use Rattle.report_text.proofs.Entries.{Bounds, bounds, number-stops, number-opened, entry-stops, not-eleven, entry-stopping, entry-end, entries-next, stopped}
 
 -- an entry that does not stop has its fields, and is read up to its end
@@ -99,13 +97,15 @@ within (suc n) (x ∷ xs) h =
 
 -- ---- the number and the count of check_record
 
--- without the comparison the tests of the opening decide
-uncompared : (a b c same : Bool) → (let k = firstRefusal ((a, 4) ∷ (b, 5) ∷ (c, 6) ∷ []) in k ≡ answered (cond (eqb k 0) (cond same 0 11) k))
-uncompared false b c same = refl
-uncompared true false c same = refl
-uncompared true true false same = refl
-uncompared true true true true = refl
-uncompared true true true false = refl
+-- where the lengths fit, and without the comparison, the tests of the opening decide
+by : (t a b c same : Bool) → ((let k = cond t (firstRefusal ((a, 4) ∷ (b, 5) ∷ (c, 6) ∷ [])) 3 in cond (eqb k 0) (cond same 0 11) k) ≡ 3 → ⊥)
+    → firstRefusal ((a, 4) ∷ (b, 5) ∷ (c, 6) ∷ []) ≡ answered (let k = cond t (firstRefusal ((a, 4) ∷ (b, 5) ∷ (c, 6) ∷ [])) 3 in cond (eqb k 0) (cond same 0 11) k)
+by false a b c same fit = absurd (fit refl)
+by true false b c same fit = refl
+by true true false c same fit = refl
+by true true true false same fit = refl
+by true true true true true fit = refl
+by true true true true false fit = refl
 
 -- where a field is missing or the front is refused, reading says so too
 read-refused : (xs : List ℕ) → (fieldsNumber xs ≡ 0 → ⊥) → readNumber xs ≡ fieldsNumber xs
@@ -114,42 +114,51 @@ read-refused xs bad =
     then (fieldsTests xs) ((eqb (length xs) (endOf xs), 10) ∷ []) (refl, (refl, (refl, (refl, (refl, tt)))))
     ∙ ap (λ (t : Bool). cond t (cond (eqb (length xs) (endOf xs)) 0 10) (fieldsNumber xs)) (ne-eqb (fieldsNumber xs) 0 bad)
 
-module _ (P : Primitives) (xs : List ℕ) (lengths : List (ℕ × ℕ)) (fit : fits lengths ≡ true) where
+module _ (P : Primitives) (xs : List ℕ) (lengths : List (ℕ × ℕ)) (fit : recordNumber P (take (entryOf xs .bytes) xs) lengths ≡ 3 → ⊥) where
   checked-number : entryNumber xs ≡ answered (recordNumber P (take (entryOf xs .bytes) xs) lengths)
   checked-number = go (ℕ-discrete (fieldsNumber xs) 0)
     where
-      go : Dec (fieldsNumber xs ≡ 0) → entryNumber xs ≡ answered (recordNumber P (take (entryOf xs .bytes) xs) lengths)
-      go (yes ok) =
+      -- behind reading: the lengths decide, and then the opening and the comparison
+      opened : fieldsNumber xs ≡ 0 → (t : Bool) → fits lengths ≡ t → entryNumber xs ≡ answered (recordNumber P (take (endOf xs) xs) lengths)
+      opened ok t e =
           let p = take (endOf xs) xs in
           let c = contentsOf p in
           let s = resolved (c .shape) in
           let same = sameBytes (made P c .commitment) (c .commitment) in
-          rw (entry-end xs ok)
-          (number-opened xs ok ∙ ap (λ (x : Contents). firstRefusal (openingTests x)) (sym (cut-contents xs ok))
-          ∙ uncompared (grindingOk s (c .challenge)) (nodesOk s (c .challenge)) (slotsOk s (c .challenge) (c .opening)) same
-          ∙ sym (ap answered (number-read P p lengths (cut-read xs ok))
-          ∙ ap (λ (t : Bool). let k = cond t (firstRefusal (openingTests c)) 3 in answered (cond (eqb k 0) (cond same 0 11) k)) fit))
+          let number : recordNumber P p lengths ≡ (let k = cond t (firstRefusal (openingTests c)) 3 in cond (eqb k 0) (cond same 0 11) k) =
+          number-read P p lengths (cut-read xs ok) ∙ ap (λ (b : Bool). let k = cond b (firstRefusal (openingTests c)) 3 in cond (eqb k 0) (cond same 0 11) k) e in
+          number-opened xs ok ∙ ap (λ (x : Contents). firstRefusal (openingTests x)) (sym (cut-contents xs ok))
+          ∙ by t (grindingOk s (c .challenge)) (nodesOk s (c .challenge)) (slotsOk s (c .challenge) (c .opening)) same
+          (λ z. fit (ap (λ (n : ℕ). recordNumber P (take n xs) lengths) (entry-end xs ok) ∙ number ∙ z)) ∙ sym (ap answered number)
+
+      go : Dec (fieldsNumber xs ≡ 0) → entryNumber xs ≡ answered (recordNumber P (take (entryOf xs .bytes) xs) lengths)
+      go (yes ok) = rw (entry-end xs ok) (opened ok (fits lengths) refl)
       go (no bad) =
           rw (entry-stops xs bad, take-length xs)
           (number-stops xs bad
           ∙ sym (ap answered (number-refused P xs lengths (λ z. bad (sym (read-refused xs bad) ∙ z)) ∙ read-refused xs bad)
           ∙ ap (λ (t : Bool). cond t 0 (fieldsNumber xs)) (not-eleven xs bad)))
 
+-- the lengths of the work buffers, and those that a record asks for
+abbrev workOfRecord : List ℕ → Work → List (ℕ × ℕ)
+workOfRecord rec = workLengths (resolved (contentsOf rec .shape)) (contentsOf rec .row / 8)
+
 -- an entry beside check_record on the bytes that it takes
 checked-first : (P : Primitives) (xs : List ℕ) (entry : Entry) (before after : Work) (r : Answer) → entry ≡ entryOf xs
     → CheckRecord P (take (entry .bytes) xs) before after r
-    → Sized (workOfRecord (take (entry .bytes) xs) before)
+    → (r .number ≡ 3 → ⊥)
     → (entry .number ≡ answered (r .number)) × (entry .number ≡ 0 → entry .count ≡ r .count)
 unfolding entryOf countWith
-checked-first P xs entry before after r is k sized = (number, count)
+checked-first P xs entry before after r is k fit = (number, count)
   where
     entry-number : entry .number ≡ entryNumber xs
     entry-number = ap (λ (x : Entry). x .number) is
 
+    same-number : recordNumber P (take (entryOf xs .bytes) xs) (workOfRecord (take (entry .bytes) xs) before) ≡ r .number
+    same-number = ap (λ (n : ℕ). recordNumber P (take n xs) (workOfRecord (take (entry .bytes) xs) before)) (sym (ap (λ (x : Entry). x .bytes) is)) ∙ sym (k .number)
+
     number : entry .number ≡ answered (r .number)
-    number =
-        entry-number ∙ checked-number P xs (workOfRecord (take (entry .bytes) xs) before) (sized-fits (workOfRecord (take (entry .bytes) xs) before) sized)
-        ∙ ap (λ (n : ℕ). answered (recordNumber P (take n xs) (workOfRecord (take (entry .bytes) xs) before))) (sym (ap (λ (x : Entry). x .bytes) is)) ∙ ap answered (sym (k .number))
+    number = entry-number ∙ checked-number P xs (workOfRecord (take (entry .bytes) xs) before) (λ z. fit (sym same-number ∙ z)) ∙ ap answered same-number
 
     count : entry .number ≡ 0 → entry .count ≡ r .count
     count z =
