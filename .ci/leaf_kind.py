@@ -6,8 +6,12 @@ A file of crates/*/{src,specs,proofs} mentions the kind if one of the names or w
 unfolds a definition of spec that looks at it, as `leafCommitmentBytes`. The module planning_laws/proofs/LeafKindFacts.antt has what others cite instead, and
 its name alone is no mention: a proof may cite a fact from it whose name does not mention the kind.
 
-MAY has the files that may mention it, each with the reason; any other that does fails, and so does an entry for nothing. Then the script tests itself: each of
-MORE, added to the files in memory, must fail, and each of FINE must not.
+Version 1 has leaves of its own. Inside, its shapes have the kind whose leaf commitments are as long and take no hash key; that the kind fits the version is a
+fact, `KindFits`, which the proofs of the vectors hand on and do not look into. HANDED has the files that may do that, and in what words; these alone are no
+mention there.
+
+MAY has the files that may mention it, each with the reason; any other that does fails, and so does an entry of either table for nothing. Then the script tests
+itself: each of MORE, added to the files in memory, must fail, and each of FINE must not.
 """
 import re
 import sys
@@ -16,14 +20,22 @@ from sources import TOP, Refused
 
 MENTION = re.compile(r'[A-Za-z_.-]*(?:kind|ordinary|mansour)[\w-]*|\bem[-_]\w+|-EM\b', re.I)
 CITED = 'LeafKindFacts'
-DEFINITIONS = ['spec/specs/Shapes.antt', 'spec/specs/Leaves.antt']
+DEFINITIONS = ['spec/specs/Shapes.antt', 'spec/specs/Leaves.antt', 'spec/specs/Version1.antt']
 
 # a file, or the beginning of several paths, and why it may mention the kind
 MAY = {
     'spec/src/lib.rt': 'the field of a shape',
     'spec/specs/Shapes.antt': 'its definition, the default, the shape rules, the bytes of a leaf commitment',
     'spec/specs/Leaves.antt': 'the seed and the commitment of a leaf',
+    'spec/specs/Version1.antt': 'the shapes of version 1 are of kind 0',
     'spec/proofs/': 'examples of the definitions, computed, and the kinds that are refused',
+    'job/': 'which kind a shape has inside for each version, and the leaves of each version',
+    'v1_rules/': 'the shape rules of version 1, and the kind of its shapes inside',
+    'v1_signer/proofs/Written.antt': 'from the shape of the caller to the one inside, which has another kind',
+    'v1_verifier/proofs/Written.antt': 'the same',
+    'vector/proofs/InnerJob.antt': 'the same: a leaf commitment of version 1 has the bytes of that kind',
+    'vector/proofs/LeafNodes.antt': 'the bytes of a leaf commitment of either version',
+    'theorems/proofs/Version1.antt': 'a shape of version 1 is one of version 2: the definition unfolded',
     'rules/': 'the shape rules, the default, the bytes of a leaf commitment',
     'leaf/': 'the leaves of each kind, and the hash keys of ordinary ones',
     'leaf_hash/': 'the hash of ordinary leaves',
@@ -39,6 +51,8 @@ MAY = {
     'shape_host/src/': 'the six numbers of a shape from a C host',
     'signer_host/src/': 'the same',
     'verifier_host/src/': 'the same',
+    'v1_signer_host/src/': 'the same',
+    'v1_verifier_host/src/': 'the same',
     'writer_host/src/': 'the same',
     'listing_line/': 'the listing programs are of kind 0',
     'enumeration/src/': 'the same',
@@ -55,9 +69,22 @@ MAY = {
     'vectors_stretches/src/': 'the same',
     'vectors_records/src/': 'the same',
     'vectors_calls/src/': 'the same',
+    'v1_cases/src/': 'the same, which version 1 refuses',
+    'v1_vectors/src/': 'the same',
     'record_cases/src/': 'the same',
     'report_runs/src/': 'the same',
     'listing_text/proofs/+put_decimal/': 'another word: the kit\'s `Kinds` of parameters',
+}
+
+# a file that hands on the fact that the kind fits the version, and the words in which it does
+HANDED = {
+    'signer_commit/proofs/write_all/Proof.antt': 'kind = two-fits',
+    'reconstruction/proofs/write_all/Proof.antt': 'kind = two-fits',
+    'vector/proofs/add_leaf/Proof.antt': '.job .kind',
+    'vector/proofs/add_half/Proof.antt': '.job .kind',
+    'verifier_vector/proofs/convert/Proof.antt': '.job .kind',
+    'verifier_vectors/proofs/hidden_from/Proof.antt': '(ready .kind)',
+    'verifier_vectors/proofs/HiddenPlaces.antt': 'KindFits',
 }
 
 
@@ -68,7 +95,7 @@ def looking(texts):
 
 
 def mentions(path, text, names):
-    text = f'{path}\n{text}'.replace(CITED, '')
+    text = f'{path}\n{text}'.replace(CITED, '').replace(HANDED.get(path, CITED), '')
     unfolded = [name for line in re.findall(r'(?m)^ *unfolding (.*)$', text) for name in line.split() if name in names]
     return MENTION.findall(text) + unfolded
 
@@ -82,6 +109,7 @@ def check(texts):
     found = {path: mentions(path, text, names) for path, text in texts.items()}
     found = {path: words for path, words in found.items() if words}
     faults = [f'{path} mentions the leaf kind: {words[0]}' for path, words in sorted(found.items()) if entry_of(path) is None]
+    faults += [f'{path} hands nothing on: {words}' for path, words in HANDED.items() if words not in texts.get(path, '')]
     faults += [f'{entry} is in the table and does not mention the leaf kind' for entry in MAY if entry not in map(entry_of, found)]
     if faults:
         raise Refused('\n'.join(faults))
@@ -98,6 +126,9 @@ MORE = [
     ('columns/proofs/ByKind.antt', '', 'ByKind'),
     ('signer_vectors/proofs/Steps.antt', 'unfolding leafCommitmentBytes\n', 'leafCommitmentBytes'),
     ('vector/proofs/add_half/Proof.antt', '    unfolding level shapeOk\n', 'shapeOk'),
+    ('vector/proofs/add_leaf/Proof.antt', 'is-one = start .args .g .shape .kind', '.kind'),
+    ('verifier_vectors/proofs/HiddenPlaces.antt', 'unfolding shape1Ok\n', 'shape1Ok'),
+    ('verifier_vectors/proofs/Steps.antt', 'use Rattle.job.specs.Versions.{KindFits}', 'KindFits'),
     ('theorems/proofs/Reconstruction.antt', 'cited = em-seed faest s', 'em-seed'),
     ('verifier_vectors/specs/Vectors.antt', '-- as in FAEST-EM', '-EM'),
 ]

@@ -1,11 +1,12 @@
 #!/usr/bin/env python3
 """Document 02, E5: outside the lent buffers no array holds more than 16 bytes of a row, or of a sum of rows.
 
-Shown of the public functions of `signer` and `verifier` and of all that they call, from their .rt files:
+Shown of the public functions of both halves, those of version 2 and those of version 1 (document 02, E12), and of all that they call, from their .rt files:
 
-1. Where bytes of rows begin. A block that AES gives is one of a row, unless a crate of NO_ROWS asks for it and no number of 2^30 or more is in what its
-   tweak is made of (a row's tweak is 2^31 + i). A buffer to which a public call writes bytes of rows brings them to each public call that takes one of that
-   name: so reconstruct is lent them as the corrections.
+1. Where bytes of rows begin. A block that AES gives is one of a row, unless a crate of NO_ROWS asks for it, no number of 2^30 or more is in what its tweak is
+   made of (a row's tweak is 2^31 + i), and no byte of a leaf's seed is in what its key is made of (version 1 has no tweak: there the key alone tells a row).
+   A buffer to which a public call writes bytes of rows brings them to each public call that takes one of that name: so reconstruct is lent them as the
+   corrections.
 2. Where they go: through every let, assignment, element, struct, argument, lent buffer and result, call by call, until nothing is added. No branch, loop or
    bound of a slice depends on them.
 3. What holds them. Each local, parameter by value and result that they reach has at most 16 bytes, arrays and structs measured whole; the one exception is a
@@ -15,8 +16,8 @@ Shown of the public functions of `signer` and `verifier` and of all that they ca
 4. Every other array above 16 bytes is in TABLE, with what it holds.
 
 Trusted: this script and its reader, sources.py, both of which refuse what they do not know; what KIT says of the kit's functions; that the crates of NO_ROWS
-ask for what is said there, and make no row's tweak out of smaller numbers. No array is meant that the compiler makes for a copy. At the end the script tests
-itself: each of EDITS, made in copies of the sources, must fail for the reason beside it, and what is ALLOWED must not.
+ask for what is said there, and make no row's tweak out of smaller numbers; that seeds are what SEEDS says. No array is meant that the compiler makes for a
+copy. At the end the script tests itself: each of EDITS, made in copies of the sources, must fail for the reason beside it, and what is ALLOWED must not.
 """
 import re
 import sys
@@ -26,8 +27,12 @@ from sources import PLACES, TOP, Program, Refused, Types, closure, crate_lines, 
 
 BLOCK, CHAIN, LARGE = 16, 64, 2 ** 30
 
+# the crates whose public functions are the library's calls
+HALVES = ('signer', 'verifier', 'v1_signer', 'v1_verifier')
 # the crates that ask the generator for something else than rows, and for what
-NO_ROWS = {'tree': 'nodes', 'leaf': 'seeds and leaf commitments'}
+NO_ROWS = {'tree': 'nodes', 'leaf': 'seeds and leaf commitments', 'signer_forest': 'the roots of version 1\'s trees'}
+# the function that makes the seeds of leaves, and the parameter to which it writes them
+SEEDS = 'leaf::commit_leaf', 'seed'
 GENERATOR, CIPHER, SUB_BYTES = 'generator', 'aes', 'aes_steps::sub_bytes'
 
 # the kit's functions that are called: the number of the argument to which they write the bytes of the others, or None where they return them
@@ -35,14 +40,15 @@ KIT = {'bytes::copy': 1, 'std::num::wrapping_add_u32': None}
 
 # each array above 16 bytes: its type, what it holds, and the crates that have it by value; others have it lent
 TABLE = {
-    '[u8; 256]': ('the S-box of AES', 'aes_steps signer_commit reconstruction'),
+    '[u8; 256]': ('the S-box of AES', 'aes_steps signer_commit reconstruction v1_signer v1_verifier'),
     '[[[u8; 4]; 4]; 15]': ('the round keys of a key', 'aes_keys generator tree rows'),
     '[[[u8; 4]; 4]; 8]': ('the first round keys of a key of 8 words', 'aes_keys'),
     '[[[u8; 4]; 4]; 7]': ('the later ones', 'aes_keys'),
     '[[[u8; 4]; 6]; 8]': ('the words of a key schedule, for a key of 6 words', 'aes_keys'),
     '[[u8; 4]; 6]': ('six of them', 'aes_keys'),
     '[[[u8; 4]; 4]; 3]': ('the round keys that twelve of them are', 'aes_keys'),
-    '[u8; 128]': ('a leaf stretched: its seed, and what the leaf hash is xored to', 'leaf'),
+    '[u8; 128]': ('a leaf stretched: its seed, and what the leaf hash is xored to; in version 1 a leaf hashed: its seed and its commitment', 'leaf'),
+    '[u8; 48]': ('what version 1 hashes of a leaf: its key and the IV', 'leaf'),
     '[u8; 32]': ('a seed', 'vector'),
     '[[u64; 12]; 16]': ('the multiples of a hash key', 'field_384 field_576 field_768 leaf_hash leaf signer_vectors verifier_vector'),
     '[u64; 6]': ('an element of the field of the leaf hash, of 384 bits', 'field_384'),
@@ -53,14 +59,15 @@ TABLE = {
     '[u64; 5]': ('the parities of Keccak\'s columns, or a plane of its state', 'keccak'),
     '[u8; 168]': ('a block of the sponge', 'shake'),
     '[u8; 3072]': ('the hash keys of all vectors', 'signer_commit reconstruction'),
-    '[u8; 2048]': ('the hashes of all vectors', 'signer_commit reconstruction'),
+    '[u8; 2048]': ('the hashes of all vectors; in version 1 also zeros, in the place of hash keys', 'signer_commit reconstruction v1_signer v1_verifier'),
+    '[u8; 1024]': ('the roots of the trees of version 1', 'signer_forest'),
     '[u32; 512]': ('numbers of revealed nodes', 'verifier signer_open'),
     '[u32; 576]': ('numbers of covered nodes', 'verifier_tree'),
     '[usize; 32]': ('numbers of covered nodes that are still to be raised', 'planning'),
 }
 
-# what a value may have in it: a large number, so that it may be a row's tweak; bytes of rows
-TWEAK, ROWS = 1, 2
+# what a value may have in it: a large number, so that it may be a row's tweak; bytes of rows; bytes of seeds
+TWEAK, ROWS, SEED = 1, 2, 4
 Summary = namedtuple('Summary', 'result outs held')
 
 
@@ -70,6 +77,8 @@ class Frame:
     def __init__(self, test, f, given):
         self.test, self.p, self.f, self.types = test, test.p, f, test.types[f.name]
         self.labels = {**dict.fromkeys(self.types.names, 0), **dict(zip(f.params, given))}
+        if f.name == SEEDS[0]:
+            self.labels[SEEDS[1]] |= SEED
         self.result, self.callees = 0, {}
 
     def summary(self):
@@ -156,11 +165,12 @@ class Frame:
         return made.result
 
     def given(self, callee, labels):
-        """What the arguments of a call bring: who asks for blocks may ask for a row's, and what AES is given to encrypt becomes bytes of a row where a row's
-        tweak is in it."""
+        """What the arguments of a call bring: who asks for blocks may ask for a row's, and so does who gives a seed for a key; what AES is given to encrypt
+        becomes bytes of a row where a row's tweak is in it."""
         if SUB_BYTES not in self.test.reach(callee.name):
             return labels
-        if callee.crate in (GENERATOR, CIPHER) and self.f.crate not in (GENERATOR, CIPHER, *NO_ROWS):
+        other = self.f.crate not in (GENERATOR, CIPHER, *NO_ROWS)
+        if callee.crate in (GENERATOR, CIPHER) and (other or any(label & SEED for label in labels)):
             labels = [label | TWEAK for label in labels]
         if callee.crate == CIPHER != self.f.crate:
             labels = [label | ROWS if label & TWEAK and is_a(t, 'array') else label for label, t in zip(labels, callee.params.values())]
@@ -271,7 +281,7 @@ class Test:
     def __init__(self, texts):
         self.p = Program(texts)
         self.types, self.reached, self.runs, self.open, self.seeing, self.faults = {}, {}, {}, [], set(), []
-        self.entries = [self.p.functions[name] for crate in ('signer', 'verifier') for name in self.p.public[crate] if name in self.p.functions]
+        self.entries = [self.p.functions[name] for crate in HALVES for name in self.p.public[crate] if name in self.p.functions]
         self.all = set().union(*(self.reach(f.name) for f in self.entries))
 
     def fault(self, text):
@@ -338,7 +348,7 @@ def check(texts):
 def sources():
     needs = crate_lines((TOP / 'crates.txt').read_text(encoding='utf-8'))
     texts = {}
-    for name in sorted(closure(needs, ['signer', 'verifier'])):
+    for name in sorted(closure(needs, HALVES)):
         files = list((TOP / 'crates' / name / 'src').glob('*.rt'))
         if [f.name for f in files] != ['lib.rt']:
             raise Refused(f'crate {name} has other files than lib.rt')
@@ -371,19 +381,19 @@ def at(n):
 
 
 def with_tweak(tweak):
-    return f'let iv = x.iv; let tweak = x.tweak; let other = {tweak}; ' + STRETCH.replace(' x,', ' Nonce { iv, tweak: other },')
+    return f'let iv = x.iv; let tweak = x.tweak; let other = {tweak}; ' + STRETCH.replace(' x,', ' Nonce { iv, tweak: other, version: x.version },')
 
 
 def stretched_with(tweak):
     """A leaf stretched with another tweak."""
-    reason = 'stretched of leaf::commit_leaf, [u8; 128], holds bytes of rows'
-    return (reason, ('leaf', STRETCH, with_tweak(tweak)), VERSIONS, ('leaf', '', 'const HALF: u32 = 1_073_741_824;'))
+    reason = 'stretched of leaf::leaf_of_kind, [u8; 128], holds bytes of rows'
+    return (reason, ('leaf', STRETCH, with_tweak(tweak)), FORMS, ('leaf', '', 'const HALF: u32 = 1_073_741_824;'))
 
 
 ROW = [f'x{n}' for n in range(14)]
 STRETCH = 'stretch_leaf(t, m, s, key, x, &mut stretched'
-VERSIONS = ('leaf', '', 'pub enum Version { One, Two }')
-ARMS = 'match Version::Two { Version::One => { tweak } Version::Two => tweak + %s, }'
+FORMS = ('leaf', '', 'pub enum Form { One, Two }')
+ARMS = 'match Form::Two { Form::One => { tweak } Form::Two => tweak + %s, }'
 
 # a part of the reason, and what is edited: the crate, the place, the new text
 EDITS = [
@@ -404,7 +414,9 @@ EDITS = [
     ('keys of tree::expand_node, [[[u8; 4]; 4]; 15], holds bytes of rows', ('signer_tree', 'iv, a, tree);', 'iv, a + 2147483648, tree);')),
     ('an item of columns that cannot be read: type Row', ('columns', '', 'type Row = u8;')),
     ('a method of rows::add_row that is not known: to_vec', ('rows', 'fn add_row', 'let copy = sum.to_vec();')),
-    ('a call of leaf::commit_leaf that is not found: leaf::byte', ('leaf', '[0u8; 128]', '[byte(); 128]')),
+    ('a call of leaf::hash_leaf_in_place that is not found: leaf::byte', ('leaf', '[0u8; 48]', '[byte(); 48]')),
+    ('last of rows::add_row is a reference in a local, which is not followed', ('rows', 'fn add_row', 'let one = [0u8; 16]; let last = &one[0..8];')),
+    ('last of rows::add_row is a reference in a local, which is not followed', ('rows', 'fn add_row', 'let last = &mut sum[0..8];')),
     # a row in a struct, in locals, in the functions of a chain of calls, in what has the type of round keys
     ('row of rows::add_row, Row, holds bytes of rows',
      ('rows', '', 'struct Row { ' + ', '.join(f'{x}: [u8; 16]' for x in ROW) + ' }'),
@@ -425,10 +437,21 @@ EDITS = [
      ('signer_commit', 'fn write_all', 'for j in 0..u.len() { let one = u[j]; keys[j] ^= one; }')),
     ('keys of reconstruction::write_reconstruction, [u8; 3072], holds bytes of rows', ('reconstruction', 'fn write_all', 'bytes::copy(corrections, keys);')),
     ('seed of vector::add_entry, [u8; 32], holds bytes of rows', ('vector', 'fn add_leaf', 'buffers::copy_part(sum, 0, 32, seed, 0);')),
+    # the same in version 1: u and the corrections where zeros or hashes are, a row in the place of the roots, and a seed for the key of a leaf or a node
+    ('keys of v1_signer::write_commitment, [u8; 2048], holds bytes of rows',
+     ('v1_signer', 'keys: &[u8],', 'keys: &mut [u8],'), ('v1_signer', 'let keys =', 'let mut keys ='), ('v1_signer', '&keys[0..n]', '&mut keys[0..n]'),
+     ('v1_signer', 'fn write_all', 'bytes::copy(u, keys);')),
+    ('hashes of v1_signer::write_commitment, [u8; 2048], holds bytes of rows', ('v1_signer', 'fn write_all', 'bytes::copy(u, hashes);')),
+    ('hashes of v1_verifier::write_reconstruction, [u8; 2048], holds bytes of rows', ('v1_verifier', 'fn write_all', 'bytes::copy(corrections, hashes);')),
+    ('roots of signer_forest::grow_trees, [u8; 1024], holds bytes of rows', ('signer_forest', 'tweak: 0,', 'tweak: 2147483648,')),
+    ('row of leaf::commit_leaf, [u8; 128], holds bytes of rows',
+     ('leaf', 'fn commit_leaf', 'let mut row = [0u8; 128]; generator::fill(t, seed, x, 0, &mut row);')),
+    ('keys of tree::expand_node, [[[u8; 4]; 4]; 15], holds bytes of rows',
+     ('vector', 'fn add_leaf', 'tree::expand_node(t, 16, Version::One, [0u8; 16], 0, seed);')),
     ('a branch, a loop or a bound of vector::add_leaf depends on bytes of rows', ('vector', 'fn add_leaf', 'if sum[0] == 1 { seed[0] = 1; }')),
 ]
 ALLOWED = [
-    [('leaf', STRETCH, with_tweak(ARMS % '1')), VERSIONS],
+    [('leaf', STRETCH, with_tweak(ARMS % '1')), FORMS],
     [('rows', '', 'enum Half { First, Second } fn cut(h: Half) -> usize { match h { Half::First => 0, Half::Second => { return 8; } } }'),
      ('rows', 'fn add_row', f'let one = {block(0)}; add_block(one, cut(Half::First), 0, sum);')],
 ]

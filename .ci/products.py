@@ -16,14 +16,16 @@ from sources import TOP, Refused, closure, crate_lines
 CRATES, README = 'crates.txt', 'README.md'
 
 GROUPS = {
-    'base': 'spec laws planning_laws numbers rules lengths buffers job host_words',
+    'base': 'spec laws planning_laws numbers rules v1_rules lengths buffers job host_words',
     'planning': 'challenge planning',
     'decode and plan': 'shape shape_host',
     'primitives': 'aes_steps aes_keys aes generator keccak shake field_limbs field_384 field_576 field_768 leaf_hash',
     'vectors': 'tree leaf columns rows vector',
     'signing': 'signer_tree signer_vectors signer_commit opening signer_open signer signer_host',
+    'signing of version 1': 'signer_forest v1_opening v1_signer v1_signer_host',
     'slots': 'slots',
     'checking': 'verifier_tree verifier_vector verifier_vectors reconstruction verifier verifier_host',
+    'checking of version 1': 'verifier_forest v1_verifier v1_verifier_host',
     'records': 'record record_fields record_reader record_reading named_sets',
     'broker': 'broker named_broker broker_host',
     'writer': 'record_writer writer_host',
@@ -31,8 +33,8 @@ GROUPS = {
     'listings': 'listing list_nodes enumeration_text enumeration list_challenges',
     'report': 'report_text report report_openings',
     'claims': 'standards standards_levels theorems record_theorems',
-    'tests': 'round_trip round_trip_report run_round_trip test_support vectors_calls vectors_probes vectors vectors_stretches record_cases vectors_records '
-             'list_nodes_runs list_challenges_runs report_runs bench_exports',
+    'tests': 'round_trip round_trip_report run_round_trip v1_round_trip test_support vectors_calls vectors_probes vectors vectors_stretches '
+             'record_cases vectors_records v1_cases v1_vectors list_nodes_runs list_challenges_runs report_runs bench_exports',
 }
 PRODUCTS = {
     'shape_host': ['base', 'planning', 'decode and plan'],
@@ -40,11 +42,13 @@ PRODUCTS = {
     'verifier_host': ['base', 'planning', 'primitives', 'vectors', 'slots', 'checking'],
     'broker_host': ['base', 'planning', 'primitives', 'vectors', 'slots', 'checking', 'records', 'broker'],
     'writer_host': ['base', 'records', 'writer'],
+    'v1_signer_host': ['base', 'planning', 'primitives', 'vectors', 'signing', 'signing of version 1'],
+    'v1_verifier_host': ['base', 'planning', 'primitives', 'vectors', 'checking', 'checking of version 1'],
     'report_openings': ['base', 'planning', 'slots', 'records', 'texts', 'report'],
     'list_nodes': ['base', 'planning', 'decode and plan', 'texts', 'listings'],
     'list_challenges': ['base', 'planning', 'texts', 'listings'],
 }
-# by which name the table of README.md excludes a half
+# by which name the table of README.md excludes a half, of either version
 HALVES = {'signing': 'signer..', 'checking': 'verifier..'}
 
 
@@ -80,7 +84,7 @@ def check_readme(needs, group, text):
             if any(c == name or name.endswith('..') and c.startswith(name[:-2]) for c in within):
                 raise Refused(f'README.md: {crate} contains {name}')
         for half, name in HALVES.items():
-            if (name in excluded) != all(group[c] != half for c in within):
+            if (name in excluded) != all(group[c] not in (half, half + ' of version 1') for c in within):
                 raise Refused(f'README.md: whether {crate} contains the {half} half is not as it says')
     return len(rows)
 
@@ -102,10 +106,16 @@ EDITS = [
     ('writer_host contains broker of the group broker', CRATES, 'record_writer: spec', 'record_writer: broker spec'),
     ('report_openings contains reconstruction of the group checking', CRATES, 'report: spec', 'report: reconstruction spec'),
     ('shape_host contains aes of the group primitives', CRATES, 'planning: spec', 'planning: aes spec'),
+    ('v1_signer_host contains verifier_forest of the group checking of version 1', CRATES, 'v1_opening: spec', 'v1_opening: verifier_forest spec'),
+    ('v1_signer_host contains verifier_vector of the group checking', CRATES, 'signer_forest: spec', 'signer_forest: verifier_vector spec'),
+    ('v1_verifier_host contains signer_forest of the group signing of version 1', CRATES, 'verifier_forest: spec', 'verifier_forest: signer_forest spec'),
+    ('v1_verifier_host contains v1_opening of the group signing of version 1', CRATES, 'v1_verifier: spec', 'v1_verifier: v1_opening spec'),
+    ('signer_host contains v1_opening of the group signing of version 1', CRATES, 'signer_open: spec', 'signer_open: v1_opening spec'),
     ('in no group, or no crate: signer_cache', CRATES, 'signer_host: spec', 'signer_cache: spec\nsigner_host: signer_cache spec'),
     ('in no group, or no crate: writer_host', CRATES, 'writer_host: ', '#'),
     ('whether broker contains the signing half is not as it says', README, '`record_reading` | a crate named `signer..`', '`record_reading` | a crate named'),
     ('signer contains opening', README, 'a crate named `verifier..`, `reconstruction`', 'a crate named `verifier..`, `opening`'),
+    ('whether v1_verifier contains the signing half is not as it says', README, 'a crate named `signer..`, `v1_signer`', 'a crate named `v1_signer`'),
     ('record_writer does not need planning', README, '| `record_writer` | ', '| `record_writer` | `planning`, '),
 ]
 

@@ -400,12 +400,20 @@ class Types:
         every = [*self.names, *(e.info[0] for e in lets)]
         for e in lets:
             name, mutable, t = e.info
-            self.declare(name, t or self.of(e.parts[0]))
+            self.declare(name, t or self.of(e.parts[0]), self.is_lent_part(e.parts[0]))
             if not mutable and every.count(name) == 1:
                 self.values[name] = self.value(e.parts[0])
 
-    def declare(self, name, t):
-        if is_a(t, 'ref') or is_a(t, 'slice'):
+    def is_lent_part(self, e):
+        """Whether it lends a part of what was lent to the function, to be read alone: it holds no bytes of its own."""
+        if e.kind != 'lent' or e.info:
+            return False
+        while e.kind in PLACES:
+            e = e.parts[0]
+        return e.kind == 'name' and is_a(self.f.params.get(e.info[0]), 'ref')
+
+    def declare(self, name, t, lent=False):
+        if (is_a(t, 'ref') or is_a(t, 'slice')) and not lent:
             raise Refused(f'{name} of {self.f.name} is a reference in a local, which is not followed')
         if self.names.setdefault(name, t) != t:
             raise Refused(f'{name} of {self.f.name} has two types')

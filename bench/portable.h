@@ -23,7 +23,12 @@ void c_leaf_hash(const uint64_t m[16][6], const uint8_t stretched[64], uint8_t o
                        uint8_t *u, uint8_t *v, uint8_t *corrections); \
     size_t side##_open(const size_t shape[4], const uint8_t ch[16], const uint8_t *tree, const uint8_t *lcs, uint8_t *opening); \
     size_t side##_reconstruct(const size_t shape[4], size_t b, const uint8_t iv[16], const uint8_t ch[16], const uint8_t *corrections, const uint8_t *opening, \
-                              uint8_t commitment[32], uint8_t *tree, uint8_t *lcs, uint8_t *q);
+                              uint8_t commitment[32], uint8_t *tree, uint8_t *lcs, uint8_t *q); \
+    void side##_v1_commit(const size_t shape[4], size_t b, const uint8_t root[16], const uint8_t iv[16], uint8_t commitment[32], uint8_t *trees, uint8_t *lcs, \
+                          uint8_t *u, uint8_t *v, uint8_t *corrections); \
+    void side##_v1_open(const size_t shape[4], const uint8_t ch[16], const uint8_t *trees, const uint8_t *lcs, uint8_t *opening); \
+    void side##_v1_reconstruct(const size_t shape[4], size_t b, const uint8_t iv[16], const uint8_t ch[16], const uint8_t *corrections, const uint8_t *opening, \
+                               uint8_t commitment[32], uint8_t *trees, uint8_t *lcs, uint8_t *q);
 BOTH(c)
 BOTH(t)
 

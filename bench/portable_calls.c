@@ -2,6 +2,7 @@
    Compiled twice: SIDE(name) is c_name over AES by bytes and t_name over AES by tables. */
 #include "portable.h"
 #include "portable_shape.h"
+#include "portable_xor.h"
 #include <string.h>
 
 #ifndef SIDE
@@ -47,23 +48,6 @@ void SIDE(fill)(const uint8_t key[16], const uint8_t iv[16], uint32_t tweak, uin
 }
 
 /* ---- one vector */
-
-static void xor_bytes(uint8_t *restrict d, const uint8_t *restrict s, size_t n)
-{
-    for (size_t i = 0; i < n; i++)
-        d[i] ^= s[i];
-}
-
-/* a whole block, in two words */
-static void xor_block(uint8_t *d, const uint8_t s[16])
-{
-    uint64_t x[2], y[2];
-    memcpy(x, d, 16);
-    memcpy(y, s, 16);
-    x[0] ^= y[0];
-    x[1] ^= y[1];
-    memcpy(d, x, 16);
-}
 
 /* adds the row of a seed to `total`, if there is one, and to the columns whose bit the number has set; no other column is touched */
 void SIDE(add_row)(const uint8_t seed[16], const uint8_t iv[16], uint32_t tweak, size_t b, size_t k, size_t number, uint8_t *total, uint8_t *cols)

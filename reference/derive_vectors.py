@@ -1,5 +1,6 @@
 #!/usr/bin/env python3
-"""What the second implementation prints for the cases of crates/vectors, crates/vectors_stretches and crates/vectors_records, the programs that make the calls.
+"""What the second implementation prints for the cases of crates/vectors, crates/vectors_stretches, crates/vectors_records and crates/v1_vectors, the
+programs that make the calls.
 
     derive_vectors.py            compares it with the file `stdout` of each; exit status 1 at the first line that differs
     derive_vectors.py --write    writes these files
@@ -23,8 +24,11 @@ The cases are the calls of these forms in the src/main.rt of each, whose first l
     decode_at_level(LEVEL, TAU, K, W, T, C0, C1, C2, C3), plan_at_level(..)                 the command of this name
     probe_commit_at_level(LEVEL, TAU, K, W, T, ..), probe_open_at_level(..) ..              the probe of this name
     at_kind(KIND, LEVEL, TAU, ..), stretch_at_kind(..), record_at_kind(..) ..               each form at_level with the leaf kind in front
+    v1_case(LEVEL, TAU, K, ROWBITS, ROOTIV, C0, C1, C2, C3)                                 v1_commit, v1_open, v1_reconstruct, with w 0, T 1 and kind 0
+    v1_refused(KIND, LEVEL, TAU, K, W, T, ROWBITS), v1_flipped(LEVEL, TAU, K, ROWBITS, FLIP)  the same
+    probe_v1_commit(KIND, LEVEL, TAU, K, W, T, ..), probe_v1_open(..) ..                    the probe of this name
 
-All others are at level 128, and all but those at_kind of kind 0. C0 to C3 are words of a challenge, the least byte first; it is the first level / 8 bytes of them. The root of a digit
+All others are at level 128, and all but those at_kind and of v1 of kind 0. C0 to C3 are words of a challenge, the least byte first; it is the first level / 8 bytes of them. The root of a digit
 is the 16 bytes of that digit followed by the same bytes again, cut to level / 8 bytes; the IV is the 16 bytes. For a level that there is not, root and challenge have
 16 bytes.
 
@@ -52,10 +56,11 @@ LENGTHS.update({f'{form}_at_level': 11 for form in RECORDS})
 LENGTHS.update({f'{form}_at_level': LENGTHS[form] + 1 for form in PROBES})
 LENGTHS.update({'at_level': 11, 'stretch_at_level': 13, 'decode_at_level': 9, 'plan_at_level': 9})
 LENGTHS.update({form.removesuffix('level') + 'kind': length + 1 for form, length in LENGTHS.items() if form.endswith('at_level')})
+LENGTHS.update({'v1_case': 9, 'v1_refused': 7, 'v1_flipped': 5, 'probe_v1_commit': 9, 'probe_v1_open': 9, 'probe_v1_reconstruct': 10})
 
 
 # how many cases each program has: a form that the search below misses is noticed
-CASES = {'vectors': 264, 'vectors_stretches': 170, 'vectors_records': 58}
+CASES = {'vectors': 264, 'vectors_stretches': 170, 'vectors_records': 58, 'v1_vectors': 194}
 
 
 def cases(name):
@@ -86,15 +91,31 @@ def root_iv(known, level):
     return [(2 * NUMBERED[known // 10])[:node_digits(level)], NUMBERED[known % 10]]
 
 
-def three_calls(shape, rows, known, challenge, end='', flip=()):
+def three_calls(shape, rows, known, challenge, end='', flip=(), start=''):
     """Commit, open, reconstruct, of a shape that ends with its level and kind."""
     level = shape[4]
     signer = [*map(str, (*shape, *rows)), *root_iv(known, level)]
     both = [*signer, words(*challenge)[:node_digits(level)]]
-    return [['commit' + end, *signer], ['open' + end, *both], ['reconstruct' + end, *both, *flip]]
+    return [[start + 'commit' + end, *signer], [start + 'open' + end, *both], [start + 'reconstruct' + end, *both, *flip]]
+
+
+def version_1_commands(form, case):
+    if form.startswith('probe'):
+        kind, level, *numbers = case
+        return [[form, *map(str, (*numbers[:4], level, kind, *numbers[4:]))]]
+    if form == 'v1_refused':
+        kind, level, *numbers, row_bits = case
+        return three_calls((*numbers, level, kind), [row_bits], 13, (0, 0, 0, 0), start='v1_')
+    level, tau, k, row_bits, *rest = case
+    shape = tau, k, 0, 1, level, 0
+    if form == 'v1_flipped':
+        return three_calls(shape, [row_bits], 13, (0, 0, 0, 0), flip=[str(rest[0])], start='v1_')
+    return three_calls(shape, [row_bits], rest[0], rest[1:], start='v1_')
 
 
 def commands(form, case):
+    if form.removeprefix('probe_').startswith('v1_'):
+        return version_1_commands(form, case)
     name, level, kind = form, 128, 0
     if form.endswith('at_kind'):
         name, kind, case = form.removesuffix('kind') + 'level', case[0], case[1:]

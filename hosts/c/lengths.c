@@ -7,9 +7,9 @@
 
 enum { ROW = 1, MOST_LEAVES = 86016 };
 static uint8_t tree[64 * MOST_LEAVES], lcs[96 * MOST_LEAVES + 1], opening[96 * 32 + 32 * 512 + 1], list[4 * 512 + 1];
-static uint8_t challenge[RACHNOEL_NODE_MOST + 1], iv[RACHNOEL_IV], commitment[RACHNOEL_COMMITMENT_MOST + 1], q[256 * ROW + 1], corrections[31 * ROW + 1], count[RACHNOEL_COUNT];
+static uint8_t challenge[RACHNOEL_NODE_MOST + 1], u[ROW + 1], root[RACHNOEL_NODE_MOST + 1], iv[RACHNOEL_IV], commitment[RACHNOEL_COMMITMENT_MOST + 1], q[256 * ROW + 1], corrections[31 * ROW + 1], count[RACHNOEL_COUNT];
 
-static size_t wrong, shapes;
+static size_t wrong, shapes, of_version_1;
 
 static void expect(int right, const char *what, shape s)
 {
@@ -27,8 +27,45 @@ static size_t reconstruct(shape s, const rachnoel_lengths *n, int longer)
         n->matrix + (longer == 5), count, sizeof count);
 }
 
+/* The same for version 1: no refusal is behind 3, so a call with every length right is made. */
+static size_t commit_v1(shape s, const rachnoel_lengths_v1 *n, int longer)
+{
+    return rachnoel_v1_commit(NUMBERS(s), 8 * ROW, root, n->node + (longer == 1), iv, sizeof iv, commitment, n->commitment + (longer == 2), tree, n->trees + (longer == 3), lcs,
+        n->leaf_commitments + (longer == 4), u, n->u + (longer == 5), q, n->matrix + (longer == 6), corrections, n->corrections + (longer == 7), count, sizeof count);
+}
+
+static size_t open_v1(shape s, const rachnoel_lengths_v1 *n, int longer)
+{
+    return rachnoel_v1_open(NUMBERS(s), challenge, n->node + (longer == 1), tree, n->trees + (longer == 2), lcs, n->leaf_commitments + (longer == 3), opening,
+        n->opening + (longer == 4), count, sizeof count);
+}
+
+static size_t reconstruct_v1(shape s, const rachnoel_lengths_v1 *n, int longer)
+{
+    return rachnoel_v1_reconstruct(NUMBERS(s), 8 * ROW, iv, sizeof iv, challenge, n->node + (longer == 1), corrections, n->corrections + (longer == 2), opening,
+        n->opening + (longer == 3), commitment, n->commitment + (longer == 4), tree, n->trees + (longer == 5), lcs, n->leaf_commitments + (longer == 6), q,
+        n->matrix + (longer == 7), count, sizeof count);
+}
+
+static void try_version_1(shape s)
+{
+    const rachnoel_lengths_v1 n = rachnoel_lengths_of_v1(NUMBERS(s), ROW);
+    const size_t number = rachnoel_v1_open(NUMBERS(s), challenge, 0, tree, 0, lcs, 0, opening, 0, count, sizeof count);
+    expect(number == (n.leaves == 0 ? RACHNOEL_SHAPE : RACHNOEL_BUFFER), "a shape of version 1", s);
+    if (n.leaves == 0)
+        return;
+    of_version_1++;
+    for (int longer = 0; longer <= 7; longer++) {
+        const size_t right = longer ? RACHNOEL_BUFFER : 0;
+        expect(commit_v1(s, &n, longer) == right, "the buffers of commit of version 1", s);
+        expect(longer > 4 || open_v1(s, &n, longer) == right, "the buffers of open of version 1", s);
+        expect(reconstruct_v1(s, &n, longer) == right, "the buffers of reconstruct of version 1", s);
+    }
+}
+
 static void try(shape s)
 {
+    try_version_1(s);
     const rachnoel_lengths n = rachnoel_lengths_of(NUMBERS(s), ROW);
     size_t number = rachnoel_decode(NUMBERS(s), challenge, 0, list, 0, count, sizeof count);
     expect(number == (n.leaves == 0 ? RACHNOEL_SHAPE : RACHNOEL_BUFFER), "a shape", s);
@@ -67,6 +104,6 @@ int main(void)
             *numbers[place] = large[i];
             try(s);
         }
-    printf("%zu shapes, %zu wrong\n", shapes, wrong);
+    printf("%zu shapes, %zu of version 1, %zu wrong\n", shapes, of_version_1, wrong);
     return wrong != 0;
 }

@@ -4,8 +4,9 @@
 #include <rachnoel.h>
 
 #include "guarded.h"
+#include "shape.h"
 
-enum call { DECODE, PLAN, COMMIT, COMMIT_STRETCH, OPEN, RECONSTRUCT, RECONSTRUCT_STRETCH, CALLS };
+enum call { DECODE, PLAN, COMMIT, COMMIT_STRETCH, OPEN, RECONSTRUCT, RECONSTRUCT_STRETCH, V1_COMMIT, V1_OPEN, V1_RECONSTRUCT, CALLS };
 enum buffer { ROOT, IV, CHALLENGE, TREE, LCS, CORRECTIONS, OPENING, INDICES, NODES, COMMITMENT, U, V, COUNT, BUFFERS, NONE };
 
 /* the slices of a call in order; the first `inputs` of them are read */
@@ -22,11 +23,21 @@ static const struct {
     {"open", 3, 5, {CHALLENGE, TREE, LCS, OPENING, COUNT}, 0, 0, 1, 1, 0},
     {"reconstruct", 4, 9, {IV, CHALLENGE, CORRECTIONS, OPENING, COMMITMENT, TREE, LCS, V, COUNT}, 1, 0, 1, 1, 1},
     {"reconstruct_stretch", 4, 9, {IV, CHALLENGE, CORRECTIONS, OPENING, COMMITMENT, TREE, LCS, V, COUNT}, 1, 1, 1, 1, 1},
+    {"v1_commit", 2, 9, {ROOT, IV, COMMITMENT, TREE, LCS, U, V, CORRECTIONS, COUNT}, 1, 0, 0, 0, 0},
+    {"v1_open", 3, 5, {CHALLENGE, TREE, LCS, OPENING, COUNT}, 0, 0, 0, 0, 0},
+    {"v1_reconstruct", 4, 9, {IV, CHALLENGE, CORRECTIONS, OPENING, COMMITMENT, TREE, LCS, V, COUNT}, 1, 0, 0, 0, 0},
 };
 
-/* a call: the shape is tau, 2, 124, t at a level and of a kind; `other` is the buffer that has another length, `len` */
+/* the shape that is right: the smallest of version 2 that needs nodes, and the smallest of version 1 */
+static shape right_shape(enum call call, size_t kind)
+{
+    return call >= V1_COMMIT ? (shape){32, 4, 0, 1, 128, 0} : (shape){2, 2, 124, 5, 128, kind};
+}
+
+/* a call: `other` is the buffer that has another length, `len` */
 struct given {
-    size_t tau, t, level, kind, bits, first, width;
+    shape s;
+    size_t bits, first, width;
     enum buffer other;
     size_t len;
     uint8_t challenge0, challenge15, slot; /* bytes 0 and 15 of the challenge, the last of the opening; all other bytes of inputs are 0 */
@@ -39,18 +50,23 @@ struct given {
 static size_t make(enum call call, const struct given *g, uint8_t *const p[], const size_t n[])
 {
     switch (call) {
-    case DECODE: return rachnoel_decode(g->tau, 2, 124, g->t, g->level, g->kind, SLICE(0), SLICE(1), SLICE(2));
-    case PLAN: return rachnoel_plan(g->tau, 2, 124, g->t, g->level, g->kind, SLICE(0), SLICE(1), SLICE(2));
-    case OPEN: return rachnoel_open(g->tau, 2, 124, g->t, g->level, g->kind, SLICE(0), SLICE(1), SLICE(2), SLICE(3), SLICE(4));
+    case DECODE: return rachnoel_decode(NUMBERS(g->s), SLICE(0), SLICE(1), SLICE(2));
+    case PLAN: return rachnoel_plan(NUMBERS(g->s), SLICE(0), SLICE(1), SLICE(2));
+    case OPEN: return rachnoel_open(NUMBERS(g->s), SLICE(0), SLICE(1), SLICE(2), SLICE(3), SLICE(4));
     case COMMIT:
-        return rachnoel_commit(g->tau, 2, 124, g->t, g->level, g->kind, g->bits, SLICE(0), SLICE(1), SLICE(2), SLICE(3), SLICE(4), SLICE(5), SLICE(6), SLICE(7), SLICE(8));
+        return rachnoel_commit(NUMBERS(g->s), g->bits, SLICE(0), SLICE(1), SLICE(2), SLICE(3), SLICE(4), SLICE(5), SLICE(6), SLICE(7), SLICE(8));
     case COMMIT_STRETCH:
-        return rachnoel_commit_stretch(g->tau, 2, 124, g->t, g->level, g->kind, g->bits, g->first, g->width, SLICE(0), SLICE(1), SLICE(2), SLICE(3), SLICE(4), SLICE(5), SLICE(6), SLICE(7),
+        return rachnoel_commit_stretch(NUMBERS(g->s), g->bits, g->first, g->width, SLICE(0), SLICE(1), SLICE(2), SLICE(3), SLICE(4), SLICE(5), SLICE(6), SLICE(7),
             SLICE(8));
+    case V1_OPEN: return rachnoel_v1_open(NUMBERS(g->s), SLICE(0), SLICE(1), SLICE(2), SLICE(3), SLICE(4));
+    case V1_COMMIT:
+        return rachnoel_v1_commit(NUMBERS(g->s), g->bits, SLICE(0), SLICE(1), SLICE(2), SLICE(3), SLICE(4), SLICE(5), SLICE(6), SLICE(7), SLICE(8));
+    case V1_RECONSTRUCT:
+        return rachnoel_v1_reconstruct(NUMBERS(g->s), g->bits, SLICE(0), SLICE(1), SLICE(2), SLICE(3), SLICE(4), SLICE(5), SLICE(6), SLICE(7), SLICE(8));
     case RECONSTRUCT:
-        return rachnoel_reconstruct(g->tau, 2, 124, g->t, g->level, g->kind, g->bits, SLICE(0), SLICE(1), SLICE(2), SLICE(3), SLICE(4), SLICE(5), SLICE(6), SLICE(7), SLICE(8));
+        return rachnoel_reconstruct(NUMBERS(g->s), g->bits, SLICE(0), SLICE(1), SLICE(2), SLICE(3), SLICE(4), SLICE(5), SLICE(6), SLICE(7), SLICE(8));
     default:
-        return rachnoel_reconstruct_stretch(g->tau, 2, 124, g->t, g->level, g->kind, g->bits, g->first, g->width, SLICE(0), SLICE(1), SLICE(2), SLICE(3), SLICE(4), SLICE(5), SLICE(6),
+        return rachnoel_reconstruct_stretch(NUMBERS(g->s), g->bits, g->first, g->width, SLICE(0), SLICE(1), SLICE(2), SLICE(3), SLICE(4), SLICE(5), SLICE(6),
             SLICE(7), SLICE(8));
     }
 }
@@ -58,12 +74,16 @@ static size_t make(enum call call, const struct given *g, uint8_t *const p[], co
 /* what a buffer's length must be */
 static size_t right_length(enum call call, enum buffer b, const struct given *g)
 {
-    const rachnoel_lengths n = rachnoel_lengths_of(2, 2, 124, g->t, 128, g->kind > 1 ? 0 : g->kind, calls[call].stretch ? g->width : g->bits / 8);
+    const size_t row = calls[call].stretch ? g->width : g->bits / 8;
+    shape s = right_shape(call, g->s.kind > 1 ? 0 : g->s.kind);
+    const rachnoel_lengths_v1 m = rachnoel_lengths_of_v1(NUMBERS(s), row);
+    s.t = call >= V1_COMMIT ? 1 : g->s.t;
+    const rachnoel_lengths n = rachnoel_lengths_of(NUMBERS(s), row);
     switch (b) {
-    case TREE: return n.tree;
-    case LCS: return n.leaf_commitments;
+    case TREE: return call >= V1_COMMIT ? m.trees : n.tree;
+    case LCS: return call >= V1_COMMIT ? m.leaf_commitments : n.leaf_commitments;
     case CORRECTIONS: return n.corrections;
-    case OPENING: return n.opening;
+    case OPENING: return call >= V1_COMMIT ? m.opening : n.opening;
     case INDICES: return n.indices;
     case NODES: return n.nodes;
     case COMMITMENT: return 32;
@@ -120,7 +140,7 @@ static void run(enum call call, const struct given *g, size_t number, uint8_t co
         wrong += p[last][j] != (count_given && j < 4 ? word[j] : fill);
     if (wrong)
         printf("%s: answered %zu, not %zu, or a buffer is not as it must be (tau %zu, t %zu, level %zu, kind %zu, rows of %zu bits, stretch %zu %zu, buffer %d of %zu bytes)\n", calls[call].name,
-            answer, number, g->tau, g->t, g->level, g->kind, g->bits, g->first, g->width, (int)g->other, g->len);
+            answer, number, g->s.tau, g->s.t, g->s.level, g->s.kind, g->bits, g->first, g->width, (int)g->other, g->len);
     tried++;
     failed += wrong != 0;
     for (size_t i = 0; i < slices; i++)
@@ -137,29 +157,30 @@ static void expect(enum call call, struct given g, size_t number, uint8_t count)
 
 static void try(enum call call, size_t kind)
 {
-    const struct given right = {2, 5, 128, kind, 32, 1, 2, NONE, 0, 0x0c, 0, 0};
+    const struct given right = {right_shape(call, kind), 32, 1, 2, NONE, 0, 0x0c, 0, 0};
     const uint8_t planned = calls[call].nodes ? 4 : 0;
     struct given g = right;
     expect(call, g, 0, planned);
 
     /* 1, also before all others */
-    g.tau = 33;
+    g.s.tau = 33;
     expect(call, g, 1, 0);
-    g = (struct given){33, 2, 128, kind, 12, 9, 9, COUNT, 3, 0x0c, 0x80, 1};
+    g = (struct given){g.s, 12, 9, 9, COUNT, 3, 0x0c, 0x80, 1};
+    g.s.t = 2;
     expect(call, g, 1, 0);
     g = right;
-    g.t = 0;
+    g.s.t = 0;
     expect(call, g, 1, 0);
     static const size_t levels[] = {0, 127, 129, 160, 192, 256, 384, (size_t)-1};
     for (size_t i = 0; i < sizeof levels / sizeof levels[0]; i++) {
         g = right;
-        g.level = levels[i];
+        g.s.level = levels[i];
         expect(call, g, 1, 0);
     }
     static const size_t kinds[] = {2, 3, 256, (size_t)-1};
     for (size_t i = 0; i < sizeof kinds / sizeof kinds[0]; i++) {
         g = right;
-        g.kind = kinds[i];
+        g.s.kind = kinds[i];
         expect(call, g, 1, 0);
     }
 
@@ -169,7 +190,8 @@ static void try(enum call call, size_t kind)
         g = right;
         g.bits = rows[i];
         expect(call, g, 2, 0);
-        g = (struct given){2, 2, 128, kind, rows[i], 9, 9, COUNT, 3, 0x0c, 0x80, 1};
+        g = (struct given){right.s, rows[i], 9, 9, COUNT, 3, 0x0c, 0x80, 1};
+        g.s.t = call >= V1_COMMIT ? 1 : 2;
         expect(call, g, 2, 0);
     }
 
@@ -219,7 +241,7 @@ static void try(enum call call, size_t kind)
         g = right;
         g.challenge15 = high[i];
         expect(call, g, 4, 0);
-        g.t = 2;
+        g.s.t = 2;
         g.slot = 1;
         expect(call, g, 4, 0);
     }
@@ -231,11 +253,11 @@ static void try(enum call call, size_t kind)
 
     /* 5, also before 6; with as many as t it is none */
     g = right;
-    g.t = 3;
+    g.s.t = 3;
     expect(call, g, 5, 4);
     g.slot = 1;
     expect(call, g, 5, 4);
-    g.t = 4;
+    g.s.t = 4;
     g.slot = 0;
     expect(call, g, 0, 4);
 
@@ -252,11 +274,32 @@ static void try(enum call call, size_t kind)
     expect(call, g, 0, 2);
 }
 
+/* shapes of version 2 that are none of version 1, also before 2 and 3; and a challenge of ones, of which version 1 refuses none */
+static void try_version_1(enum call call)
+{
+    static const shape others[] = {{31, 4, 4, 1, 128, 0}, {32, 3, 32, 1, 128, 0}, {32, 4, 0, 2, 128, 0}, {32, 4, 0, 512, 128, 0}, {32, 4, 0, 1, 128, 1}, FAEST_128S, FAEST_128F, FAEST_192F,
+        FAEST_EM_128F, DEFAULT};
+    for (size_t i = 0; i < sizeof others / sizeof others[0]; i++) {
+        struct given g = {others[i], 32, 1, 2, NONE, 0, 0x0c, 0, 0};
+        expect(call, g, 1, 0);
+        g.bits = 12;
+        g.other = COUNT;
+        g.len = 3;
+        expect(call, g, 1, 0);
+    }
+    const struct given ones = {right_shape(call, 0), 32, 1, 2, NONE, 0, 0xff, 0xff, 1};
+    expect(call, ones, 0, 0);
+}
+
 int main(void)
 {
-    for (int call = 0; call < CALLS; call++)
+    for (int call = 0; call < V1_COMMIT; call++)
         for (size_t kind = 0; kind < 2; kind++)
             try((enum call)call, kind);
+    for (int call = V1_COMMIT; call < CALLS; call++) {
+        try((enum call)call, 0);
+        try_version_1((enum call)call);
+    }
     printf("%d calls between forbidden pages, %d wrong\n", tried, failed);
     return failed != 0;
 }

@@ -25,6 +25,14 @@ typedef struct shape {
 #define FAEST_EM_256F {32, 7, 8, 234, 256, 1}
 #define DEFAULT {0, 0, 0, 0, 128, 0}
 
+/* the sets of version 1 */
+#define V1_128S {11, 11, 0, 1, 128, 0}
+#define V1_128F {16, 8, 0, 1, 128, 0}
+#define V1_192S {16, 12, 0, 1, 192, 0}
+#define V1_192F {24, 8, 0, 1, 192, 0}
+#define V1_256S {22, 11, 0, 1, 256, 0}
+#define V1_256F {32, 8, 0, 1, 256, 0}
+
 /* the grinding bits that a shape means */
 static inline size_t grinding_bits(shape s)
 {

@@ -18,7 +18,8 @@ static size_t bits; /* of a row */
 static int named;   /* whether shape and row length are a named set's */
 #define SHAPE NUMBERS(now)
 
-static rachnoel_lengths n, m; /* of the whole rows, and of the stretch */
+static rachnoel_lengths n, m;  /* of the whole rows, and of the stretch */
+static rachnoel_lengths_v1 n1; /* of version 1 */
 static uint8_t root[RACHNOEL_NODE_MOST], iv[RACHNOEL_IV], challenge[RACHNOEL_NODE_MOST], commitment[RACHNOEL_COMMITMENT_MOST], count[RACHNOEL_COUNT];
 static uint8_t record[RACHNOEL_RECORD_MOST], length[RACHNOEL_RECORD_LENGTH], lengths[RACHNOEL_WORK_LENGTHS];
 static uint8_t *tree, *lcs, *u, *v, *corrections, *opening, *indices, *nodes;
@@ -62,16 +63,28 @@ static void check_named(void)
     if (!named)
         answer = answer == RACHNOEL_NOT_NAMED ? 0 : RACHNOEL_NOT_NAMED;
 }
+static void v1_commit(void)
+{
+    answer = rachnoel_v1_commit(SHAPE, bits, root, n1.node, iv, 16, commitment, n1.commitment, tree, n1.trees, lcs, n1.leaf_commitments, u, n1.u, v, n1.matrix, corrections,
+        n1.corrections, count, 4);
+}
+static void v1_open(void) { answer = rachnoel_v1_open(SHAPE, challenge, n1.node, tree, n1.trees, lcs, n1.leaf_commitments, opening, n1.opening, count, 4); }
+static void v1_reconstruct(void)
+{
+    answer = rachnoel_v1_reconstruct(SHAPE, bits, iv, 16, challenge, n1.node, corrections, n1.corrections, opening, n1.opening, commitment, n1.commitment, tree, n1.trees, lcs,
+        n1.leaf_commitments, v, n1.matrix, count, 4);
+}
 static void nothing(void) {}
 
-/* in this order each finds what it needs: a record is written of what commit and open gave, and then checked */
+/* in this order each finds what it needs: a record is written of what commit and open gave, and then checked; those from V1 on are made at shapes of
+ * version 1, the others but the first at those of version 2 */
 static const struct {
     const char *name;
     void (*work)(void);
 } calls[] = {{"nothing", nothing}, {"decode", decode}, {"plan", plan}, {"commit", commit}, {"commit_stretch", commit_stretch}, {"open", opened}, {"reconstruct", reconstruct},
     {"reconstruct_stretch", reconstruct_stretch}, {"record_length", record_length}, {"write_record", write_record}, {"work_lengths", work_lengths},
-    {"check_record", check_record}, {"check_named", check_named}};
-enum { CALLS = sizeof calls / sizeof calls[0] };
+    {"check_record", check_record}, {"check_named", check_named}, {"v1_commit", v1_commit}, {"v1_open", v1_open}, {"v1_reconstruct", v1_reconstruct}};
+enum { CALLS = sizeof calls / sizeof calls[0], V1 = CALLS - 3 };
 
 /* the bytes of a filled stack that the call changed */
 static size_t depth(void (*work)(void))
@@ -106,7 +119,8 @@ int main(void)
         {FAEST_EM_128S, 1360, 1}, {FAEST_EM_128F, 1360, 1}, {FAEST_EM_192S, 2320, 1}, {FAEST_EM_192F, 2320, 1}, {FAEST_EM_256S, 3472, 1}, {FAEST_EM_256F, 3472, 1},
         {{10, 12, 8, 512, 128, 0}, 1680, 0}, {{32, 4, 0, 512, 128, 0}, 1680, 0}, {{10, 11, 9, 512, 128, 0}, 1680, 0}, {{1, 1, 127, 1, 128, 0}, 1680, 0}, {{16, 12, 0, 512, 192, 0}, 1680, 0},
         {{32, 2, 127, 512, 192, 0}, 1680, 0}, {{21, 12, 4, 512, 256, 0}, 1680, 0}, {{32, 8, 0, 512, 256, 0}, 1680, 0}, {{21, 11, 5, 512, 256, 0}, 1680, 0},
-        {{21, 12, 4, 512, 256, 1}, 1680, 0}, {{32, 8, 0, 512, 256, 1}, 1680, 0}, {{1, 1, 127, 1, 128, 1}, 1680, 0}};
+        {{21, 12, 4, 512, 256, 1}, 1680, 0}, {{32, 8, 0, 512, 256, 1}, 1680, 0}, {{1, 1, 127, 1, 128, 1}, 1680, 0}, {V1_128S, 1680, 0}, {V1_128F, 1680, 0}, {V1_192S, 3088, 0},
+        {V1_192F, 3088, 0}, {V1_256S, 3888, 0}, {V1_256F, 3888, 0}, {{32, 4, 0, 1, 128, 0}, 1680, 0}};
     size_t deepest[CALLS] = {0}, wrong = 0;
     for (size_t i = 0; i < sizeof cases / sizeof cases[0]; i++) {
         now = cases[i].s;
@@ -114,16 +128,20 @@ int main(void)
         named = cases[i].named;
         n = rachnoel_lengths_of(SHAPE, bits / 8);
         m = rachnoel_lengths_of(SHAPE, WIDTH);
+        n1 = rachnoel_lengths_of_v1(SHAPE, bits / 8);
         tree = calloc(1, n.tree), lcs = calloc(1, n.leaf_commitments), u = calloc(1, n.u), v = calloc(1, n.matrix), corrections = calloc(1, n.corrections);
-        opening = calloc(1, n.opening), indices = calloc(1, n.indices), nodes = calloc(1, n.nodes);
+        opening = calloc(1, n.opening + n1.opening), indices = calloc(1, n.indices), nodes = calloc(1, n.nodes);
         if (!tree || !lcs || !u || !v || !corrections || !opening || !indices || !nodes)
             return 1;
-        /* hidden leaves far apart where T allows it */
+        /* hidden leaves far apart where T allows it, and in version 1 */
+        const int version_1 = n1.leaves > 0;
         memset(challenge, 0, sizeof challenge);
-        for (size_t b = 0; now.t == 512 && b < now.level - now.w; b++)
+        for (size_t b = 0; (now.t == 512 || version_1) && b < now.level - now.w; b++)
             if (b * b % 7 == 4)
                 challenge[b / 8] = (uint8_t)(challenge[b / 8] | 1u << b % 8);
         for (size_t c = 0; c < CALLS; c++) {
+            if (c > 0 && (c >= V1) != version_1)
+                continue;
             answer = 0;
             calls[c].work(); /* the first call may bind names of the C library, on the stack it runs on */
             const size_t d = depth(calls[c].work);

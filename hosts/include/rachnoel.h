@@ -1,4 +1,5 @@
-/* rachnoel.h: the batch vector commitment of FAEST version 2, as a C host calls it (docs/API.md says what each call does).
+/* rachnoel.h: the batch vector commitment of FAEST version 2, as a C host calls it (docs/API.md says what each call does); that of version 1 has the calls
+ * whose names begin with rachnoel_v1_.
  *
  * A shape is six numbers: tau, k, w, t, the security level in bits, 128, 192 or 256, and the leaf kind, 0 ordinary, 1 Even-Mansour (FAEST-EM). Zeros for the first four at
  * level 128 and kind 0 stand for the default, FAEST-128f.
@@ -93,6 +94,30 @@ static inline rachnoel_lengths rachnoel_lengths_of(size_t tau, size_t k, size_t 
     return n;
 }
 
+typedef struct rachnoel_lengths_v1 {
+    size_t leaves; /* a number of leaves; all others are lengths in bytes */
+    size_t node, commitment, trees, leaf_commitments, u, matrix, corrections, opening;
+} rachnoel_lengths_v1;
+
+/* The same for the calls of version 1. All are 0 where the numbers are no shape of version 1: w is 0, t is 1, kind is 0, and four zeros stand for nothing. */
+static inline rachnoel_lengths_v1 rachnoel_lengths_of_v1(size_t tau, size_t k, size_t w, size_t t, size_t level, size_t kind, size_t row_bytes)
+{
+    const rachnoel_lengths m = rachnoel_lengths_of(tau, k, w, t, level, kind, row_bytes);
+    rachnoel_lengths_v1 n = {0, 0, 0, 0, 0, 0, 0, 0, 0};
+    if (m.leaves == 0 || w != 0 || t != 1 || kind != 0)
+        return n;
+    n.leaves = m.leaves;
+    n.node = m.node;
+    n.commitment = m.commitment;
+    n.trees = m.node * (2 * m.leaves - tau);
+    n.leaf_commitments = 2 * m.node * m.leaves;
+    n.u = m.u;
+    n.matrix = m.matrix;
+    n.corrections = m.corrections;
+    n.opening = m.node * (level + 2 * tau);
+    return n;
+}
+
 /* The number in four bytes of `indices`, `nodes`, `count` or of lengths. */
 static inline uint32_t rachnoel_number(const uint8_t bytes[4])
 {
@@ -141,6 +166,27 @@ size_t rachnoel_reconstruct_stretch(size_t tau, size_t k, size_t w, size_t t, si
     const uint8_t *challenge, size_t challenge_len, const uint8_t *corrections, size_t corrections_len, const uint8_t *opening, size_t opening_len,
     uint8_t *commitment, size_t commitment_len, uint8_t *tree, size_t tree_len, uint8_t *leaf_commitments, size_t leaf_commitments_len, uint8_t *q, size_t q_len,
     uint8_t *count, size_t count_len);
+
+/* ---- version 1, the signing half: librachnoel_v1_signer
+ *
+ * A tree for each vector, with w 0, t 1 and kind 0; the count is 0, and no challenge is refused. No byte of version 1 was compared with another maker's. */
+
+/* The commitment to the trees that grow from a root. Root, trees, u and v are secret. Refusals 1, 2, 3. */
+size_t rachnoel_v1_commit(size_t tau, size_t k, size_t w, size_t t, size_t level, size_t kind, size_t row_bits, const uint8_t *root, size_t root_len, const uint8_t *iv, size_t iv_len,
+    uint8_t *commitment, size_t commitment_len, uint8_t *trees, size_t trees_len, uint8_t *leaf_commitments, size_t leaf_commitments_len, uint8_t *u, size_t u_len,
+    uint8_t *v, size_t v_len, uint8_t *corrections, size_t corrections_len, uint8_t *count, size_t count_len);
+
+/* The opening of a challenge, from the trees and the leaf commitments that commit wrote. Open the trees for one challenge only. Refusals 1, 3. */
+size_t rachnoel_v1_open(size_t tau, size_t k, size_t w, size_t t, size_t level, size_t kind, const uint8_t *challenge, size_t challenge_len, const uint8_t *trees, size_t trees_len,
+    const uint8_t *leaf_commitments, size_t leaf_commitments_len, uint8_t *opening, size_t opening_len, uint8_t *count, size_t count_len);
+
+/* ---- version 1, the checking half: librachnoel_v1_verifier */
+
+/* Commitment, trees, leaf commitments and q from an opening. The host compares the commitment with the one that it was given. Refusals 1, 2, 3. */
+size_t rachnoel_v1_reconstruct(size_t tau, size_t k, size_t w, size_t t, size_t level, size_t kind, size_t row_bits, const uint8_t *iv, size_t iv_len, const uint8_t *challenge,
+    size_t challenge_len, const uint8_t *corrections, size_t corrections_len, const uint8_t *opening, size_t opening_len, uint8_t *commitment,
+    size_t commitment_len, uint8_t *trees, size_t trees_len, uint8_t *leaf_commitments, size_t leaf_commitments_len, uint8_t *q, size_t q_len, uint8_t *count,
+    size_t count_len);
 
 /* ---- records, checked: librachnoel_broker
  *

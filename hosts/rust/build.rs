@@ -5,11 +5,11 @@ use std::process::Command;
 
 fn main() {
     println!("cargo:rerun-if-env-changed=PKG_CONFIG_PATH");
-    for half in ["planning", "signer", "verifier", "broker", "writer"] {
+    for half in ["planning", "signer", "verifier", "broker", "writer", "v1_signer", "v1_verifier"] {
         if env::var_os(format!("CARGO_FEATURE_{}", half.to_uppercase())).is_none() {
             continue;
         }
-        let package = format!("rachnoel-{half}");
+        let package = format!("rachnoel-{}", half.replace('_', "-"));
         let asked = Command::new("pkg-config").args(["--variable=libdir", &package]).output();
         let folder = match asked {
             Ok(output) if output.status.success() => String::from_utf8(output.stdout).expect("a path"),

@@ -13,6 +13,7 @@ use crate::report::report;
 use crate::shake::shake128;
 use crate::shape::{row_bytes, Shape};
 use crate::stretch::Stretch;
+use crate::v1_commands;
 
 pub const USAGE: &str = "\
 usage: reference decode      TAU K W T LEVEL KIND CHALLENGE
@@ -31,13 +32,20 @@ usage: reference decode      TAU K W T LEVEL KIND CHALLENGE
        reference probe_reconstruct TAU K W T LEVEL KIND ROWBITS BYTE WHICH MORE SET
        reference probe_decode      TAU K W T LEVEL KIND BYTE WHICH MORE
        reference probe_plan        TAU K W T LEVEL KIND BYTE WHICH MORE
+       reference v1_commit      TAU K W T LEVEL KIND ROWBITS ROOT IV
+       reference v1_open        TAU K W T LEVEL KIND ROWBITS ROOT IV CHALLENGE
+       reference v1_reconstruct TAU K W T LEVEL KIND ROWBITS ROOT IV CHALLENGE [FLIP]
+       reference v1_roundtrip   TAU K W T LEVEL KIND ROWBITS ROOT IV CHALLENGE
+       reference probe_v1_commit      TAU K W T LEVEL KIND ROWBITS WHICH MORE
+       reference probe_v1_open        TAU K W T LEVEL KIND BYTE WHICH MORE
+       reference probe_v1_reconstruct TAU K W T LEVEL KIND ROWBITS BYTE WHICH MORE
        reference list        (its line on standard input)
        reference list_challenges (its line on standard input)
        reference report      (records on standard input)
        reference check       [--named] (a record on standard input)
        reference checks      (records and buffers on standard input)
-Each with ROWBITS but those on records is also there for a stretch of the rows:
-_stretch behind its name, FIRST WIDTH behind ROWBITS. Each on records that has
+Each with ROWBITS but those on records and of v1 is also there for a stretch of the
+rows: _stretch behind its name, FIRST WIDTH behind ROWBITS. Each on records that has
 ROWBITS is also there with a record of version 1, at level 128 and of kind 0:
 _version_1 behind its name.
 Numbers are decimal; ROOT, IV and CHALLENGE are hexadecimal, byte 0 first.
@@ -188,7 +196,10 @@ impl Run {
 
     /// The first answer that is not 0.
     pub fn refused(&self) -> Option<Answer> {
-        self.answers.iter().copied().find(|answer| answer.number != 0)
+        self.answers
+            .iter()
+            .copied()
+            .find(|answer| answer.number != 0)
     }
 
     pub fn commit(&mut self, shape: Shape, rows: Rows, root: &[u8], iv: &[u8]) {
@@ -247,7 +258,7 @@ impl Arguments<'_> {
     }
 
     /// The number that may stand at the end: nothing where it cannot be read.
-    fn optional_number(&mut self) -> Option<Option<usize>> {
+    pub fn optional_number(&mut self) -> Option<Option<usize>> {
         match self.0.as_slice() {
             [] => Some(None),
             _ => Some(Some(self.number()?)),
@@ -404,7 +415,7 @@ pub const PATTERN: u8 = 0xa5;
 
 /// The length of a buffer of a probe: the exact one, or where it is the one that
 /// is changed one less, or more where MORE is not 0.
-fn probed_length(exact: usize, changed: bool, more: usize) -> usize {
+pub fn probed_length(exact: usize, changed: bool, more: usize) -> usize {
     match (changed, more) {
         (false, _) => exact,
         (true, 0) => exact.saturating_sub(1),
@@ -418,7 +429,7 @@ fn probed_node_bytes(shape: Shape) -> usize {
 }
 
 /// What a probe prints: the answer, and whether the outputs are as they were.
-fn probe_lines(answer: Answer, kept: bool) -> String {
+pub fn probe_lines(answer: Answer, kept: bool) -> String {
     let word = if kept { "kept" } else { "written" };
     format!("{}outputs {word}\n", answer_lines(answer))
 }
@@ -581,6 +592,12 @@ pub fn run(args: &[String], input: &mut impl Read) -> Option<Outcome> {
         "decode" | "plan" => numbers_command(command, rest),
         "probe_open" => probe_command(command, false, rest),
         "probe_decode" | "probe_plan" => probe_numbers_command(command, rest),
+        "v1_commit" | "v1_open" | "v1_reconstruct" | "v1_roundtrip" => {
+            v1_commands::bytes_command(command, rest)
+        }
+        "probe_v1_commit" | "probe_v1_open" | "probe_v1_reconstruct" => {
+            v1_commands::probe_command(command, rest)
+        }
         _ => None,
     }
 }

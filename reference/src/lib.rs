@@ -5,7 +5,7 @@
 //! "Document 000" is the FAEST v2.0 specification; its figures and sections
 //! are named beside the functions that carry them out. "Document 01" is the
 //! requirements paper with the five calls and their refusals, "document 02" the
-//! later requests.
+//! later requests. One of these is version 1 of FAEST, in a file of its own.
 
 pub mod aes;
 pub mod bavc;
@@ -22,6 +22,8 @@ pub mod report;
 pub mod shake;
 pub mod shape;
 pub mod stretch;
+pub mod v1;
+mod v1_commands;
 pub mod vole;
 
 /// A string of 128 bits: an IV or an AES block, at every level.

@@ -54,6 +54,11 @@ pub fn h0(level: usize, iv: &Block, tau: usize) -> Vec<LeafCom> {
         .collect()
 }
 
+/// H0 with 3λ bits of a leaf of version 1 (document 02, E12): of its key and the IV.
+pub fn h0_leaf(level: usize, key: &[u8], iv: &Block) -> Vec<u8> {
+    hash(level, &[key, iv].concat(), 0, 3 * level / 8)
+}
+
 /// H1 with 2λ bits.
 pub fn h1(level: usize, message: &[u8]) -> Digest {
     hash(level, message, 1, 2 * level / 8)

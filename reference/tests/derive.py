@@ -287,6 +287,148 @@ def challenge_for(shape, label):
     raise SystemExit(f"no challenge for {label}")
 
 
+def counter_mode(key, iv, length):
+    """The generator of version 1: NIST SP 800-38A, of zeros."""
+    return Cipher(algorithms.AES(key), modes.CTR(iv)).encryptor().update(bytes(length))
+
+
+def grow(nodes, path, node, depth, iv):
+    """A node of version 1 and all that is beneath it, by their paths."""
+    nodes[path] = node
+    if len(path) < depth:
+        both = counter_mode(node, iv, 2 * len(node))
+        grow(nodes, path + "0", both[: len(node)], depth, iv)
+        grow(nodes, path + "1", both[len(node) :], depth, iv)
+
+
+def paths(length):
+    """All paths of this length, from the left."""
+    return [format(j, "b").zfill(length) if length else "" for j in range(2**length)]
+
+
+class Vectors1:
+    """What commit and reconstruct of version 1 have in common: for each vector the
+    nodes that are known, and the commitment of the leaf that is not."""
+
+    def __init__(self, shape, row_bits, iv):
+        self.shape, self.b, self.iv = shape, row_bits // 8, iv
+        self.trees = [{} for _ in shape.depths]
+        self.hidden_coms = [None for _ in shape.depths]
+
+    def finish(self):
+        s, n = self.shape, self.shape.width
+        self.coms, self.rows = [], []
+        for depth, nodes, hidden in zip(s.depths, self.trees, self.hidden_coms):
+            coms, rows = [], []
+            for path in paths(depth):
+                row, com = 0, hidden
+                if path in nodes:
+                    out = hashed(s.level, nodes[path] + self.iv + b"\x00", 3 * n)
+                    row = counter_mode(out[:n], self.iv, self.b)
+                    row, com = int.from_bytes(row, "little"), out[n:]
+                coms.append(com)
+                rows.append(row)
+            self.coms.append(b"".join(coms))
+            self.rows.append(rows)
+        self.us = [self.sum(rows) for rows in self.rows]
+
+    def sum(self, rows):
+        total = 0
+        for row in rows:
+            total ^= row
+        return total.to_bytes(self.b, "little")
+
+    def hash_1(self, message):
+        return hashed(self.shape.level, message + b"\x01", 2 * self.shape.width)
+
+    def lines(self):
+        """Commitment, trees and leaf commitments."""
+        trees = b""
+        for depth, nodes in zip(self.shape.depths, self.trees):
+            for length in range(depth + 1):
+                known = [nodes.get(path) for path in paths(length)]
+                trees += b"".join(x or bytes(self.shape.width) for x in known)
+        commitment = self.hash_1(b"".join(self.hash_1(coms) for coms in self.coms))
+        return [
+            ("commitment", commitment),
+            ("trees", trees),
+            ("leaf_commitments", b"".join(self.coms)),
+        ]
+
+
+class Signer1(Vectors1):
+    """Everything that commit and open of version 1 write."""
+
+    def __init__(self, shape, row_bits, root, iv):
+        super().__init__(shape, row_bits, iv)
+        n = shape.width
+        roots = counter_mode(root, iv, shape.tau * n)
+        for i, depth in enumerate(shape.depths):
+            grow(self.trees[i], "", roots[n * i : n * i + n], depth, iv)
+        self.finish()
+
+    def corrections(self):
+        return b"".join(xor(self.us[0], u) for u in self.us[1:])
+
+    def commit(self):
+        v = b""
+        for depth, rows in zip(self.shape.depths, self.rows):
+            for bit in range(depth):
+                v += self.sum(r for e, r in enumerate(rows) if e >> bit & 1)
+        rest = [("u", self.us[0]), ("v", v), ("corrections", self.corrections())]
+        return self.lines() + rest
+
+    def open(self, challenge):
+        """For each vector the siblings of the path, which are its beginnings with
+        the last digit turned, then the commitment of the hidden leaf."""
+        opening, n = b"", self.shape.width
+        for i, hidden in enumerate(self.shape.indices(challenge)):
+            path = paths(self.shape.depths[i])[hidden]
+            for length in range(1, len(path) + 1):
+                turned = "1" if path[length - 1] == "0" else "0"
+                opening += self.trees[i][path[: length - 1] + turned]
+            opening += self.coms[i][2 * n * hidden : 2 * n * hidden + 2 * n]
+        return opening
+
+
+class Verifier1(Vectors1):
+    """Everything that reconstruct of version 1 writes, from an opening."""
+
+    def __init__(self, shape, row_bits, iv, challenge, corrections, opening):
+        super().__init__(shape, row_bits, iv)
+        n, self.indices = shape.width, shape.indices(challenge)
+        self.corrections = corrections
+        for i, (depth, hidden) in enumerate(zip(shape.depths, self.indices)):
+            path = paths(depth)[hidden]
+            for length in range(1, depth + 1):
+                turned = "1" if path[length - 1] == "0" else "0"
+                sibling = path[: length - 1] + turned
+                grow(self.trees[i], sibling, opening[:n], depth, iv)
+                opening = opening[n:]
+            self.hidden_coms[i] = opening[: 2 * n]
+            opening = opening[2 * n :]
+        assert opening == b""
+        self.finish()
+
+    def reconstruct(self):
+        """Q: the rows under the numbers e xor the hidden index, then the
+        corrections."""
+        q, b = b"", self.b
+        for i, hidden in enumerate(self.indices):
+            for bit in range(self.shape.depths[i]):
+                rows = enumerate(self.rows[i])
+                column = self.sum(r for e, r in rows if (e ^ hidden) >> bit & 1)
+                if i and hidden >> bit & 1:
+                    column = xor(column, self.corrections[b * i - b : b * i])
+                q += column
+        return self.lines() + [("q", q)]
+
+
+def is_shape_1(tau, k, w, t, level, kind):
+    """The limits of document 02, E12."""
+    return (w, t, kind) == (0, 1, 0) and is_shape(tau, k, w, t, level, kind)
+
+
 CASES = [
     # (tau, k, w, T, level, kind), row length in bits, stretch, IV (None: any), label
     # (where it is not the shape)
@@ -380,6 +522,62 @@ REFUSED = [
 ]
 
 
+# Version 1: (tau, k, level), row length in bits, IV (None: any). The IVs are ones, or
+# wrap at 32, 64 or 128 bits: with the first block, within a node and within a row.
+CASES_1 = [
+    ((32, 4, 128), 8, "ff" * 16),
+    ((32, 4, 128), 136, "00112233445566778899aabbffffffff"),
+    ((32, 4, 128), 120, "0123456789abcdefffffffffffffffff"),
+    ((32, 4, 128), 1680, "00" * 16),
+    ((32, 4, 128), 65536, "ff" * 15 + "00"),
+    ((32, 4, 128), 264, "ff" * 4 + "fe" + "ff" * 11),
+    # the first 4, 8 and 24 vectors deeper
+    ((31, 4, 128), 24, "ff" * 15 + "fe"),
+    ((15, 8, 128), 8, None),
+    ((26, 4, 128), 128, None),
+    ((32, 6, 192), 136, "ff" * 15 + "fe"),
+    ((31, 6, 192), 8, "0011223344556677ffffffffffffffff"),
+    ((29, 6, 192), 72, None),
+    ((32, 8, 256), 8, "ff" * 16),
+    ((29, 8, 256), 136, "00112233445566778899aabbfffffffe"),
+    # 128s, 128f, 192f and 256f of version 1
+    ((11, 11, 128), 1680, None),
+    ((16, 8, 128), 1680, None),
+    ((24, 8, 192), 264, None),
+    ((32, 8, 256), 264, None),
+]
+
+# 192s and 256s of version 1: commit and one round trip.
+LARGE_1 = [((16, 12, 192), 72), ((22, 11, 256), 72)]
+
+# Numbers that version 1 refuses: of version 2 with other w, T or kind, four zeros,
+# levels that there are not, and such that do not fit the level.
+REFUSED_1 = [
+    *[(0, 0, 0, 0, level, kind) for level in (128, 192) for kind in (0, 1)],
+    *[(0, 0, 0, 1, level, 0) for level in (0, 128, 256)],
+    *[(32, 4, 0, t, 128, 0) for t in (0, 2, 110, 512, 2**64 - 1)],
+    *[(32, 4, 0, 1, 128, kind) for kind in (1, 2, 256, 2**64 - 1)],
+    *[(32, 4, 0, 1, level, 0) for level in (0, 16, 127, 129, 160, 192, 256)],
+    *[(tau, 12, 0, 1, 12 * tau, 0) for tau in (10, 11, 12, 32)],
+    (32, 4, 127, 1, 128, 0),
+    (32, 3, 1, 1, 128, 0),
+    (32, 3, 32, 1, 128, 0),
+    (16, 7, 8, 110, 128, 0),
+    (16, 7, 8, 1, 128, 0),
+    (11, 11, 7, 102, 128, 0),
+    (11, 11, 7, 1, 128, 0),
+    (11, 10, 0, 1, 128, 0),
+    (10, 12, 0, 1, 128, 0),
+    (15, 12, 0, 1, 192, 0),
+    (21, 12, 0, 1, 256, 0),
+    (33, 3, 0, 1, 128, 0),
+    (32, 5, 0, 1, 128, 0),
+    (128, 1, 0, 1, 128, 0),
+    (24, 7, 8, 163, 192, 0),
+    (32, 7, 8, 246, 256, 0),
+]
+
+
 def root_and_iv(label, shape, iv=None):
     root = shake(f"root {label}".encode(), shape.width)
     return root, bytes.fromhex(iv) if iv else shake(f"iv {label}".encode(), 16)
@@ -390,6 +588,57 @@ def label_of(numbers):
     if numbers[5] == 0:
         numbers = numbers[:4] if numbers[4] == 128 else numbers[:5]
     return " ".join(map(str, numbers))
+
+
+def version_1(numbers, row_bits, iv):
+    """Commit, and for two challenges open, reconstruct and the round trip; the last
+    reconstruct has a byte of the opening flipped."""
+    tau, k, level = numbers
+    shape, label = Shape(tau, k, 0, 1, level, 0), f"version 1 {tau} {k} {level} {row_bits}"
+    assert is_shape_1(tau, k, 0, 1, level, 0)
+    root, iv = root_and_iv(label, shape, iv)
+    signer = Signer1(shape, row_bits, root, iv)
+    long = [tau, k, 0, 1, level, 0, row_bits, root.hex(), iv.hex()]
+    show("v1_commit", long, 0, signer.commit())
+    for n in range(2):
+        challenge = shake(f"challenge {label} {n}".encode(), shape.width)
+        arguments = [*long, challenge.hex()]
+        opening = signer.open(challenge)
+        show("v1_open", arguments, 0, [("opening", opening)])
+        rest = shape, row_bits, iv, challenge, signer.corrections()
+        made = Verifier1(*rest, opening).reconstruct()
+        show("v1_reconstruct", arguments, 0, made)
+        assert dict(made)["commitment"] == dict(signer.commit())["commitment"]
+        round_trip_1(shape, arguments)
+    flip = int.from_bytes(shake(f"flip {label}".encode(), 4), "little") % len(opening)
+    changed = opening[:flip] + bytes([opening[flip] ^ 1]) + opening[flip + 1 :]
+    made = Verifier1(*rest, changed).reconstruct()
+    show("v1_reconstruct", [*arguments, flip], 0, made)
+
+
+def round_trip_1(shape, arguments):
+    show("v1_roundtrip", arguments, 0, [])
+    print("commitments agree")
+    print(f"columns {shape.level} of {shape.level}")
+
+
+def large_1(numbers, row_bits):
+    tau, k, level = numbers
+    shape, label = Shape(tau, k, 0, 1, level, 0), f"version 1 {tau} {k} {level} {row_bits}"
+    root, iv = root_and_iv(label, shape)
+    challenge = shake(f"challenge {label} 0".encode(), shape.width)
+    long = [tau, k, 0, 1, level, 0, row_bits, root.hex(), iv.hex()]
+    show("v1_commit", long, 0, Signer1(shape, row_bits, root, iv).commit())
+    round_trip_1(shape, [*long, challenge.hex()])
+
+
+def refused_1(numbers):
+    assert not is_shape_1(*numbers)
+    node = bytes(numbers[4] // 8 if numbers[4] in (192, 256) else 16).hex()
+    iv = bytes(16).hex()
+    refused("v1_commit", [*numbers, 8, node, iv], 1)
+    for command in ("v1_open", "v1_reconstruct", "v1_roundtrip"):
+        refused(command, [*numbers, 8, node, iv, node], 1)
 
 
 def main():
@@ -444,6 +693,12 @@ def main():
         for command in ("open", "reconstruct", "roundtrip", "record"):
             refused(command, [*numbers, 8, node, iv, node], 1)
         refused("commit_stretch", [*numbers, 8, 0, 1, node, iv], 1)
+    for case in CASES_1:
+        version_1(*case)
+    for case in LARGE_1:
+        large_1(*case)
+    for numbers in REFUSED_1:
+        refused_1(numbers)
 
 
 main()

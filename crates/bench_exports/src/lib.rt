@@ -21,6 +21,7 @@ ghost use Rattle.field_limbs.specs.Multiples.{Multiples};
 ghost use Rattle.field_384.specs.Field.{p384};
 ghost use Rattle.columns.specs.Columns.{Xored};
 use job::Nonce;
+use job::Version;
 use spec::Answer;
 use spec::Shape;
 
@@ -50,7 +51,12 @@ pub extern "C" fn rattle_node(t: &[u8; 256], key: &[u8; 16], iv: &[u8; 16], out:
     ensures { λ _. ⌜ now (out .exit) ≡ tabulate (length (now (out .entry))) (λ p. generatorByte 4 (now (key .entry)) (now (iv .entry)) 5 (0 + p)) ⌝ }
 {
     let x = *iv;
-    generator::fill(t, key, Nonce { iv: x, tweak: 5 }, 0, out);
+    let y = Nonce {
+        iv: x,
+        tweak: 5,
+        version: Version::Two,
+    };
+    generator::fill(t, key, y, 0, out);
 }
 
 // A row of 1,680 bits and some more: 224 bytes of the generator.
@@ -60,7 +66,12 @@ pub extern "C" fn rattle_row(t: &[u8; 256], key: &[u8; 16], iv: &[u8; 16], out: 
     ensures { λ _. ⌜ now (out .exit) ≡ tabulate (length (now (out .entry))) (λ p. generatorByte 4 (now (key .entry)) (now (iv .entry)) 5 (0 + p)) ⌝ }
 {
     let x = *iv;
-    generator::fill(t, key, Nonce { iv: x, tweak: 5 }, 0, out);
+    let y = Nonce {
+        iv: x,
+        tweak: 5,
+        version: Version::Two,
+    };
+    generator::fill(t, key, y, 0, out);
 }
 
 #[no_mangle]
@@ -142,7 +153,12 @@ pub extern "C" fn rattle_add_row(
     ensures { λ _. ⌜ Xored 0 (length (now (sum .entry))) (λ p. generatorByte 4 (now (seed .entry)) (now (iv .entry)) tweak (0 + p)) (now (sum .entry)) (now (sum .exit)) ⌝ }
 {
     let x = *iv;
-    rows::add_row(t, seed, Nonce { iv: x, tweak }, 0, sum);
+    let y = Nonce {
+        iv: x,
+        tweak,
+        version: Version::Two,
+    };
+    rows::add_row(t, seed, y, 0, sum);
 }
 
 fn count_of(r: Answer) -> usize

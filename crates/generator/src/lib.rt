@@ -1,15 +1,19 @@
-// The generator PRG of document 000, section 3.3, figure 3.6, for keys of 128, 192 and 256 bits: AES in counter mode, with a tweak.
+// The generator, for keys of 128, 192 and 256 bits: AES in counter mode. That of document 000, section 3.3, figure 3.6, with a tweak, and that of version 1, which differs in the counter alone.
 ghost use mathlib.Core.Path.{_≡_};
 ghost use mathlib.Core.List.{List};
 ghost use Prim.Native.Nat.{ℕ, _+_, _*_, _%_, _^_, _≤_, _<_};
 ghost use lib.ListN.{length};
 ghost use Rattle.spec.specs.Bytes.{tabulate};
 ghost use Rattle.spec.specs.Gf256.{SboxTable};
-ghost use Rattle.spec.specs.Generator.{addToWord, addToUpperWord, addToLowerWord, generatorBlock, generatorByte};
+ghost use Rattle.spec.specs.Aes.{stateOf};
+ghost use Rattle.spec.specs.Generator.{addToWord, addToUpperWord, addToLowerWord};
+ghost use Rattle.spec.specs.Version1.{addToIv};
+ghost use Rattle.job.specs.Versions.{counterOf, blockOf, byteOf};
 ghost use Rattle.aes_keys.specs.RoundKeys.{Keyed};
 ghost use Rattle.generator.specs.Stored.{Stored};
 use aes::Blocks;
 use job::Nonce;
+use job::Version;
 
 // An IV of 16 lent bytes.
 pub fn load_iv(s: &[u8]) -> [u8; 16]
@@ -25,8 +29,8 @@ fn add_to_word(a: [u8; 4], v: u32) -> [u8; 4]
     aes::unpack(std::num::wrapping_add_u32(aes::pack(a), v))
 }
 
-// What block n encrypts.
-fn counter(iv: [[u8; 4]; 4], tweak: u32, n: u32) -> [[u8; 4]; 4]
+// The counter of version 2: the tweak goes into the upper word, the block's number into the lower one.
+fn add_to_words(iv: [[u8; 4]; 4], tweak: u32, n: u32) -> [[u8; 4]; 4]
     ensures { λ r. ⌜ r ≡ addToLowerWord (addToUpperWord iv tweak) n ⌝ }
 {
     [
@@ -37,14 +41,48 @@ fn counter(iv: [[u8; 4]; 4], tweak: u32, n: u32) -> [[u8; 4]; 4]
     ]
 }
 
+// The counter of version 1: n is added to the whole IV, the highest byte first, from its last byte on as far as something is carried.
+fn add_to_iv(iv: [u8; 16], n: u32) -> [u8; 16]
+    ensures { λ r. ⌜ r ≡ addToIv iv n ⌝ }
+{
+    let mut out = iv;
+    let mut carry = n as u64;
+    let mut i = 16;
+    while 0 < i {
+        if carry == 0 {
+            return out;
+        }
+        let at = i - 1;
+        let sum = (out[at] as u64) + carry;
+        out[at] = (sum % 256) as u8;
+        carry = sum / 256;
+        i = at;
+    }
+    out
+}
+
+// What block n encrypts.
+fn counter(x: Nonce, n: u32) -> [[u8; 4]; 4]
+    ensures { λ r. ⌜ r ≡ counterOf (x .version) (x .iv) (x .tweak) n ⌝ }
+{
+    let iv = x.iv;
+    let version = x.version;
+    match version {
+        Version::One => {
+            let whole = add_to_iv(iv, n);
+            aes::load_state(&whole)
+        }
+        Version::Two => add_to_words(aes::load_state(&iv), x.tweak, n),
+    }
+}
+
 // Block n, for the round keys of any key.
 pub fn block(t: &[u8; 256], keys: &[[[u8; 4]; 4]; 15], rounds: usize, x: Nonce, n: u32) -> [u8; 16]
     requires { ⌜ SboxTable (now t) ⌝ }
     requires { ⌜ (10 ≤ rounds) × (rounds ≤ 14) × (rounds % 2 ≡ 0) ⌝ }
-    ensures { λ r. ⌜ ((nk : ℕ) (key : List ℕ) → rounds ≡ nk + 6 → Keyed nk key (now (keys .entry)) → r ≡ generatorBlock nk key (x .iv) (x .tweak) n) ⌝ }
+    ensures { λ r. ⌜ ((nk : ℕ) (key : List ℕ) → rounds ≡ nk + 6 → Keyed nk key (now (keys .entry)) → r ≡ blockOf nk key x n) ⌝ }
 {
-    let iv = x.iv;
-    aes::bytes_of(aes::encrypt(t, keys, rounds, counter(aes::load_state(&iv), x.tweak, n)))
+    aes::bytes_of(aes::encrypt(t, keys, rounds, counter(x, n)))
 }
 
 // Blocks n and n + 1, encrypted together.
@@ -58,17 +96,30 @@ pub fn block_pair(
     requires { ⌜ SboxTable (now t) ⌝ }
     requires { ⌜ (n + 1 < 2 ^ 32) × (10 ≤ rounds) × (rounds ≤ 14) × (rounds % 2 ≡ 0) ⌝ }
     ensures { λ r. ⌜ ((nk : ℕ) (key : List ℕ) → rounds ≡ nk + 6 → Keyed nk key (now (keys .entry))
-        → (r .first ≡ generatorBlock nk key (x .iv) (x .tweak) n) × (r .second ≡ generatorBlock nk key (x .iv) (x .tweak) (n + 1))) ⌝ }
+        → (r .first ≡ blockOf nk key x n) × (r .second ≡ blockOf nk key x (n + 1))) ⌝ }
 {
     let iv = x.iv;
-    let s = aes::load_state(&iv);
-    aes::encrypt_pair(
-        t,
-        keys,
-        rounds,
-        counter(s, x.tweak, n),
-        counter(s, x.tweak, n + 1),
-    )
+    let version = x.version;
+    match version {
+        Version::One => {
+            let one = block(t, keys, rounds, x, n);
+            let two = block(t, keys, rounds, x, n + 1);
+            Blocks {
+                first: one,
+                second: two,
+            }
+        }
+        Version::Two => {
+            let s = aes::load_state(&iv);
+            aes::encrypt_pair(
+                t,
+                keys,
+                rounds,
+                add_to_words(s, x.tweak, n),
+                add_to_words(s, x.tweak, n + 1),
+            )
+        }
+    }
 }
 
 // Stores a whole block at place p of out: a copy of 16 bytes, which is quicker where their number is a constant.
@@ -119,7 +170,7 @@ pub fn fill_keyed(
     requires { ⌜ SboxTable (now t) ⌝ }
     requires { ⌜ (10 ≤ rounds) × (rounds ≤ 14) × (rounds % 2 ≡ 0) × (first + length (now out) < 2 ^ 32) ⌝ }
     ensures { λ _. ⌜ ((nk : ℕ) (key : List ℕ) → rounds ≡ nk + 6 → Keyed nk key (now (keys .entry))
-        → now (out .exit) ≡ tabulate (length (now (out .entry))) (λ p. generatorByte nk key (x .iv) (x .tweak) (first + p))) ⌝ }
+        → now (out .exit) ≡ tabulate (length (now (out .entry))) (λ p. byteOf nk key x (first + p))) ⌝ }
 {
     let mut p = 0;
     while p < out.len() {
@@ -137,7 +188,7 @@ pub fn fill(t: &[u8; 256], key: &[u8], x: Nonce, first: usize, out: &mut [u8])
     requires { ⌜ SboxTable (now t) ⌝ }
     requires { ⌜ (16 ≤ length (now key)) × (length (now key) ≤ 32) × (length (now key) % 8 ≡ 0) × (first + length (now out) < 2 ^ 32) ⌝ }
     ensures { λ _. ⌜ ((nk : ℕ) → length (now (key .entry)) ≡ 4 * nk
-        → now (out .exit) ≡ tabulate (length (now (out .entry))) (λ p. generatorByte nk (now (key .entry)) (x .iv) (x .tweak) (first + p))) ⌝ }
+        → now (out .exit) ≡ tabulate (length (now (out .entry))) (λ p. byteOf nk (now (key .entry)) x (first + p))) ⌝ }
 {
     let keys = aes::key_schedule(t, key);
     fill_keyed(t, &keys, key.len() / 4 + 6, x, first, out);

@@ -24,3 +24,5 @@ pub mod Conjunctions
 pub mod Refusals
 pub mod Calls
 pub mod Words
+-- numbers written with the highest byte first
+pub mod BigEndian

@@ -6,7 +6,8 @@ use lib.ListN.{set}
 use Rattle.spec.specs.Bytes.{allZero, number}
 use Rattle.spec.specs.Shapes.{resolved, faest128f, level, deeper, depthOf, shapeOk}
 use Rattle.spec.specs.Calls.{rowOk}
-use Rattle.record.specs.Fields.{bigEndian, fieldOk}
+use Rattle.record.specs.Fields.{fieldOk}
+use Rattle.spec.specs.Bytes.{bigEndian}
 use Rattle.record.specs.Record.{headBytes, versionOk, shapeIn, rowIn, contentsOf}
 use Rattle.named_sets.specs.NamedSets.{sets, shapeOfSet, rowOfSet, namedIn, namedOk}
 use Rattle.named_sets.specs.NamedCalls.{frontNumber}

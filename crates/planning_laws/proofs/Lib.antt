@@ -13,3 +13,6 @@ pub mod ShapeFacts
 pub mod HiddenLeaves
 pub mod ExpandTree
 pub mod ShapeLaws
+pub mod Forest
+pub mod Path
+pub mod TreeAgain

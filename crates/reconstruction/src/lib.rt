@@ -7,6 +7,7 @@ ghost use Rattle.spec.specs.Shapes.{challengeBytes, leafCommitmentBytes, hashBy
 ghost use Rattle.spec.specs.Primitives.{faest};
 ghost use Rattle.spec.specs.Calls.{Reconstructed, reconstructed};
 use job::Job;
+use job::Version;
 use spec::Shape;
 use spec::Stretch;
 
@@ -41,6 +42,7 @@ fn write_all(
         shape: s,
         stretch: z,
         iv: x,
+        version: Version::Two,
     };
     verifier_vectors::write_vectors(&t, g, keys, ch, tree, opening, lcs, q, hashes);
     verifier_vectors::correct_vectors(s, z.width, ch, corrections, q);

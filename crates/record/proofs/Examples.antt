@@ -6,7 +6,8 @@ use lib.ListN.{length, take, set}
 use Rattle.spec.specs.Bytes.{tabulate, zeros, allZero, number, digits}
 use Rattle.spec.specs.Shapes.{resolved, faest128f, level, deeper, depthOf, nodeBytes, challengeBytes, leafCommitmentBytes, hashBytes, shapeOk, openingBytes, correctionsBytes}
 use Rattle.spec.specs.Calls.{rowOk}
-use Rattle.record.specs.Fields.{bigEndian, bigEndianBytes, fieldOk, fieldOf}
+use Rattle.record.specs.Fields.{fieldOk, fieldOf}
+use Rattle.spec.specs.Bytes.{bigEndian, bigEndianBytes}
 use Rattle.record.specs.Record.{headBytes, versionOk, shapeIn, rowIn, correctionsPlace, openingPlace, commitmentPlace, recordEnd, restOk, Contents, contentsOf, readNumber, headNumber, versionFor, headFor, recordOf, headOfVersion1, recordOfVersion1}
 
 -- one vector of two entries, rows of eight bits: the corrections have no bytes

@@ -1,32 +1,16 @@
 -- Numbers of several bytes, most significant first: bytes and number determine each other. From the laws of digits, the list the other way round.
 use Prim.Native.Nat.{ℕ, suc, _+_, _*_, _^_, _<_, _≤_}
 use mathlib.Core.Path.{_≡_, sym, ap, _∙_}
-use mathlib.Core.List.{List, [], _∷_, reverse, reverse-reverse}
+use mathlib.Core.List.{List, [], _∷_}
 use native.Mathlib.Omega.{arith}
 use native.Mathlib.Numerals.{add-one}
 use lib.ListN.{length, getD, take, drop, length-reverse}
 use lib.Seq.{drop-cons}
-use Rattle.spec.specs.Bytes.{part, number, digits}
+use Rattle.spec.specs.Bytes.{part, number, bigEndian}
 use Rattle.laws.proofs.Lists.{length-tabulate}
 use Rattle.laws.proofs.Numbers.{Digits}
 use Rattle.laws.proofs.Strings.{digits-reverse}
 use Rattle.laws.proofs.Digits.{digits-number, number-digits}
-use Rattle.record.specs.Fields.{bigEndian, bigEndianBytes}
-
-pub big-endian-bytes : (n x : ℕ) → x < 2 ^ (8 * n) → bigEndian (bigEndianBytes n x) ≡ x
-unfolding bigEndian bigEndianBytes
-big-endian-bytes n x h = ap (number 8) (reverse-reverse (digits 8 n x)) ∙ number-digits 8 n x h
-
-pub length-big-endian : (n x : ℕ) → length (bigEndianBytes n x) ≡ n
-unfolding bigEndianBytes digits
-length-big-endian n x = length-reverse (digits 8 n x) ∙ length-tabulate n _
-
-pub bytes-big-endian : (xs : List ℕ) → Digits 8 xs → bigEndianBytes (length xs) (bigEndian xs) ≡ xs
-unfolding bigEndian bigEndianBytes
-bytes-big-endian xs h =
-    ap (λ (n : ℕ). reverse (digits 8 n (number 8 (reverse xs)))) (sym (length-reverse xs))
-    ∙ ap reverse (digits-number 8 (reverse xs) (digits-reverse 8 xs h))
-    ∙ reverse-reverse xs
 
 -- ---- two and four bytes of a string
 

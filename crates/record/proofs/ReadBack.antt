@@ -19,9 +19,10 @@ use Rattle.laws.proofs.Numbers.{Digits}
 use Rattle.laws.proofs.Strings.{digits-part}
 use Rattle.laws.proofs.Refusals.{Passed, none-failed, all-passed}
 use Rattle.planning_laws.proofs.ShapeFacts.{shape-facts, widths}
-use Rattle.record.specs.Fields.{bigEndian, bigEndianBytes, fieldOk, fieldOf}
+use Rattle.record.specs.Fields.{fieldOk, fieldOf}
+use Rattle.spec.specs.Bytes.{bigEndian, bigEndianBytes}
 use Rattle.record.specs.Record.{versionOf, headBytes, versionOk, headOf, shapeIn, rowIn, ivPlace, challengePlace, correctionsPlace, openingPlace, commitmentPlace, recordEnd, restOk, Contents, contentsOf, kindFits, headTests, restTests, readNumber, versionFor, headFor, restOf, recordOf, headOfVersion1, recordOfVersion1}
-use Rattle.record.proofs.Numbers.{big-endian-bytes, length-big-endian, bytes-big-endian}
+use Rattle.laws.proofs.BigEndian.{big-endian-bytes, length-big-endian, bytes-big-endian}
 use Rattle.record.proofs.Fields.{field-stands, field-read, field-behind, field-end, field-room, field-length, field-written}
 use Rattle.record.proofs.Bounds.{versionBy, head-small, given-small, row-small, corrections-small, opening-small}
 

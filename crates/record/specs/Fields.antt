@@ -1,17 +1,10 @@
 -- Document 02, E6: a field is a length of four bytes, most significant first, and that many bytes.
 use Prim.Native.Nat.{ℕ, _+_}
 use mathlib.Core.Bool.{Bool, _&&_}
-use mathlib.Core.List.{List, _++_, reverse}
+use mathlib.Core.List.{List, _++_}
 use lib.Dec.{leb, eqb}
 use lib.ListN.{length}
-use Rattle.spec.specs.Bytes.{part, number, digits}
-
--- the number that bytes write, most significant first; and the n bytes of a number
-unfoldable pub bigEndian : List ℕ → ℕ
-bigEndian bytes = number 8 (reverse bytes)
-
-unfoldable pub bigEndianBytes : ℕ → ℕ → List ℕ
-bigEndianBytes n x = reverse (digits 8 n x)
+use Rattle.spec.specs.Bytes.{part, bigEndian, bigEndianBytes}
 
 -- a field that begins at place `at`: it has n bytes and they are there; its bytes; the place behind it
 unfoldable pub fieldOk : List ℕ → ℕ → ℕ → Bool

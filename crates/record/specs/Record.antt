@@ -8,7 +8,8 @@ use Rattle.spec.specs.declared.Shape.{Shape}
 use Rattle.spec.specs.Bytes.{part}
 use Rattle.spec.specs.Shapes.{ordinary, resolved, shapeOk, challengeBytes, hashBytes, ivBytes, openingBytes, correctionsBytes}
 use Rattle.spec.specs.Calls.{firstRefusal, rowOk}
-use Rattle.record.specs.Fields.{bigEndian, bigEndianBytes, fieldOk, fieldAt, behind, fieldOf}
+use Rattle.record.specs.Fields.{fieldOk, fieldAt, behind, fieldOf}
+use Rattle.spec.specs.Bytes.{bigEndian, bigEndianBytes}
 
 -- ---- the front: version byte and head. A missing version byte reads as 0
 

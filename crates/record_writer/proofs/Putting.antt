@@ -12,7 +12,8 @@ use Rattle.spec.specs.Bytes.{part, tabulate, digits}
 use Rattle.spec.specs.Shapes.{ordinary, resolved, shapeOk}
 use Rattle.laws.proofs.Concat.{part-whole}
 use Rattle.laws.proofs.Putting.{put-take}
-use Rattle.record.specs.Fields.{bigEndianBytes, fieldOf}
+use Rattle.record.specs.Fields.{fieldOf}
+use Rattle.spec.specs.Bytes.{bigEndianBytes}
 use Rattle.record.specs.Record.{headBytes, Contents, versionFor, headFor, recordOf}
 use Rattle.record.proofs.Fields.{length-field}
 use Rattle.record.proofs.Bounds.{given-small}

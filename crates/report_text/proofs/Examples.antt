@@ -9,7 +9,8 @@ use Rattle.spec.specs.Challenge.{bitAt, bitsAt, indexAt, clearAt}
 use Rattle.spec.specs.Shapes.{faest128f, resolved, level, nodeBytes, challengeBytes, leafCommitmentBytes, hashBytes, deeper, depthOf, firstBit, leaves, leafOf, shapeOk, hiddenIndex, hiddenLeaf, hiddenLeaves, grindingOk, plannedCount, openingBytes, correctionsBytes}
 use Rattle.spec.specs.Verifier.{slotsOk}
 use Rattle.spec.specs.Calls.{rowOk, nodesOk}
-use Rattle.record.specs.Fields.{bigEndian, fieldOk}
+use Rattle.record.specs.Fields.{fieldOk}
+use Rattle.spec.specs.Bytes.{bigEndian}
 use Rattle.record.specs.Record.{headBytes, versionOk, shapeIn, rowIn, correctionsPlace, openingPlace, commitmentPlace, recordEnd, restOk, contentsOf}
 use Rattle.listing_text.specs.Text.{decimalWithin, decimal, refusedText, pairText}
 use Rattle.report_text.specs.declared.Entry.{Entry}

@@ -1,10 +1,10 @@
-// The row of a seed, section 5.5.2 of document 000 with tweak i + 2^31: added block by block to a sum of rows, so that outside the lent buffers no array has
+// The row of a seed, section 5.5.2 of document 000: added block by block to a sum of rows, so that outside the lent buffers no array has
 // more than 16 bytes of a row.
 ghost use mathlib.Core.Path.{_≡_};
 ghost use Prim.Native.Nat.{ℕ, _+_, _-_, _*_, _%_, _≤_, _<_, min};
 ghost use lib.ListN.{length, getD};
 ghost use Rattle.spec.specs.Gf256.{SboxTable};
-ghost use Rattle.spec.specs.Generator.{generatorByte};
+ghost use Rattle.job.specs.Versions.{byteOf};
 ghost use Rattle.columns.specs.Columns.{Xored};
 use job::Nonce;
 
@@ -24,7 +24,7 @@ pub fn add_row(t: &[u8; 256], seed: &[u8], x: Nonce, first: usize, sum: &mut [u8
     requires { ⌜ SboxTable (now t) ⌝ }
     requires { ⌜ (16 ≤ length (now seed)) × (length (now seed) ≤ 32) × (length (now seed) % 8 ≡ 0) × (first + length (now sum) ≤ 8192) ⌝ }
     ensures { λ _. ⌜ ((nk : ℕ) → length (now (seed .entry)) ≡ 4 * nk
-        → Xored 0 (length (now (sum .entry))) (λ p. generatorByte nk (now (seed .entry)) (x .iv) (x .tweak) (first + p)) (now (sum .entry)) (now (sum .exit))) ⌝ }
+        → Xored 0 (length (now (sum .entry))) (λ p. byteOf nk (now (seed .entry)) x (first + p)) (now (sum .entry)) (now (sum .exit))) ⌝ }
 {
     let keys = aes::key_schedule(t, seed);
     let rounds = seed.len() / 4 + 6;

@@ -8,6 +8,7 @@ ghost use Rattle.spec.specs.Shapes.{nodeBytes, leafCommitmentBytes, hashBytes, 
 ghost use Rattle.spec.specs.Primitives.{faest};
 ghost use Rattle.spec.specs.Calls.{fits, Committed, committed, Commit, CommitStretch};
 use job::Job;
+use job::Version;
 use spec::Answer;
 use spec::Shape;
 use spec::Stretch;
@@ -77,6 +78,7 @@ fn write_all(
         shape: s,
         stretch: z,
         iv: x,
+        version: Version::Two,
     };
     signer_vectors::write_vectors(&t, g, keys, tree, lcs, u, v, corrections, hashes);
     shake::h1(r, hashes, commitment);

@@ -14,7 +14,7 @@ use Rattle.spec.specs.Shapes.{leafCommitmentBytes, hashBytes, rate, depthOf, en
 use Rattle.spec.specs.Primitives.{faest}
 use Rattle.spec.specs.Leaves.{vectorCommitments, vectorHash}
 use Rattle.spec.specs.Rows.{uByte, columnByte}
-use Rattle.spec.specs.Signer.{signerLeafCommitment, signerU, signerColumn, correction}
+use Rattle.spec.specs.Signer.{signerU, signerColumn, correction}
 use Rattle.laws.proofs.Xor.{xor-assoc}
 use Rattle.laws.proofs.Lists.{length-tabulate, getD-tabulate, tabulate-same, is-tabulate}
 use Rattle.laws.proofs.Sums.{xor-same}
@@ -23,7 +23,8 @@ use Rattle.laws.proofs.Putting.{put-size, put-here}
 use Rattle.laws.proofs.Strings.{getD-zeros}
 use Rattle.columns.specs.Columns.{Xored}
 use Rattle.job.specs.declared.Job.{Job}
-use Rattle.vector.specs.Entries.{ownCommitment, rowOf, Written}
+use Rattle.job.specs.Jobs.{entryCommitment, entryByte}
+use Rattle.vector.specs.Entries.{Written}
 use Rattle.vector.specs.Vectors.{Converted}
 use Rattle.vector.proofs.Buffers.{part-size, put-block, copied}
 use Rattle.vector.proofs.Entries.{written-then, written-all}
@@ -44,16 +45,16 @@ unfolding entriesOf
 some-entry s i = pow-pos (depthOf s i)
 
 pub converted : (g : Job) (tree : List ℕ) (i half n : ℕ) (old mid lcs cols before hash : List ℕ) → n ≡ entriesOf (g .shape) i → length old ≡ leafCommitmentBytes (g .shape) * entriesOf (g .shape) i → length before ≡ hashBytes (g .shape)
-    → Written (leafCommitmentBytes (g .shape)) (ownCommitment g tree i) 0 0 half old mid → Written (leafCommitmentBytes (g .shape)) (ownCommitment g tree i) 0 half n mid lcs
-    → cols ≡ concat (depthOf (g .shape) i) (λ j. tabulate (g .stretch .width) (columnByte (g .shape) (rowOf g tree) (λ e. bitXor e 0) i j)) → hash ≡ hash1 (rate (g .shape)) lcs (length before)
-    → Converted (g .shape) (signerLeafCommitment faest (g .shape) (g .iv) tree) (signerColumn (g .shape) (g .stretch .width) (rowOf g tree)) i lcs cols hash
-unfolding faest entriesOf vectorCommitments vectorHash columnByte signerLeafCommitment signerColumn
+    → Written (leafCommitmentBytes (g .shape)) (entryCommitment g tree i) 0 0 half old mid → Written (leafCommitmentBytes (g .shape)) (entryCommitment g tree i) 0 half n mid lcs
+    → cols ≡ concat (depthOf (g .shape) i) (λ j. tabulate (g .stretch .width) (columnByte (g .shape) (entryByte g tree) (λ e. bitXor e 0) i j)) → hash ≡ hash1 (rate (g .shape)) lcs (length before)
+    → Converted (g .shape) (entryCommitment g tree) (signerColumn (g .shape) (g .stretch .width) (entryByte g tree)) i lcs cols hash
+unfolding faest entriesOf vectorCommitments vectorHash columnByte signerColumn
 converted g tree i half n old mid lcs cols before hash e el eh one two c h =
     let s = g .shape in
     let b = g .stretch .width in
     let w = leafCommitmentBytes s in
-    let row = rowOf g tree in
-    let own : ℕ → List ℕ = ownCommitment g tree i in
+    let row = entryByte g tree in
+    let own : ℕ → List ℕ = entryCommitment g tree i in
     let all = subst (λ (m : ℕ). Written w own 0 0 m old lcs) e (written-then w own 0 0 half n old mid lcs (omega arith) one two) in
     let leaves = written-all w own 0 (depthOf s i) 0 own old lcs (pow-pos (depthOf s i)) el (λ x k. refl) (λ x k. absurd (omega arith)) all in
     record {

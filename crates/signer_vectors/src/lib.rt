@@ -8,10 +8,11 @@ ghost use Rattle.spec.specs.Shapes.{leafCommitmentBytes, hashBytes, depthOf, en
 ghost use Rattle.spec.specs.Primitives.{faest};
 ghost use Rattle.spec.specs.Leaves.{leafCommitments, vectorHash};
 ghost use Rattle.spec.specs.Rows.{uByte, matrixOf};
-ghost use Rattle.spec.specs.Signer.{signerLeafCommitment, signerU, signerColumn};
+ghost use Rattle.spec.specs.Signer.{signerU, signerColumn};
 ghost use Rattle.spec.specs.Signer as signer;
 ghost use Rattle.leaf.specs.HashKeys.{HashKeys};
-ghost use Rattle.vector.specs.Entries.{rowOf, Lent};
+ghost use Rattle.job.specs.Jobs.{entryCommitment, entryByte};
+ghost use Rattle.vector.specs.Entries.{Lent};
 ghost use Rattle.vector.specs.Vectors.{Converted, Before};
 use job::Job;
 use vector::Run;
@@ -30,8 +31,8 @@ fn convert(
 )
     requires { ⌜ Lent g (now t) (now tree) × HashKeys (g .shape) (g .iv) (now keys) × (i < g .shape .tau) × (length (now total) ≡ g .stretch .width) ⌝ }
     requires { ⌜ (length (now lcs) ≡ leafCommitmentBytes (g .shape) * entriesOf (g .shape) i) × (length (now cols) ≡ g .stretch .width * depthOf (g .shape) i) × (length (now hash) ≡ hashBytes (g .shape)) ⌝ }
-    ensures { λ _. ⌜ now (total .exit) ≡ tabulate (g .stretch .width) (λ p. bitXor (getD (now (total .entry)) p 0) (uByte (g .shape) (rowOf g (now (tree .entry))) i p)) ⌝ }
-    ensures { λ _. ⌜ Converted (g .shape) (signerLeafCommitment faest (g .shape) (g .iv) (now (tree .entry))) (signerColumn (g .shape) (g .stretch .width) (rowOf g (now (tree .entry)))) i (now (lcs .exit)) (now (cols .exit)) (now (hash .exit)) ⌝ }
+    ensures { λ _. ⌜ now (total .exit) ≡ tabulate (g .stretch .width) (λ p. bitXor (getD (now (total .entry)) p 0) (uByte (g .shape) (entryByte g (now (tree .entry))) i p)) ⌝ }
+    ensures { λ _. ⌜ Converted (g .shape) (entryCommitment g (now (tree .entry))) (signerColumn (g .shape) (g .stretch .width) (entryByte g (now (tree .entry)))) i (now (lcs .exit)) (now (cols .exit)) (now (hash .exit)) ⌝ }
 {
     let m = leaf::hash_multiples(g.shape, i, keys);
     let last = g.stretch.width * (rules::depth_of(g.shape, i) - 1);
@@ -71,9 +72,9 @@ fn next_vector(
 )
     requires { ⌜ Lent g (now t) (now tree) × HashKeys (g .shape) (g .iv) (now keys) × (i < g .shape .tau) × (length (now total) ≡ g .stretch .width) ⌝ }
     requires { ⌜ (length (now lcs) ≡ leafCommitmentsBytes (g .shape)) × (length (now v) ≡ matrixBytes (g .shape) (g .stretch .width)) × (length (now hashes) ≡ hashBytes (g .shape) * g .shape .tau) ⌝ }
-    ensures { λ _. ⌜ now (total .exit) ≡ tabulate (g .stretch .width) (λ p. bitXor (getD (now (total .entry)) p 0) (uByte (g .shape) (rowOf g (now (tree .entry))) i p)) ⌝ }
-    ensures { λ _. ⌜ (Before (g .shape) (g .stretch .width) (signerLeafCommitment faest (g .shape) (g .iv) (now (tree .entry))) (signerColumn (g .shape) (g .stretch .width) (rowOf g (now (tree .entry)))) i (now (lcs .entry)) (now (v .entry)) (now (hashes .entry))
-        → Before (g .shape) (g .stretch .width) (signerLeafCommitment faest (g .shape) (g .iv) (now (tree .entry))) (signerColumn (g .shape) (g .stretch .width) (rowOf g (now (tree .entry)))) (i + 1) (now (lcs .exit)) (now (v .exit)) (now (hashes .exit))) ⌝ }
+    ensures { λ _. ⌜ now (total .exit) ≡ tabulate (g .stretch .width) (λ p. bitXor (getD (now (total .entry)) p 0) (uByte (g .shape) (entryByte g (now (tree .entry))) i p)) ⌝ }
+    ensures { λ _. ⌜ (Before (g .shape) (g .stretch .width) (entryCommitment g (now (tree .entry))) (signerColumn (g .shape) (g .stretch .width) (entryByte g (now (tree .entry)))) i (now (lcs .entry)) (now (v .entry)) (now (hashes .entry))
+        → Before (g .shape) (g .stretch .width) (entryCommitment g (now (tree .entry))) (signerColumn (g .shape) (g .stretch .width) (entryByte g (now (tree .entry)))) (i + 1) (now (lcs .exit)) (now (v .exit)) (now (hashes .exit))) ⌝ }
 {
     let s = g.shape;
     let h = rules::hash_bytes(s);
@@ -108,11 +109,11 @@ pub fn write_vectors(
 )
     requires { ⌜ Lent g (now t) (now tree) × HashKeys (g .shape) (g .iv) (now keys) × (length (now lcs) ≡ leafCommitmentsBytes (g .shape)) × (length (now hashes) ≡ hashBytes (g .shape) * g .shape .tau) ⌝ }
     requires { ⌜ (length (now u) ≡ g .stretch .width) × (length (now v) ≡ matrixBytes (g .shape) (g .stretch .width)) × (length (now corrections) ≡ correctionsBytes (g .shape) (g .stretch .width)) ⌝ }
-    ensures { λ _. ⌜ now (lcs .exit) ≡ leafCommitments (g .shape) (signerLeafCommitment faest (g .shape) (g .iv) (now (tree .entry))) ⌝ }
-    ensures { λ _. ⌜ now (u .exit) ≡ signerU (g .shape) (g .stretch .width) (rowOf g (now (tree .entry))) ⌝ }
-    ensures { λ _. ⌜ now (v .exit) ≡ matrixOf (g .shape) (g .stretch .width) (signerColumn (g .shape) (g .stretch .width) (rowOf g (now (tree .entry)))) ⌝ }
-    ensures { λ _. ⌜ now (corrections .exit) ≡ signer.corrections (g .shape) (g .stretch .width) (rowOf g (now (tree .entry))) ⌝ }
-    ensures { λ _. ⌜ now (hashes .exit) ≡ concat (g .shape .tau) (vectorHash faest (g .shape) (signerLeafCommitment faest (g .shape) (g .iv) (now (tree .entry)))) ⌝ }
+    ensures { λ _. ⌜ now (lcs .exit) ≡ leafCommitments (g .shape) (entryCommitment g (now (tree .entry))) ⌝ }
+    ensures { λ _. ⌜ now (u .exit) ≡ signerU (g .shape) (g .stretch .width) (entryByte g (now (tree .entry))) ⌝ }
+    ensures { λ _. ⌜ now (v .exit) ≡ matrixOf (g .shape) (g .stretch .width) (signerColumn (g .shape) (g .stretch .width) (entryByte g (now (tree .entry)))) ⌝ }
+    ensures { λ _. ⌜ now (corrections .exit) ≡ signer.corrections (g .shape) (g .stretch .width) (entryByte g (now (tree .entry))) ⌝ }
+    ensures { λ _. ⌜ now (hashes .exit) ≡ concat (g .shape .tau) (vectorHash faest (g .shape) (entryCommitment g (now (tree .entry)))) ⌝ }
 {
     let b = g.stretch.width;
     let others = g.shape.tau - 1;

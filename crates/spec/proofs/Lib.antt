@@ -6,4 +6,5 @@ pub mod LeafKinds
 pub mod HostExamples
 pub mod StandIns
 pub mod WorkedExample
+pub mod Version1Example
 pub mod Misreadings

@@ -1,7 +1,7 @@
 -- Strings of bytes, and the numbers that they write. A string is a list of numbers below 256. Nothing here is particular to FAEST.
 use Prim.Native.Nat.{ℕ, zero, suc, _+_, _*_, _/_, _%_, _^_}
 use mathlib.Core.Bool.{Bool, true, _&&_, cond}
-use mathlib.Core.List.{List, [], _∷_, _++_}
+use mathlib.Core.List.{List, [], _∷_, _++_, reverse}
 use lib.Bits.{bitXor}
 use lib.Dec.{eqb}
 use lib.ListN.{take, drop, replicate}
@@ -52,6 +52,13 @@ number k (x ∷ xs) = x + number k xs * 2 ^ k
 -- the n lowest digits of x in base 2 ^ k, least first (BitDec of section 3.2, with k 1)
 unfoldable pub digits : ℕ → ℕ → ℕ → List ℕ
 digits k n x = tabulate n (λ i. x / 2 ^ (k * i) % 2 ^ k)
+
+-- the number whose bytes, highest first, are the string, and the n lowest bytes of x, highest first
+unfoldable pub bigEndian : List ℕ → ℕ
+bigEndian bytes = number 8 (reverse bytes)
+
+unfoldable pub bigEndianBytes : ℕ → ℕ → List ℕ
+bigEndianBytes n x = reverse (digits 8 n x)
 
 -- the first place of x in a list
 unfoldable pub indexOf : ℕ → List ℕ → ℕ

@@ -29,3 +29,7 @@ pub mod Verifier
 pub mod Calls
 -- document 02, E4: the calls for a C host
 pub mod HostCalls
+-- document 02, E12: version 1.1, its calls, and these for a C host
+pub mod Version1
+pub mod Version1Calls
+pub mod Version1HostCalls

@@ -1,10 +1,10 @@
--- Worked examples of the primitives, computed by the definitions: FIPS 197's, SHAKE128 of the empty message, and some of each primitive of sections 3.3 and 5.1 of
--- document 000, whose values reference/ derives too (reference/tests).
+-- Worked examples of the primitives, computed by the definitions: FIPS 197's, SP 800-38A's of the counter mode, SHAKE128 of the empty message, and some of each
+-- primitive of sections 3.3 and 5.1 of document 000, whose values reference/ derives too (reference/tests).
 use mathlib.Core.Path.{_≡_, refl, ap}
 use mathlib.Core.List.{List, [], _∷_}
 use Prim.Native.Nat.{ℕ, _+_, _*_, _/_, _%_, _^_}
 use lib.ListN.{getD}
-use Rattle.spec.specs.Bytes.{tabulate, number, digits, zeros, xorBytes}
+use Rattle.spec.specs.Bytes.{tabulate, number, digits, bigEndian, bigEndianBytes, zeros, xorBytes}
 use Rattle.spec.specs.Polynomials.{product, remainder, fieldProduct}
 use Rattle.spec.specs.Gf256.{mul, squares, inverse, affineBit, affine, sbox}
 use Rattle.spec.specs.Aes.{xorWord, subWord, subBytes, mixColumn, mixColumns, addRoundKey, roundOf, lastRound, roundKey, rounds, cipher, power2, rcon, scheduleCore, nextWord, schedule, keyExpansion, encrypt}
@@ -15,6 +15,7 @@ use Rattle.spec.specs.Hashes.{hash0, hash1}
 use Rattle.spec.specs.LeafHash.{leafHash, leafHashByte}
 use Rattle.spec.specs.Shapes.{faest128s, level, nodeBytes, hashBytes, keyWords, rate, fieldWidth, fieldPolynomial}
 use Rattle.spec.specs.Primitives.{faest}
+use Rattle.spec.specs.Version1.{addToIv, generator1Block}
 
 -- FIPS 197, appendix B
 pub aes-appendix-b :
@@ -31,6 +32,25 @@ pub aes-appendix-c1 :
     ≡ 105 ∷ 196 ∷ 224 ∷ 216 ∷ 106 ∷ 123 ∷ 4 ∷ 48 ∷ 216 ∷ 205 ∷ 183 ∷ 128 ∷ 112 ∷ 180 ∷ 197 ∷ 90 ∷ []
 unfolding tabulate number product remainder fieldProduct mul squares inverse affineBit affine sbox xorWord subWord subBytes mixColumn mixColumns addRoundKey roundOf lastRound roundKey rounds cipher power2 rcon scheduleCore nextWord schedule keyExpansion encrypt
 aes-appendix-c1 = refl
+
+-- SP 800-38A, F.5.1: the first two output blocks of the counter mode, which is version 1's generator; with the second the counter carries
+abbrev pub ctr-key : List ℕ
+ctr-key = 43 ∷ 126 ∷ 21 ∷ 22 ∷ 40 ∷ 174 ∷ 210 ∷ 166 ∷ 171 ∷ 247 ∷ 21 ∷ 136 ∷ 9 ∷ 207 ∷ 79 ∷ 60 ∷ []
+
+abbrev pub ctr-iv : List ℕ
+ctr-iv = 240 ∷ 241 ∷ 242 ∷ 243 ∷ 244 ∷ 245 ∷ 246 ∷ 247 ∷ 248 ∷ 249 ∷ 250 ∷ 251 ∷ 252 ∷ 253 ∷ 254 ∷ 255 ∷ []
+
+pub ctr-block-1 :
+    generator1Block 4 ctr-key ctr-iv 0
+    ≡ 236 ∷ 140 ∷ 223 ∷ 115 ∷ 152 ∷ 96 ∷ 124 ∷ 176 ∷ 242 ∷ 210 ∷ 22 ∷ 117 ∷ 234 ∷ 158 ∷ 161 ∷ 228 ∷ []
+unfolding tabulate number product remainder fieldProduct mul squares inverse affineBit affine sbox xorWord subWord subBytes mixColumn mixColumns addRoundKey roundOf lastRound roundKey rounds cipher power2 rcon scheduleCore nextWord schedule keyExpansion digits bigEndian bigEndianBytes addToIv generator1Block
+ctr-block-1 = refl
+
+pub ctr-block-2 :
+    generator1Block 4 ctr-key ctr-iv 1
+    ≡ 54 ∷ 43 ∷ 124 ∷ 60 ∷ 103 ∷ 115 ∷ 81 ∷ 99 ∷ 24 ∷ 160 ∷ 119 ∷ 215 ∷ 252 ∷ 80 ∷ 115 ∷ 174 ∷ []
+unfolding tabulate number product remainder fieldProduct mul squares inverse affineBit affine sbox xorWord subWord subBytes mixColumn mixColumns addRoundKey roundOf lastRound roundKey rounds cipher power2 rcon scheduleCore nextWord schedule keyExpansion digits bigEndian bigEndianBytes addToIv generator1Block
+ctr-block-2 = refl
 
 -- FIPS 202's function SHAKE128, of the empty message
 pub shake128-empty :

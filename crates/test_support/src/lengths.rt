@@ -54,7 +54,7 @@ pub fn at_most(n: usize, limit: usize) -> usize
 }
 
 // The leaves of a shape.
-fn leaves(s: Shape) -> usize
+pub fn leaves(s: Shape) -> usize
     ensures { λ r. ⌜ (1 ≤ r) × (r ≤ 86016) ⌝ }
 {
     if rules::is_shape(s) {

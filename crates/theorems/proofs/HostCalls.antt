@@ -16,6 +16,8 @@ use Rattle.spec.specs.Tree.{covered, siblingToReveal, revealedFrom, revealed, n
 use Rattle.spec.specs.Shapes.{resolved, leaves, hiddenIndex, hiddenIndices, hiddenLeaves, planned, plannedCount}
 use Rattle.spec.specs.Primitives.{Primitives}
 use Rattle.spec.specs.Calls.{written, countWith, decodeNumber, Decode, planNumber, Plan, Committed, commitNumber, commitStretchNumber, Commit, CommitStretch, Open, Reconstructed, reconstructNumber, reconstructStretchNumber, Reconstruct, ReconstructStretch}
+use Rattle.spec.specs.Version1Calls.{row1Number, open1Number, Commit1, Open1, Reconstruct1}
+use Rattle.spec.specs.Version1HostCalls.{HostCommit1, HostOpen1, HostReconstruct1}
 use Rattle.spec.specs.HostCalls.{wordBytes, countSlice, HostDecode, HostPlan, HostCommit, HostCommitStretch, HostOpen, HostReconstruct, HostReconstructStretch}
 use Rattle.laws.proofs.Lists.{length-tabulate, getD-tabulate}
 use Rattle.laws.proofs.Digits.{digits-number, number-digits}
@@ -23,7 +25,7 @@ use Rattle.laws.proofs.Words.{same-test, words-length, words-append, words-drop
 use Rattle.planning_laws.proofs.Revealed.{revealed-below}
 use Rattle.planning_laws.proofs.HiddenLeaves.{hidden-index-lt}
 use Rattle.planning_laws.proofs.ShapeFacts.{shape-facts, leaves-max, entries-small}
-use Rattle.theorems.specs.HostCalls.{SameAnswer, ExportedCalls, EveryList, EveryReadable}
+use Rattle.theorems.specs.HostCalls.{SameAnswer, ExportedCalls, Version1ExportedCalls, EveryList, EveryReadable}
 
 -- ---- from the number to the rest
 
@@ -166,4 +168,18 @@ every-readable s ch e =
           read (hiddenIndices (resolved s) ch) i (rw length-tabulate h) (rw at (omega (arith, hidden-index-lt (resolved s) ch i, entries-small (resolved s) i f))) ∙ at;
       nodes = λ i h. read (planned (resolved s) ch) i h (revealed-below _ _ 172032 (omega (arith, leaves-max (resolved s) f)) i);
       count = number-digits 8 4 (plannedCount (resolved s) ch) (omega (arith, revealed-few (covered (hiddenLeaves (resolved s) ch)) (leaves (resolved s) - 1), leaves-max (resolved s) f));
+    }
+
+-- ---- version 1
+
+pub version1-exported : (P : Primitives) → Version1ExportedCalls P
+unfolding row1Number open1Number
+version1-exported P =
+    record {
+      commit = λ s bits root iv x x′ after count count′ r n o h l.
+          same r n 0 _ x x′ after count count′ (h .number ∙ rw (eq-eqb (length count) 4 l) (sym (o .number))) (o .buffers) (h .buffers) (o .count) (h .counted);
+      opened = λ s ch trees lcs opening opening′ after count count′ r n o h l.
+          same r n 0 _ opening opening′ after count count′ (h .number ∙ rw (eq-eqb (length count) 4 l) (sym (o .number))) (o .opening) (h .opening) (o .count) (h .counted);
+      reconstruct = λ s bits iv ch corrections opening x x′ after count count′ r n o h l.
+          same r n 0 _ x x′ after count count′ (h .number ∙ rw (eq-eqb (length count) 4 l) (sym (o .number))) (o .buffers) (h .buffers) (o .count) (h .counted);
     }

@@ -9,3 +9,7 @@ pub mod PlanningExamples
 pub mod Fewest
 pub mod OneIndex
 pub mod HostCalls
+pub mod Version1Opening
+pub mod Version1Trees
+pub mod Version1Leaves
+pub mod Version1

@@ -1,4 +1,4 @@
--- Document 02, E4: where its lists and its count slice have the right lengths, an exported call gives the number and bytes of the call beneath it, and its count in
+-- Document 02, E4: where its lists and its count slice have the right lengths, an exported call gives the number and bytes of the call beneath it, and, where the slice is written, its count in
 -- the count slice; and what a host reads there. ../proofs/HostCalls.antt proves it.
 use Prim.Native.Nat.{ℕ, _*_, _<_}
 use mathlib.Core.Path.{_≡_}
@@ -12,6 +12,8 @@ use Rattle.spec.specs.Bytes.{part, number, digits}
 use Rattle.spec.specs.Shapes.{resolved, shapeOk, hiddenIndex, hiddenIndices, planned, plannedCount}
 use Rattle.spec.specs.Primitives.{Primitives}
 use Rattle.spec.specs.Calls.{Decode, Plan, Committed, Commit, CommitStretch, Open, Reconstructed, Reconstruct, ReconstructStretch}
+use Rattle.spec.specs.Version1Calls.{Commit1, Open1, Reconstruct1}
+use Rattle.spec.specs.Version1HostCalls.{HostCommit1, HostOpen1, HostReconstruct1}
 use Rattle.spec.specs.HostCalls.{wordBytes, countSlice, HostDecode, HostPlan, HostCommit, HostCommitStretch, HostOpen, HostReconstruct, HostReconstructStretch}
 
 -- the exported call returns n and leaves `buffers` and count′; the call beneath answers r and leaves `beneath`
@@ -62,6 +64,27 @@ pub record ExportedCalls (P : Primitives) : Type 0 where
       (s : Shape) (bits : ℕ) (z : Stretch) (iv ch corrections opening : List ℕ) (x x′ after : Reconstructed) (count count′ : List ℕ) (r : Answer) (n : ℕ)
       → ReconstructStretch P s bits z iv ch corrections opening x x′ r
       → HostReconstructStretch P s bits z iv ch corrections opening x after count count′ n
+      → length count ≡ 4
+      → SameAnswer r x′ n after count count′
+
+-- the same of version 1's calls
+pub record Version1ExportedCalls (P : Primitives) : Type 0 where
+  pub commit :
+      (s : Shape) (bits : ℕ) (root iv : List ℕ) (x x′ after : Committed) (count count′ : List ℕ) (r : Answer) (n : ℕ)
+      → Commit1 P s bits root iv x x′ r
+      → HostCommit1 P s bits root iv x after count count′ n
+      → length count ≡ 4
+      → SameAnswer r x′ n after count count′
+  pub opened :
+      (s : Shape) (ch trees lcs opening opening′ after count count′ : List ℕ) (r : Answer) (n : ℕ)
+      → Open1 s ch trees lcs opening opening′ r
+      → HostOpen1 s ch trees lcs opening after count count′ n
+      → length count ≡ 4
+      → SameAnswer r opening′ n after count count′
+  pub reconstruct :
+      (s : Shape) (bits : ℕ) (iv ch corrections opening : List ℕ) (x x′ after : Reconstructed) (count count′ : List ℕ) (r : Answer) (n : ℕ)
+      → Reconstruct1 P s bits iv ch corrections opening x x′ r
+      → HostReconstruct1 P s bits iv ch corrections opening x after count count′ n
       → length count ≡ 4
       → SameAnswer r x′ n after count count′
 

@@ -11,7 +11,7 @@ use Rattle.spec.specs.declared.Shape.{Shape}
 use Rattle.spec.specs.Bytes.{part}
 use Rattle.spec.specs.Tree.{expandTree}
 use Rattle.spec.specs.Shapes.{nodeBytes}
-use Rattle.spec.specs.Primitives.{faest, prg}
+use Rattle.spec.specs.Primitives.{Primitives, prg}
 use Rattle.spec.specs.Leaves.{children}
 use Rattle.laws.proofs.Lists.{length-tabulate}
 use Rattle.laws.proofs.Concat.{part-front}
@@ -24,9 +24,9 @@ node-place w a k =
     ∙ mul-add w (a + a) k
     ∙ ap (λ (n : ℕ). n + w * k) (mul-add w a a)
 
-pub length-children : (s : Shape) (iv : List ℕ) (a : ℕ) (x : List ℕ) → length (children faest s iv a x) ≡ 2 * nodeBytes s
+pub length-children : (P : Primitives) (s : Shape) (iv : List ℕ) (a : ℕ) (x : List ℕ) → length (children P s iv a x) ≡ 2 * nodeBytes s
 unfolding prg children
-length-children s iv a x = length-tabulate (2 * nodeBytes s) (faest .prgByte s x iv a)
+length-children P s iv a x = length-tabulate (2 * nodeBytes s) (P .prgByte s x iv a)
 
 module _ (w : ℕ) (first : List ℕ) (ch : ℕ → List ℕ → List ℕ) where
   pub grown-more : (a : ℕ) (x : List ℕ) → w * (2 * a + 1) ≤ length x → length (ch a (part x (w * a) w)) ≡ 2 * w → take (w * (2 * a + 1)) x ≡ expandTree w first ch a

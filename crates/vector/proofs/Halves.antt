@@ -15,7 +15,8 @@ use Rattle.columns.specs.Columns.{Running, Marked}
 use Rattle.columns.proofs.Running.{marked-start, running-marked, running-end}
 use Rattle.job.specs.declared.Job.{Job}
 use Rattle.vector.specs.declared.Run.{Run}
-use Rattle.vector.specs.Entries.{rowOf, numbered, Inside}
+use Rattle.job.specs.Jobs.{entryByte}
+use Rattle.vector.specs.Entries.{numbered, Inside}
 use Rattle.vector.proofs.Buffers.{cleared-behind}
 use Rattle.vector.proofs.Numbers.{height, whole-is, half-is, columns-by-number}
 
@@ -51,7 +52,7 @@ module _ (g : Job) (ok : shapeOk (g .shape) ≡ true) (i mask n : ℕ) (e : n �
   upper-marked tree first x r = running-marked (g .stretch .width) h (numbered g tree upper) first (n / 2) h x (le-refl h) (halves .0) r
 
   pub columns-of : (tree y : List ℕ) → Running (g .stretch .width) h (n / 2) n (numbered g tree upper) y
-      → y ≡ concat (depthOf (g .shape) i) (λ j. tabulate (g .stretch .width) (columnByte (g .shape) (rowOf g tree) (λ e. bitXor e mask) i j))
+      → y ≡ concat (depthOf (g .shape) i) (λ j. tabulate (g .stretch .width) (columnByte (g .shape) (entryByte g tree) (λ e. bitXor e mask) i j))
   columns-of tree y r =
       running-end (g .stretch .width) h (numbered g tree upper) (n / 2) n y (halves .0) (whole-is (g .shape) i (depthOf (g .shape) i) ok refl n e) r
-      ∙ columns-by-number (g .shape) (rowOf g tree) i mask m (g .stretch .width) (h + 1) n (height (g .shape) i (depthOf (g .shape) i) ok refl) e
+      ∙ columns-by-number (g .shape) (entryByte g tree) i mask m (g .stretch .width) (h + 1) n (height (g .shape) i (depthOf (g .shape) i) ok refl) e

@@ -1,4 +1,4 @@
--- What a job's entries give, what is lent with the job, and what a run of entries does to the leaf commitments of its vector.
+-- What is lent with a job, and what a run of entries does to the leaf commitments of its vector.
 use Prim.Native.Nat.{ℕ, _*_, _≤_, _<_}
 use mathlib.Core.Path.{_≡_}
 use mathlib.Core.List.{List}
@@ -6,30 +6,21 @@ use lib.Bits.{bitXor}
 use lib.ListN.{length}
 use Rattle.spec.specs.Bytes.{part}
 use Rattle.spec.specs.Gf256.{SboxTable}
-use Rattle.spec.specs.Shapes.{entriesOf, treeBytes}
-use Rattle.spec.specs.Primitives.{faest}
-use Rattle.spec.specs.Leaves.{leafKey, leafCommitment}
-use Rattle.spec.specs.Rows.{stretchByte}
+use Rattle.spec.specs.Shapes.{entriesOf}
 use Rattle.job.specs.declared.Job.{Job}
-use Rattle.job.specs.Jobs.{Ready}
+use Rattle.job.specs.Versions.{nodesBytes}
+use Rattle.job.specs.Jobs.{Ready, entryByte}
 use Rattle.vector.specs.declared.Run.{Run}
-
--- from the bytes of a tree, entry e of vector i: its leaf commitment, and byte p of the stretch of its row
-abbrev pub ownCommitment : Job → List ℕ → ℕ → ℕ → List ℕ
-ownCommitment g tree i e = leafCommitment faest (g .shape) (g .iv) i (leafKey (g .shape) tree i e)
-
-abbrev pub rowOf : Job → List ℕ → ℕ → ℕ → ℕ → ℕ
-rowOf g tree = stretchByte faest (g .shape) (g .stretch) (g .iv) tree
 
 -- the rows of a run, by the numbers of their entries
 abbrev pub numbered : Job → List ℕ → Run → ℕ → ℕ → ℕ
-numbered g tree r x = rowOf g tree (r .vector) (bitXor x (r .mask))
+numbered g tree r x = entryByte g tree (r .vector) (bitXor x (r .mask))
 
--- what is lent with a job: the table of the S-box, and a tree
+-- what is lent with a job: the table of the S-box, and the nodes of its tree, or of its trees
 pub record Lent (g : Job) (box nodes : List ℕ) : Type 0 where
   pub job : Ready g
   pub table : SboxTable box
-  pub tree : length nodes ≡ treeBytes (g .shape)
+  pub tree : length nodes ≡ nodesBytes (g .version) (g .shape)
 
 -- the numbers of a run are those of entries of its vector
 pub record Inside (g : Job) (r : Run) : Type 0 where

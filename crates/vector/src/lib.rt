@@ -3,14 +3,17 @@
 // where its bit of the number changes.
 ghost use mathlib.Core.Path.{_≡_};
 ghost use mathlib.Core.Bool.{true};
-ghost use Prim.Native.Nat.{_-_, _*_, _≤_, _<_};
+ghost use Prim.Native.Nat.{_+_, _-_, _*_, _≤_, _<_};
 ghost use lib.ListN.{length};
 ghost use Rattle.spec.specs.Shapes.{nodeBytes, leafCommitmentBytes, shapeOk, depthOf, entriesOf, firstBit, firstEntry};
 ghost use Rattle.leaf.specs.HashKeys.{HashMultiples};
 ghost use Rattle.columns.specs.Columns.{Xored, Marked, Running};
-ghost use Rattle.vector.specs.Entries.{ownCommitment, rowOf, numbered, Lent, Inside, Written};
+ghost use Rattle.job.specs.Versions.{leafNode, nodesBytes};
+ghost use Rattle.job.specs.Jobs.{entryCommitment, entryByte};
+ghost use Rattle.vector.specs.Entries.{numbered, Lent, Inside, Written};
 use job::Job;
 use job::Nonce;
+use job::Version;
 use spec::Shape;
 
 // Entries of a vector, in the order of their numbers: those whose numbers are from `from` on and below `to`. Number x is that of entry x xor the mask.
@@ -37,6 +40,19 @@ pub fn columns_from(s: Shape, i: usize, b: usize) -> usize
     b * rules::first_bit(s, i)
 }
 
+// Where the leaf of entry e of vector i stands among the nodes lent.
+fn leaf_node(g: Job, i: usize, e: usize) -> usize
+    requires { ⌜ (shapeOk (g .shape) ≡ true) × (i < g .shape .tau) × (e < entriesOf (g .shape) i) ⌝ }
+    ensures { λ r. ⌜ (r ≡ leafNode (g .version) (g .shape) i e) × (nodeBytes (g .shape) * r + nodeBytes (g .shape) ≤ nodesBytes (g .version) (g .shape)) × (r < 172032) ⌝ }
+{
+    let s = g.shape;
+    let version = g.version;
+    match version {
+        Version::One => v1_rules::leaf_node(s, i, e),
+        Version::Two => rules::leaf_of(s, i, e),
+    }
+}
+
 // Entry e of vector i, with room for its seed lent: writes its leaf commitment, and adds the stretch of its row to the sum.
 fn add_leaf(
     t: &[u8; 256],
@@ -51,13 +67,14 @@ fn add_leaf(
 )
     requires { ⌜ Lent g (now t) (now tree) × HashMultiples (g .shape) (g .iv) i (now m) × (i < g .shape .tau) × (e < entriesOf (g .shape) i) ⌝ }
     requires { ⌜ (length (now seed) ≡ nodeBytes (g .shape)) × (length (now commitment) ≡ leafCommitmentBytes (g .shape)) × (length (now sum) ≡ g .stretch .width) ⌝ }
-    ensures { λ _. ⌜ now (commitment .exit) ≡ ownCommitment g (now (tree .entry)) i e ⌝ }
-    ensures { λ _. ⌜ Xored 0 (length (now (sum .entry))) (rowOf g (now (tree .entry)) i e) (now (sum .entry)) (now (sum .exit)) ⌝ }
+    ensures { λ _. ⌜ now (commitment .exit) ≡ entryCommitment g (now (tree .entry)) i e ⌝ }
+    ensures { λ _. ⌜ Xored 0 (length (now (sum .entry))) (entryByte g (now (tree .entry)) i e) (now (sum .entry)) (now (sum .exit)) ⌝ }
 {
     let s = g.shape;
     let iv = g.iv;
     let n = rules::node_bytes(s);
-    let a = n * rules::leaf_of(s, i, e);
+    let version = g.version;
+    let a = n * leaf_node(g, i, e);
     let tweak = leaf::leaf_tweak(i, rules::leaf_count(s));
     let row = (i as u32) + 2147483648;
     leaf::commit_leaf(
@@ -65,11 +82,21 @@ fn add_leaf(
         m,
         s,
         &tree[a..a + n],
-        Nonce { iv, tweak },
+        Nonce { iv, tweak, version },
         seed,
         commitment,
     );
-    rows::add_row(t, seed, Nonce { iv, tweak: row }, g.stretch.first, sum);
+    rows::add_row(
+        t,
+        seed,
+        Nonce {
+            iv,
+            tweak: row,
+            version,
+        },
+        g.stretch.first,
+        sum,
+    );
 }
 
 // Entry e of vector i: writes its leaf commitment, and adds the stretch of its row to the sum.
@@ -85,8 +112,8 @@ fn add_entry(
 )
     requires { ⌜ Lent g (now t) (now tree) × HashMultiples (g .shape) (g .iv) i (now m) × (i < g .shape .tau) × (e < entriesOf (g .shape) i) ⌝ }
     requires { ⌜ (length (now commitment) ≡ leafCommitmentBytes (g .shape)) × (length (now sum) ≡ g .stretch .width) ⌝ }
-    ensures { λ _. ⌜ now (commitment .exit) ≡ ownCommitment g (now (tree .entry)) i e ⌝ }
-    ensures { λ _. ⌜ Xored 0 (length (now (sum .entry))) (rowOf g (now (tree .entry)) i e) (now (sum .entry)) (now (sum .exit)) ⌝ }
+    ensures { λ _. ⌜ now (commitment .exit) ≡ entryCommitment g (now (tree .entry)) i e ⌝ }
+    ensures { λ _. ⌜ Xored 0 (length (now (sum .entry))) (entryByte g (now (tree .entry)) i e) (now (sum .entry)) (now (sum .exit)) ⌝ }
 {
     let n = rules::node_bytes(g.shape);
     let mut seed = [0u8; 32];
@@ -107,7 +134,7 @@ pub fn add_half(
     requires { ⌜ Lent g (now t) (now tree) × HashMultiples (g .shape) (g .iv) (run .vector) (now m) × Inside g run ⌝ }
     requires { ⌜ (length (now commitments) ≡ leafCommitmentBytes (g .shape) * entriesOf (g .shape) (run .vector))
         × Marked (g .stretch .width) (depthOf (g .shape) (run .vector) - 1) (run .from) (numbered g (now tree) run) (now cols) ⌝ }
-    ensures { λ _. ⌜ Written (leafCommitmentBytes (g .shape)) (ownCommitment g (now (tree .entry)) (run .vector)) (run .mask) (run .from) (run .to) (now (commitments .entry)) (now (commitments .exit)) ⌝ }
+    ensures { λ _. ⌜ Written (leafCommitmentBytes (g .shape)) (entryCommitment g (now (tree .entry)) (run .vector)) (run .mask) (run .from) (run .to) (now (commitments .entry)) (now (commitments .exit)) ⌝ }
     ensures { λ _. ⌜ Running (g .stretch .width) (depthOf (g .shape) (run .vector) - 1) (run .from) (run .to) (numbered g (now (tree .entry)) run) (now (cols .exit)) ⌝ }
 {
     let i = run.vector;

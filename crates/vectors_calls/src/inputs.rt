@@ -33,7 +33,8 @@ pub fn root(n: usize) -> [u8; 32] {
 }
 
 // The roots and IVs by their digit: bytes that count up and mixed ones; of IVs also those whose first and last word of 32 bits wrap at the first
-// sum, and such that wrap later; all ones; all zeros.
+// sum, and such that wrap later; of IVs of version 1, which are one number, the most significant byte first, those that wrap at 32 and at 64 bits at the
+// first sum, and at 128 bits at the second; all ones; all zeros.
 pub fn numbered(n: usize) -> [u8; 16] {
     match n {
         1 => words(0x0706050403020100, 0x0f0e0d0c0b0a0908),
@@ -41,6 +42,9 @@ pub fn numbered(n: usize) -> [u8; 16] {
         3 => words(0x1716151413121110, 0x1f1e1d1c1b1a1918),
         4 => words(0x01234567ffffffff, 0xffffffff89abcdef),
         5 => words(0xfedcba98fffffff0, 0xfffffffe76543210),
+        6 => words(0x7766554433221100, 0xffffffffbbaa9988),
+        7 => words(0xefcdab8967452301, 0xffffffffffffffff),
+        8 => words(0xffffffffffffffff, 0xfeffffffffffffff),
         9 => words(0xffffffffffffffff, 0xffffffffffffffff),
         _ => words(0, 0),
     }

@@ -163,7 +163,7 @@ module _ (w : ℕ) (nodes slots : List ℕ) (n a : ℕ) (by : listed nodes a ≡
           let p = length-node w nodes slots n (readBefore nodes a) (2 * a + 1) (b .0) l in
           let q = length-node w nodes slots n (readBefore nodes a) (2 * a + 2) (b .1) l in
           simp length-append (omega arith)
-      go false e = length-children s iv a x ∙ ap (λ (m : ℕ). 2 * m) (sym k)
+      go false e = length-children faest s iv a x ∙ ap (λ (m : ℕ). 2 * m) (sym k)
 
   -- both children written
   pub listed-children : (s : Shape) (iv x : List ℕ) (read left : ℕ) (d e f : List ℕ) → listed nodes a ≡ true → read ≡ readBefore nodes a → left ≡ readWith nodes (2 * a + 1) read

@@ -13,6 +13,7 @@ ghost use Rattle.spec.specs.Primitives.{faest};
 ghost use Rattle.spec.specs.Verifier.{reconstructedTree};
 ghost use Rattle.planning_laws.specs.Lists.{Descending};
 ghost use Rattle.verifier_tree.specs.ByNodes.{listed, atOrAfter, ByChildren, readBefore, Before, readWith, nodeBy, childrenBy};
+use job::Version;
 use spec::Shape;
 
 // Where the writing stands: how many of the covered nodes are at or after the node whose children come next, and how many at or after the next child; how many slots are read.
@@ -96,7 +97,7 @@ fn write_children(
 {
     let node = p.node;
     if !is_next(nodes, node, a) {
-        tree::expand_node(t, w, iv, a, tree);
+        tree::expand_node(t, w, Version::Two, iv, a, tree);
         return p;
     }
     let left = write_child(w, nodes, 2 * a + 1, p, slots, n, tree);

@@ -5,14 +5,14 @@ ghost use mathlib.Core.List.{List, _++_};
 ghost use Prim.Native.Nat.{ℕ, _+_, _*_, _≤_, _<_};
 ghost use lib.Bits.{bitXor};
 ghost use lib.ListN.{length, take, drop};
-ghost use Rattle.spec.specs.Bytes.{tabulate, concat};
+ghost use Rattle.spec.specs.Bytes.{part, tabulate, concat};
 ghost use Rattle.spec.specs.Hashes.{hash1};
 ghost use Rattle.spec.specs.Shapes.{leafCommitmentBytes, hashBytes, depthOf, entriesOf, hiddenIndex};
-ghost use Rattle.spec.specs.Primitives.{faest};
 ghost use Rattle.spec.specs.Rows.{columnByte};
-ghost use Rattle.spec.specs.Verifier.{hiddenLeafCommitment, verifierLeafCommitment};
 ghost use Rattle.leaf.specs.HashKeys.{HashKeys, HashMultiples};
-ghost use Rattle.vector.specs.Entries.{ownCommitment, rowOf, Lent};
+ghost use Rattle.job.specs.Versions.{hiddenFrom};
+ghost use Rattle.job.specs.Jobs.{entryCommitment, entryByte, givenCommitment};
+ghost use Rattle.vector.specs.Entries.{Lent};
 ghost use Rattle.vector.specs.Vectors.{Converted};
 ghost use Rattle.verifier_vector.specs.Vector.{given, uncorrected};
 use job::Job;
@@ -50,8 +50,8 @@ fn add_visible(
 )
     requires { ⌜ Lent g (now t) (now tree) × HashMultiples (g .shape) (g .iv) (x .vector) (now m) × (x .vector < g .shape .tau) × (x .entry < entriesOf (g .shape) (x .vector)) ⌝ }
     requires { ⌜ (length (now hidden) ≡ leafCommitmentBytes (g .shape)) × (length (now lcs) ≡ leafCommitmentBytes (g .shape) * entriesOf (g .shape) (x .vector)) × (length (now cols) ≡ g .stretch .width * depthOf (g .shape) (x .vector)) ⌝ }
-    ensures { λ _. ⌜ now (lcs .exit) ≡ concat (entriesOf (g .shape) (x .vector)) (given (now (hidden .entry)) (ownCommitment g (now (tree .entry)) (x .vector)) (x .entry)) ⌝ }
-    ensures { λ _. ⌜ now (cols .exit) ≡ concat (depthOf (g .shape) (x .vector)) (λ j. tabulate (g .stretch .width) (columnByte (g .shape) (rowOf g (now (tree .entry))) (λ e. bitXor e (x .entry)) (x .vector) j)) ⌝ }
+    ensures { λ _. ⌜ now (lcs .exit) ≡ concat (entriesOf (g .shape) (x .vector)) (given (now (hidden .entry)) (entryCommitment g (now (tree .entry)) (x .vector)) (x .entry)) ⌝ }
+    ensures { λ _. ⌜ now (cols .exit) ≡ concat (depthOf (g .shape) (x .vector)) (λ j. tabulate (g .stretch .width) (columnByte (g .shape) (entryByte g (now (tree .entry))) (λ e. bitXor e (x .entry)) (x .vector) j)) ⌝ }
 {
     let w = rules::commitment_bytes(g.shape);
     let n = rules::entry_count(g.shape, x.vector);
@@ -88,8 +88,8 @@ pub fn convert(
 )
     requires { ⌜ Lent g (now t) (now tree) × HashKeys (g .shape) (g .iv) (now keys) × (x .vector < g .shape .tau) × (x .entry < entriesOf (g .shape) (x .vector)) × (length (now hidden) ≡ leafCommitmentBytes (g .shape)) ⌝ }
     requires { ⌜ (length (now lcs) ≡ leafCommitmentBytes (g .shape) * entriesOf (g .shape) (x .vector)) × (length (now cols) ≡ g .stretch .width * depthOf (g .shape) (x .vector)) × (length (now hash) ≡ hashBytes (g .shape)) ⌝ }
-    ensures { λ _. ⌜ ((ch opening : List ℕ) → x .entry ≡ hiddenIndex (g .shape) ch (x .vector) → now (hidden .entry) ≡ hiddenLeafCommitment (g .shape) opening (x .vector)
-        → Converted (g .shape) (verifierLeafCommitment faest (g .shape) (g .iv) ch opening (now (tree .entry))) (uncorrected (g .shape) (g .stretch .width) (rowOf g (now (tree .entry))) ch) (x .vector) (now (lcs .exit)) (now (cols .exit)) (now (hash .exit))) ⌝ }
+    ensures { λ _. ⌜ ((ch opening : List ℕ) → x .entry ≡ hiddenIndex (g .shape) ch (x .vector) → now (hidden .entry) ≡ part opening (hiddenFrom (g .version) (g .shape) (x .vector)) (leafCommitmentBytes (g .shape))
+        → Converted (g .shape) (givenCommitment g ch opening (now (tree .entry))) (uncorrected (g .shape) (g .stretch .width) (entryByte g (now (tree .entry))) ch) (x .vector) (now (lcs .exit)) (now (cols .exit)) (now (hash .exit))) ⌝ }
 {
     let w = rules::commitment_bytes(g.shape);
     let r = rules::rate_bytes(g.shape);

@@ -6,19 +6,36 @@ ghost use mathlib.Core.List.{List};
 ghost use Prim.Native.Nat.{ℕ, _+_, _*_, _≤_, _<_};
 ghost use lib.ListN.{length};
 ghost use Rattle.spec.specs.Bytes.{concat};
-ghost use Rattle.spec.specs.Shapes.{challengeBytes, hashBytes, shapeOk, hiddenIndex, entriesOf, leafCommitmentsBytes, openingBytes, matrixBytes, correctionsBytes};
+ghost use Rattle.spec.specs.Shapes.{challengeBytes, leafCommitmentBytes, hashBytes, shapeOk, hiddenIndex, entriesOf, leafCommitmentsBytes, matrixBytes, correctionsBytes};
 ghost use Rattle.spec.specs.Primitives.{faest};
 ghost use Rattle.spec.specs.Leaves.{leafCommitments, vectorHash};
 ghost use Rattle.spec.specs.Rows.{matrixOf};
-ghost use Rattle.spec.specs.Verifier.{verifierLeafCommitment, verifierColumn};
+ghost use Rattle.spec.specs.Verifier.{verifierColumn};
 ghost use Rattle.leaf.specs.HashKeys.{HashKeys};
-ghost use Rattle.vector.specs.Entries.{rowOf, Lent};
+ghost use Rattle.job.specs.Versions.{openingLength, hiddenFrom};
+ghost use Rattle.job.specs.Jobs.{Ready, entryByte, givenCommitment};
+ghost use Rattle.vector.specs.Entries.{Lent};
 ghost use Rattle.vector.specs.Vectors.{Before};
 ghost use Rattle.verifier_vector.specs.Vector.{uncorrected};
 ghost use Rattle.verifier_vectors.specs.Corrections.{Corrected};
 use job::Job;
+use job::Version;
 use spec::Shape;
 use verifier_vector::Hidden;
+
+// Where an opening has the hidden leaf commitment of vector i.
+fn hidden_from(g: Job, i: usize) -> usize
+    requires { ⌜ Ready g × (i < g .shape .tau) ⌝ }
+    ensures { λ r. ⌜ (r ≡ hiddenFrom (g .version) (g .shape) i) × (r + leafCommitmentBytes (g .shape) ≤ openingLength (g .version) (g .shape)) ⌝ }
+{
+    let s = g.shape;
+    let version = g.version;
+    match version {
+        Version::One => v1_rules::decommitment_from(s, i)
+            + rules::node_bytes(s) * rules::depth_of(s, i),
+        Version::Two => rules::commitment_bytes(s) * i,
+    }
+}
 
 // A vector whose hidden entry is known, in its parts of the buffers, behind those before it.
 fn next_vector(
@@ -32,15 +49,16 @@ fn next_vector(
     q: &mut [u8],
     hashes: &mut [u8],
 )
-    requires { ⌜ Lent g (now t) (now tree) × HashKeys (g .shape) (g .iv) (now keys) × (x .vector < g .shape .tau) × (x .entry < entriesOf (g .shape) (x .vector)) × (length (now opening) ≡ openingBytes (g .shape)) ⌝ }
+    requires { ⌜ Lent g (now t) (now tree) × HashKeys (g .shape) (g .iv) (now keys) × (x .vector < g .shape .tau) × (x .entry < entriesOf (g .shape) (x .vector)) × (length (now opening) ≡ openingLength (g .version) (g .shape)) ⌝ }
     requires { ⌜ (length (now lcs) ≡ leafCommitmentsBytes (g .shape)) × (length (now q) ≡ matrixBytes (g .shape) (g .stretch .width)) × (length (now hashes) ≡ hashBytes (g .shape) * g .shape .tau) ⌝ }
     ensures { λ _. ⌜ ((ch : List ℕ) → x .entry ≡ hiddenIndex (g .shape) ch (x .vector)
-        → Before (g .shape) (g .stretch .width) (verifierLeafCommitment faest (g .shape) (g .iv) ch (now (opening .entry)) (now (tree .entry))) (uncorrected (g .shape) (g .stretch .width) (rowOf g (now (tree .entry))) ch) (x .vector) (now (lcs .entry)) (now (q .entry)) (now (hashes .entry))
-        → Before (g .shape) (g .stretch .width) (verifierLeafCommitment faest (g .shape) (g .iv) ch (now (opening .entry)) (now (tree .entry))) (uncorrected (g .shape) (g .stretch .width) (rowOf g (now (tree .entry))) ch) (x .vector + 1) (now (lcs .exit)) (now (q .exit)) (now (hashes .exit))) ⌝ }
+        → Before (g .shape) (g .stretch .width) (givenCommitment g ch (now (opening .entry)) (now (tree .entry))) (uncorrected (g .shape) (g .stretch .width) (entryByte g (now (tree .entry))) ch) (x .vector) (now (lcs .entry)) (now (q .entry)) (now (hashes .entry))
+        → Before (g .shape) (g .stretch .width) (givenCommitment g ch (now (opening .entry)) (now (tree .entry))) (uncorrected (g .shape) (g .stretch .width) (entryByte g (now (tree .entry))) ch) (x .vector + 1) (now (lcs .exit)) (now (q .exit)) (now (hashes .exit))) ⌝ }
 {
     let s = g.shape;
     let i = x.vector;
     let w = rules::commitment_bytes(s);
+    let at = hidden_from(g, i);
     let h = rules::hash_bytes(s);
     let lcs_from = vector::commitments_from(s, i);
     let lcs_to = vector::commitments_from(s, i + 1);
@@ -52,7 +70,7 @@ fn next_vector(
         x,
         keys,
         tree,
-        &opening[w * i..w * i + w],
+        &opening[at..at + w],
         &mut lcs[lcs_from..lcs_to],
         &mut q[q_from..q_to],
         &mut hashes[h * i..h * i + h],
@@ -71,11 +89,11 @@ pub fn write_vectors(
     q: &mut [u8],
     hashes: &mut [u8],
 )
-    requires { ⌜ Lent g (now t) (now tree) × HashKeys (g .shape) (g .iv) (now keys) × (length (now ch) ≡ challengeBytes (g .shape)) × (length (now opening) ≡ openingBytes (g .shape)) ⌝ }
+    requires { ⌜ Lent g (now t) (now tree) × HashKeys (g .shape) (g .iv) (now keys) × (length (now ch) ≡ challengeBytes (g .shape)) × (length (now opening) ≡ openingLength (g .version) (g .shape)) ⌝ }
     requires { ⌜ (length (now lcs) ≡ leafCommitmentsBytes (g .shape)) × (length (now q) ≡ matrixBytes (g .shape) (g .stretch .width)) × (length (now hashes) ≡ hashBytes (g .shape) * g .shape .tau) ⌝ }
-    ensures { λ _. ⌜ now (lcs .exit) ≡ leafCommitments (g .shape) (verifierLeafCommitment faest (g .shape) (g .iv) (now (ch .entry)) (now (opening .entry)) (now (tree .entry))) ⌝ }
-    ensures { λ _. ⌜ now (q .exit) ≡ matrixOf (g .shape) (g .stretch .width) (uncorrected (g .shape) (g .stretch .width) (rowOf g (now (tree .entry))) (now (ch .entry))) ⌝ }
-    ensures { λ _. ⌜ now (hashes .exit) ≡ concat (g .shape .tau) (vectorHash faest (g .shape) (verifierLeafCommitment faest (g .shape) (g .iv) (now (ch .entry)) (now (opening .entry)) (now (tree .entry)))) ⌝ }
+    ensures { λ _. ⌜ now (lcs .exit) ≡ leafCommitments (g .shape) (givenCommitment g (now (ch .entry)) (now (opening .entry)) (now (tree .entry))) ⌝ }
+    ensures { λ _. ⌜ now (q .exit) ≡ matrixOf (g .shape) (g .stretch .width) (uncorrected (g .shape) (g .stretch .width) (entryByte g (now (tree .entry))) (now (ch .entry))) ⌝ }
+    ensures { λ _. ⌜ now (hashes .exit) ≡ concat (g .shape .tau) (vectorHash faest (g .shape) (givenCommitment g (now (ch .entry)) (now (opening .entry)) (now (tree .entry)))) ⌝ }
 {
     let n = g.shape.tau;
     for i in 0..n {

@@ -216,6 +216,73 @@ call! { "writer",
         commitment commitment_len; record record_len)
 }
 
+/// FAEST version 1: a tree for each vector, with w 0, t 1 and kind 0; the count is 0, and no challenge is refused. No byte of version 1 was compared with
+/// another maker's.
+pub mod v1 {
+    use super::Shape;
+
+    pub const FAEST_128S: Shape = shape(11, 11, 128);
+    pub const FAEST_128F: Shape = shape(16, 8, 128);
+    pub const FAEST_192S: Shape = shape(16, 12, 192);
+    pub const FAEST_192F: Shape = shape(24, 8, 192);
+    pub const FAEST_256S: Shape = shape(22, 11, 256);
+    pub const FAEST_256F: Shape = shape(32, 8, 256);
+
+    /// tau vectors at a level: w is 0 and t is 1.
+    pub const fn shape(tau: usize, k: usize, level: usize) -> Shape {
+        Shape::new(tau, k, 0, 1, level)
+    }
+
+    /// The lengths of a shape's slices, in bytes.
+    #[derive(Clone, Copy, Debug, PartialEq, Eq)]
+    pub struct Lengths {
+        /// Of a root and of a challenge.
+        pub node: usize,
+        pub commitment: usize,
+        pub trees: usize,
+        pub leaf_commitments: usize,
+        pub u: usize,
+        /// Of V and of Q.
+        pub matrix: usize,
+        pub corrections: usize,
+        pub opening: usize,
+    }
+
+    /// The lengths with rows of so many bytes. None where this is no shape of version 1; four zeros are none.
+    pub fn lengths(shape: Shape, row_bytes: usize) -> Option<Lengths> {
+        let m = shape.lengths(row_bytes)?;
+        let Shape { tau, k, w: 0, t: 1, level, kind: 0 } = shape else { return None };
+        let leaves = (level - tau * k + tau) << k;
+        Some(Lengths {
+            node: m.node,
+            commitment: m.commitment,
+            trees: m.node * (2 * leaves - tau),
+            leaf_commitments: 2 * m.node * leaves,
+            u: m.u,
+            matrix: m.matrix,
+            corrections: m.corrections,
+            opening: m.node * (level + 2 * tau),
+        })
+    }
+
+    call! { "v1_signer",
+        /// The commitment to the trees that grow from a root.
+        commit = rachnoel_v1_commit(row_bits; root root_len, iv iv_len; commitment commitment_len, trees trees_len, leaf_commitments leaf_commitments_len,
+            u u_len, v v_len, corrections corrections_len, count count_len)
+    }
+
+    call! { "v1_signer",
+        /// The opening of a challenge.
+        open = rachnoel_v1_open(; challenge challenge_len, trees trees_len, leaf_commitments leaf_commitments_len; opening opening_len, count count_len)
+    }
+
+    call! { "v1_verifier",
+        /// Commitment, trees, leaf commitments and Q from an opening. The host compares the commitment with the one that it was given.
+        reconstruct = rachnoel_v1_reconstruct(row_bits; iv iv_len, challenge challenge_len, corrections corrections_len, opening opening_len;
+            commitment commitment_len, trees trees_len, leaf_commitments leaf_commitments_len, q q_len, count count_len)
+    }
+}
+
 /// The lengths of the work buffers that a record asks for: tree, leaf commitments, Q.
 #[cfg(feature = "broker")]
 pub fn work_lengths(record: &[u8], lengths: &mut [u8]) -> usize {

@@ -246,6 +246,86 @@ fn probes() {
     }
 }
 
+#[test]
+fn version_1() {
+    let tail = format!("{ROOT} {ROOT} {CHALLENGE_0C}");
+    let head = "number 0\ncount 0\n";
+    let expected = format!("{head}commitments agree\ncolumns 128 of 128\n");
+    let round = format!("v1_roundtrip 32 4 0 1 128 0 200 {tail}");
+    assert_eq!(program(&round, ""), (0, expected));
+    // The lines of each command: names and lengths.
+    let lines = |args: &str| -> Vec<String> {
+        let (status, text) = program(args, "");
+        assert!(status == 0 && text.starts_with(head), "{args}");
+        let first = |line: &str| line.split(' ').take(2).collect::<Vec<_>>().join(" ");
+        text.lines().skip(2).map(first).collect()
+    };
+    let of_vectors = ["commitment 32", "trees 15872", "leaf_commitments 16384"];
+    let commit = format!("v1_commit 32 4 0 1 128 0 200 {ROOT} {ROOT}");
+    let of_rows = ["u 25", "v 3200", "corrections 775"];
+    assert_eq!(lines(&commit), [of_vectors, of_rows].concat());
+    let open = format!("v1_open 32 4 0 1 128 0 200 {tail}");
+    assert_eq!(lines(&open), ["opening 3072"]);
+    let reconstruct = format!("v1_reconstruct 32 4 0 1 128 0 200 {tail}");
+    assert_eq!(lines(&reconstruct), [&of_vectors[..], &["q 3200"]].concat());
+    // A flipped byte is not refused, and there is no byte 3072.
+    let (_, straight) = program(&reconstruct, "");
+    for at in [0, 95, 96, 3071] {
+        let (status, flipped) = program(&format!("{reconstruct} {at}"), "");
+        assert!(status == 0 && flipped.starts_with(head));
+        assert_ne!(flipped.lines().nth(2), straight.lines().nth(2), "{at}");
+    }
+    let beyond = format!("{reconstruct} 3072");
+    assert_eq!(program(&beyond, ""), (0, straight));
+}
+
+#[test]
+fn refusals_of_version_1() {
+    let short = &ROOT[2..];
+    // The answers of commit, open and reconstruct, each its own, and of the round trip.
+    for (shape, bits, root, iv, challenge, numbers) in [
+        ("0 0 0 0 128 0", 200, ROOT, ROOT, ROOT, [1, 1, 1, 1]),
+        ("32 4 0 2 128 0", 201, short, ROOT, ROOT, [1, 1, 1, 1]),
+        ("32 4 0 1 128 1", 200, ROOT, ROOT, short, [1, 1, 1, 1]),
+        ("32 4 0 1 128 0", 201, short, ROOT, short, [2, 3, 2, 2]),
+        ("32 4 0 1 128 0", 0, ROOT, ROOT, ROOT, [2, 0, 2, 2]),
+        ("32 4 0 1 128 0", 200, short, ROOT, ROOT, [3, 0, 0, 3]),
+        ("32 4 0 1 128 0", 200, ROOT, short, ROOT, [3, 0, 3, 3]),
+        ("32 4 0 1 128 0", 200, ROOT, ROOT, short, [0, 3, 3, 3]),
+    ] {
+        let args = format!("{shape} {bits} {root} {iv}");
+        answered(&format!("v1_commit {args}"), (numbers[0], 0));
+        let commands = ["v1_open", "v1_reconstruct", "v1_roundtrip"];
+        for (command, number) in commands.iter().zip(&numbers[1..]) {
+            answered(&format!("{command} {args} {challenge}"), (*number, 0));
+        }
+    }
+}
+
+#[test]
+fn probes_of_version_1() {
+    for (args, number, outputs) in [
+        ("commit 32 4 0 1 128 0 16 8 0", 0, "written"),
+        ("commit 32 4 0 1 128 0 16 7 1", 3, "kept"),
+        ("commit 32 4 0 1 128 0 16 0 0", 3, "kept"),
+        ("commit 32 4 0 1 128 0 12 7 1", 2, "kept"),
+        ("commit 32 4 0 2 128 0 12 7 1", 1, "kept"),
+        ("open 32 4 0 1 128 0 12 4 0", 0, "written"),
+        ("open 32 4 0 1 128 0 12 3 0", 3, "kept"),
+        ("open 32 4 0 1 128 1 12 3 0", 1, "kept"),
+        ("reconstruct 32 4 0 1 128 0 16 255 8 0", 0, "written"),
+        ("reconstruct 32 4 0 1 128 0 16 255 4 0", 3, "kept"),
+        ("reconstruct 32 4 0 1 128 0 12 255 4 0", 2, "kept"),
+        ("reconstruct 32 4 1 1 128 0 12 255 4 0", 1, "kept"),
+        ("commit 31 8 0 1 256 0 8 8 0", 0, "written"),
+        ("commit 31 8 0 1 256 0 8 0 1", 3, "kept"),
+    ] {
+        let expected = format!("number {number}\ncount 0\noutputs {outputs}\n");
+        let probe = format!("probe_v1_{args}");
+        assert_eq!(program(&probe, ""), (0, expected), "{args}");
+    }
+}
+
 /// The record commands on the smallest shape: the record has `long` bytes, of which
 /// the last 32 are the commitment.
 fn small_records(version: &str, kind: usize, long: usize) {
@@ -466,6 +546,18 @@ fn arguments_that_cannot_be_read() {
         format!("record 1 1 127 1 128 0 8 {ROOT} {ROOT}"),
         format!("pairs 1 1 127 1 128 0 8 {ROOT} {ROOT} {ROOT} 0"),
         "check more".into(),
+        format!("v1_commit 32 4 0 1 128 0 8 {ROOT}"),
+        format!("v1_commit 32 4 0 1 128 0 8 {ROOT} {ROOT} {ROOT}"),
+        format!("v1_open 32 4 0 1 128 0 8 {ROOT} {ROOT}"),
+        format!("v1_open 32 4 0 1 128 0 8 {ROOT} {ROOT} {ROOT} 0"),
+        format!("v1_reconstruct 32 4 0 1 128 0 8 {ROOT} {ROOT} {ROOT} x"),
+        format!("v1_roundtrip 32 4 0 1 128 8 {ROOT} {ROOT} {ROOT}"),
+        format!("v1_commit_stretch 32 4 0 1 128 0 8 0 1 {ROOT} {ROOT}"),
+        format!("v1_decode 32 4 0 1 128 0 {ROOT}"),
+        "probe_v1_commit 32 4 0 1 128 0 8 0".into(),
+        "probe_v1_open 32 4 0 1 128 0 256 0 0".into(),
+        "probe_v1_reconstruct 32 4 0 1 128 0 8 0 0".into(),
+        "probe_v1_reconstruct 32 4 0 1 128 0 8 0 0 0 0".into(),
         "check --named more".into(),
     ] {
         assert_eq!(program(&args, ""), (2, String::new()), "{args}");

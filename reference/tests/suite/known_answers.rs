@@ -22,8 +22,11 @@ fn compare(half: usize) -> usize {
 
 // 40 shapes with the five calls, the two of a stretch and a record each; for 16 of them
 // a record of version 1, for the others a round trip; four commits and round trips of
-// large shapes; 57 shapes that are refused by eight commands each.
-const ALL: usize = 40 * 8 + 40 + 8 + 57 * 8;
+// large shapes; 57 shapes that are refused by eight commands each. Of version 1: 18
+// cases with a commit, for two challenges open, reconstruct and the round trip, and an
+// opening that is changed; two commits and round trips of large shapes; 43 shapes that
+// are refused by four commands each.
+const ALL: usize = 40 * 8 + 40 + 8 + 57 * 8 + 18 * 8 + 4 + 43 * 4;
 
 #[test]
 fn every_first_known_answer() {

@@ -16,3 +16,5 @@ mod refusals;
 mod report;
 mod roundtrip;
 mod support;
+mod version_1;
+mod version_1_refusals;

@@ -3,7 +3,7 @@
 //! `field_576` and `field_768`: the same inputs, derived here.
 
 use reference::shake::{shake128, shake256};
-use reference::{aes, bavc, prg, shape};
+use reference::{aes, bavc, prg, shape, v1};
 
 /// The numbers of a list as a file of `crates` writes it, `1 ∷ 2 ∷ []`, after `mark`.
 fn numbers(file: &str, mark: &str) -> Vec<usize> {
@@ -35,6 +35,14 @@ fn generator_blocks_5_and_511() {
     let output = prg::prg(&key, &iv, (1 << 31) + 3, 512 * 128);
     assert_eq!(output[80..96], proved("(2 ^ 31 + 3) 5\n    ≡ "));
     assert_eq!(output[8176..], proved("(2 ^ 31 + 3) 511\n    ≡ "));
+}
+
+#[test]
+fn two_blocks_of_the_counter_mode() {
+    let (key, iv) = (proved("\nctr-key ="), array(proved("\nctr-iv =")));
+    let output = v1::prg1(&key, &iv, 2 * 128);
+    assert_eq!(output[..16], proved("ctr-iv 0\n    ≡ "));
+    assert_eq!(output[16..], proved("ctr-iv 1\n    ≡ "));
 }
 
 #[test]

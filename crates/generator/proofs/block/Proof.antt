@@ -7,12 +7,7 @@ use Rattle.generator.proofs.block.Statement.{statement}
 use Rattle.generator.proofs.block.Tie as tie
 
 returns : tie.Need-returns
-returns c =
-    λ nk key e keyed.
-    let a = c .before .before .before .before .before .before .args in
-    block-is nk key (a .x .iv) (a .x .tweak) (a .n) _ _ _ (c .before .before .before .load-state .ensures) (c .before .before .counter .ensures)
-    (c .bytes-of .ensures ∙ ap bytesOf (c .before .encrypt .ensures nk key e keyed))
+returns c = λ nk key e keyed. block-is nk key (c .before .before .before .args .x) _ _ _ (c .before .before .counter .ensures) (c .bytes-of .ensures ∙ ap bytesOf (c .before .encrypt .ensures nk key e keyed))
 
 pub block-spec : {M : Type 1} → statement M
-block-spec =
-    tie.close (tie.spec (λ c. search needs) (λ c κs. search needs) (λ c κs. search needs) (λ c κs. search needs) (λ c κs. search needs) returns)
+block-spec = tie.close (tie.spec (λ c κs. search needs) (λ c κs. search needs) (λ c κs. search needs) returns)

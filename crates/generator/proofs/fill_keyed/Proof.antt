@@ -6,7 +6,7 @@ use Prim.Native.Nat.{ℕ, _+_, _-_, _≤_}
 use native.Mathlib.Omega.{arith}
 use borrow.Author.Needs.{needs}
 use lib.ListN.{length}
-use Rattle.spec.specs.Generator.{generatorByte}
+use Rattle.job.specs.Versions.{byteOf}
 use Rattle.aes_keys.specs.RoundKeys.{Keyed}
 use Rattle.laws.specs.Front.{Front}
 use Rattle.laws.proofs.Front.{front-none, front-all}
@@ -17,7 +17,7 @@ use Rattle.generator.proofs.fill_keyed.Tie as tie
 abbrev Inv-loop : tie.InvT-loop
 Inv-loop t keys rounds x first out₀ p₀ out p =
     (p ≤ length out₀) × (length out ≡ length out₀)
-    × ((nk : ℕ) (key : List ℕ) → rounds ≡ nk + 6 → Keyed nk key keys → Front (λ q. generatorByte nk key (x .iv) (x .tweak) (first + q)) (length out₀) p out)
+    × ((nk : ℕ) (key : List ℕ) → rounds ≡ nk + 6 → Keyed nk key keys → Front (λ q. byteOf nk key x (first + q)) (length out₀) p out)
 
 abbrev μ-loop : tie.MeasureT-loop
 μ-loop t keys rounds x first out₀ p₀ out p = length out₀ - p
@@ -43,8 +43,8 @@ loop-again c =
       search needs,
       λ nk key e k.
           let pair = c .before .before .before .before .before .before .before .before .before .before .block-pair .ensures nk key e k in
-          let f : ℕ → ℕ = λ q. generatorByte nk key (a .x .iv) (a .x .tweak) (a .first + q) in
-          let byte = block-byte nk key (a .x .iv) (a .x .tweak) in
+          let f : ℕ → ℕ = λ q. byteOf nk key (a .x) (a .first + q) in
+          let byte = block-byte nk key (a .x) in
           two .ensures .written f _ (λ i h room. byte _ _ _ i _ (pair .1) (omega (arith, one .ensures .whole (omega arith))) h)
           (one .ensures .written f _ (λ i h room. byte _ _ _ i _ (pair .0) (omega arith) h) (l .inv .2 nk key e k)),
     )

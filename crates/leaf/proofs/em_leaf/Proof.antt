@@ -14,6 +14,10 @@ use Rattle.spec.specs.declared.Shape.{Shape}
 use Rattle.spec.specs.Bytes.{tabulate}
 use Rattle.spec.specs.Shapes.{ordinary, leafCommitmentBytes, keyWords, leaves}
 use Rattle.spec.specs.Generator.{generatorByte}
+use Rattle.job.specs.declared.Version.the-variants.{Two}
+use Rattle.job.specs.declared.Nonce.{Nonce}
+use Rattle.job.specs.Versions.{byteOf}
+use Rattle.job.proofs.Each.{byte-two}
 use Rattle.spec.specs.Primitives.{faest, prg}
 use Rattle.spec.specs.Leaves.{leafSeed, leafCommitment}
 use Rattle.leaf.proofs.ByKind.{em-seed, em-commitment}
@@ -30,30 +34,31 @@ seed s key iv i d y o l e =
     ∙ append-nil key
     ∙ sym (em-seed faest s iv i key o)
 
-commitment : (s : Shape) (key iv : List ℕ) (i t m : ℕ) (y : List ℕ) → ordinary s ≡ false → t ≡ i + leaves s - 1 → m ≡ leafCommitmentBytes s
-    → y ≡ tabulate m (λ p. generatorByte (keyWords s) key iv t (0 + p)) → y ≡ leafCommitment faest s iv i key
+commitment : (s : Shape) (key : List ℕ) (x : Nonce) (i m : ℕ) (y : List ℕ) → ordinary s ≡ false → x .version ≡ Two → x .tweak ≡ i + leaves s - 1 → m ≡ leafCommitmentBytes s
+    → y ≡ tabulate m (λ p. byteOf (keyWords s) key x (0 + p)) → y ≡ leafCommitment faest s (x .iv) i key
 unfolding faest prg
-commitment s key iv i t m y o et em e =
+commitment s key x i m y o v et em e =
     e
-    ∙ ap₂ (λ (m t : ℕ). tabulate m (λ p. generatorByte (keyWords s) key iv t (0 + p))) em et
-    ∙ tabulate-from-0 (leafCommitmentBytes s) (generatorByte (keyWords s) key iv (i + leaves s - 1))
-    ∙ sym (em-commitment faest s iv i key o)
+    ∙ ap (λ (f : ℕ → ℕ). tabulate m (λ p. f (0 + p))) (byte-two (keyWords s) key x v)
+    ∙ ap₂ (λ (m t : ℕ). tabulate m (λ p. generatorByte (keyWords s) key (x .iv) t (0 + p))) em et
+    ∙ tabulate-from-0 (leafCommitmentBytes s) (generatorByte (keyWords s) key (x .iv) (i + leaves s - 1))
+    ∙ sym (em-commitment faest s (x .iv) i key o)
 
 fill-requires : tie.Need-fill-requires
 fill-requires c κs =
     let start = c .before .before .before .before in
     let p = start .pre .1 in
     let w = widths (start .args .s) (shape-facts (start .args .s) (p .0)) in
-    (start .pre .0, (omega (arith, w .node-min), omega (arith, w .node-max), ap (λ (n : ℕ). n % 8) (p .2) ∙ w .node-eight, omega (arith, w .node-max, w .commitment-max)))
+    (start .pre .0, (omega (arith, w .node-min), omega (arith, w .node-max), ap (λ (n : ℕ). n % 8) (p .3) ∙ w .node-eight, omega (arith, w .node-max, w .commitment-max)))
 
 returns : tie.Need-returns
 returns c = λ i tweak.
     let start = c .before .before .before .before .before .before .before .before .before .before .before in
     let g = start .args in
     let p = start .pre .1 in
-    let words = p .2 ∙ widths (g .s) (shape-facts (g .s) (p .0)) .node-words in (
-      seed (g .s) (g .key .now) (g .x .iv) i (g .seed .now) _ (p .1) (p .2 ∙ sym (p .3)) (c .before .before .copy-part .ensures),
-      commitment (g .s) (g .key .now) (g .x .iv) i (g .x .tweak) (length (g .out .now)) _ (p .1) tweak (p .4)
+    let words = p .3 ∙ widths (g .s) (shape-facts (g .s) (p .0)) .node-words in (
+      seed (g .s) (g .key .now) (g .x .iv) i (g .seed .now) _ (p .1) (p .3 ∙ sym (p .4)) (c .before .before .copy-part .ensures),
+      commitment (g .s) (g .key .now) (g .x) i (length (g .out .now)) _ (p .1) (p .2) tweak (p .5)
           (c .before .before .before .before .before .before .fill .ensures (keyWords (g .s)) words),
     )
 

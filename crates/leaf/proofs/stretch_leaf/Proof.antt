@@ -14,6 +14,10 @@ use Rattle.spec.specs.declared.Shape.{Shape}
 use Rattle.spec.specs.Bytes.{tabulate}
 use Rattle.spec.specs.Shapes.{ordinary, nodeBytes, leafCommitmentBytes, keyWords, fieldWidth, fieldPolynomial, leaves}
 use Rattle.spec.specs.Generator.{generatorByte}
+use Rattle.job.specs.declared.Version.the-variants.{Two}
+use Rattle.job.specs.declared.Nonce.{Nonce}
+use Rattle.job.specs.Versions.{byteOf}
+use Rattle.job.proofs.Each.{byte-two}
 use Rattle.spec.specs.LeafHash.{leafHashByte}
 use Rattle.spec.specs.Primitives.{faest, prg}
 use Rattle.spec.specs.Leaves.{hashKey, stretched, leafSeed, leafCommitment}
@@ -23,13 +27,14 @@ use Rattle.leaf.proofs.stretch_leaf.Statement.{statement}
 use Rattle.leaf.proofs.stretch_leaf.Tie as tie
 
 -- what `fill` writes, with the tweak of the leaves of vector i
-filled : (s : Shape) (key iv : List ℕ) (i t m : ℕ) (x : List ℕ) → t ≡ i + leaves s - 1 → m ≡ nodeBytes s + leafCommitmentBytes s
-    → x ≡ tabulate m (λ p. generatorByte (keyWords s) key iv t (0 + p)) → x ≡ stretched faest s iv i key
+filled : (s : Shape) (key : List ℕ) (x : Nonce) (i m : ℕ) (y : List ℕ) → x .version ≡ Two → x .tweak ≡ i + leaves s - 1 → m ≡ nodeBytes s + leafCommitmentBytes s
+    → y ≡ tabulate m (λ p. byteOf (keyWords s) key x (0 + p)) → y ≡ stretched faest s (x .iv) i key
 unfolding faest prg stretched
-filled s key iv i t m x et em e =
+filled s key x i m y v et em e =
     e
-    ∙ ap₂ (λ (m t : ℕ). tabulate m (λ p. generatorByte (keyWords s) key iv t (0 + p))) em et
-    ∙ tabulate-from-0 (nodeBytes s + leafCommitmentBytes s) (generatorByte (keyWords s) key iv (i + leaves s - 1))
+    ∙ ap (λ (f : ℕ → ℕ). tabulate m (λ p. f (0 + p))) (byte-two (keyWords s) key x v)
+    ∙ ap₂ (λ (m t : ℕ). tabulate m (λ p. generatorByte (keyWords s) key (x .iv) t (0 + p))) em et
+    ∙ tabulate-from-0 (nodeBytes s + leafCommitmentBytes s) (generatorByte (keyWords s) key (x .iv) (i + leaves s - 1))
 
 -- the seed's buffer, written whole
 seed : (s : Shape) (key iv : List ℕ) (i n : ℕ) (x d y : List ℕ) → ordinary s ≡ true → x ≡ stretched faest s iv i key → n ≡ nodeBytes s → length d ≡ nodeBytes s → y ≡ take n x ++ drop (0 + n) d
@@ -59,7 +64,7 @@ fill-requires c κs =
     let start = c .before .before .before .before .before .before in
     let p = start .pre .1 in
     let w = widths (start .args .s) (shape-facts (start .args .s) (p .0)) in
-    (start .pre .0, (omega (arith, w .node-min), omega (arith, w .node-max), ap (λ (n : ℕ). n % 8) (p .2) ∙ w .node-eight, omega (arith, w .node-max, w .commitment-max)))
+    (start .pre .0, (omega (arith, w .node-min), omega (arith, w .node-max), ap (λ (n : ℕ). n % 8) (p .3) ∙ w .node-eight, omega (arith, w .node-max, w .commitment-max)))
 
 returns : tie.Need-returns
 unfolding HashMultiples
@@ -69,10 +74,10 @@ returns c = λ i tweak multiples.
     let p = start .pre .1 in
     let n = c .before .before .before .before .before .before .before .before .before .before .before .before .before .before .node-bytes in
     let call = c .before .before .before .before .before .before .before .before .before .before .before .before .fill in
-    let words = p .2 ∙ widths (g .s) (shape-facts (g .s) (p .0)) .node-words in
+    let words = p .3 ∙ widths (g .s) (shape-facts (g .s) (p .0)) .node-words in
     let x = call .last .1 .1 .1 .1 .0 in
-    let e = filled (g .s) (g .key .now) (g .x .iv) i (g .x .tweak) (length (g .stretched .now)) x tweak (p .3) (call .ensures (keyWords (g .s)) words) in (
-      seed (g .s) (g .key .now) (g .x .iv) i (n .result) x (g .seed .now) _ (p .1) e (n .ensures .0) (p .4) (c .before .before .copy-part .ensures),
+    let e = filled (g .s) (g .key .now) (g .x) i (length (g .stretched .now)) x (p .2) tweak (p .4) (call .ensures (keyWords (g .s)) words) in (
+      seed (g .s) (g .key .now) (g .x .iv) i (n .result) x (g .seed .now) _ (p .1) e (n .ensures .0) (p .5) (c .before .before .copy-part .ensures),
       commitment (g .s) (g .key .now) (g .x .iv) i x _ (p .1) e (c .before .before .before .before .before .before .before .leaf-hash .ensures (hashKey faest (g .s) (g .x .iv) i) (multiples (p .1))),
     )
 

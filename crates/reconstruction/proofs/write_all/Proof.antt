@@ -7,7 +7,12 @@ use lib.ListN.{length}
 use Rattle.spec.specs.Hashes.{hash1}
 use Rattle.spec.specs.Shapes.{rate}
 use Rattle.spec.specs.Primitives.{faest}
-use Rattle.spec.specs.Leaves.{commitmentOf}
+use Rattle.spec.specs.Leaves.{leafKey, commitmentOf}
+use Rattle.spec.specs.Rows.{rowByte, stretchByte}
+use Rattle.spec.specs.Verifier.{hiddenLeafCommitment, verifierLeafCommitment}
+use Rattle.job.specs.Versions.{primitivesOf, leafNode, nodesBytes, leafSeedOf, leafCommitmentOf, openingLength, hiddenFrom}
+use Rattle.job.specs.Jobs.{entryCommitment, entryByte, givenCommitment}
+use Rattle.job.proofs.Each.{two-fits}
 use Rattle.leaf.proofs.Keys.{keys-same}
 use Rattle.vector.proofs.Numbers.{width-small}
 use Rattle.spec.specs.Calls.{reconstructed}
@@ -23,6 +28,7 @@ reconstruct-tree-requires c κs =
     (c .before .before .before .before .before .before .before .table .ensures, (p .0, q .1, p .2, p .3, q .3, start .pre .1 .1 .1))
 
 write-vectors-requires : tie.Need-write-vectors-requires
+unfolding nodesBytes openingLength
 write-vectors-requires c κs =
     let start = c .before .before .before .before .before .before .before .before .before .before .before .before .before .before .before .before .before .before .before .before .before .before .before .before .before .before .before .before in
     let g = start .args in
@@ -31,7 +37,7 @@ write-vectors-requires c κs =
     let o = start .pre .1 .1 in
     let keys = keys-same (g .s) _ _ _ (c .before .before .before .before .before .before .before .before .before .before .before .before .before .before .before .load-iv .ensures) (c .before .before .before .before .before .before .before .before .before .before .before .before .before .hash-keys .ensures) in
     let lent-tree = c .before .before .before .before .before .before .before .before .reconstruct-tree .kept .1 .1 .1 .1 .1 .1 .0 ∙ o .1 in
-    ((record { job = record { shape = p .0; row = p .1 }; table = c .before .before .before .before .before .before .before .before .before .before .before .before .before .before .before .before .table .ensures; tree = lent-tree }, keys, q .1, q .3), (o .2, o .3, p .5))
+    ((record { job = record { shape = p .0; kind = two-fits (g .s); row = p .1 }; table = c .before .before .before .before .before .before .before .before .before .before .before .before .before .before .before .before .table .ensures; tree = lent-tree }, keys, q .1, q .3), (o .2, o .3, p .5))
 
 correct-vectors-requires : tie.Need-correct-vectors-requires
 correct-vectors-requires c κs =
@@ -40,7 +46,7 @@ correct-vectors-requires c κs =
     (start .pre .0 .0, width-small (start .args .z) (start .pre .0 .1), q .1, q .2, c .before .before .before .before .before .before .before .write-vectors .kept .1 .1 .1 .1 .1 .1 .1 .0 ∙ start .pre .1 .1 .3)
 
 returns : tie.Need-returns
-unfolding faest commitmentOf
+unfolding faest leafKey commitmentOf rowByte stretchByte hiddenLeafCommitment verifierLeafCommitment primitivesOf leafNode leafSeedOf leafCommitmentOf hiddenFrom entryCommitment entryByte givenCommitment
 returns c =
     let start = c .before .before .before .before .before .before .before .before .before .before .before .before .before .before .before .before .before .before .before .before .before .before .before .before .before .before .before .before .before .before .before .before .before .before .before .before .before .before .before .before .before .before .before .before in
     let g = start .args in

@@ -3,7 +3,7 @@ use borrow.Author.Needs.{needs}
 use mathlib.Core.Path.{refl}
 use native.Mathlib.Omega.{arith}
 use Rattle.record_writer.proofs.Putting.{put-then, put-copied}
-use Rattle.record.proofs.Numbers.{length-big-endian}
+use Rattle.laws.proofs.BigEndian.{length-big-endian}
 use Rattle.record.specs.Fields.{fieldOf}
 use Rattle.record_writer.proofs.put_field.Statement.{statement}
 use Rattle.record_writer.proofs.put_field.Tie as tie

@@ -6,7 +6,8 @@ use mathlib.Core.List.{List}
 use Prim.Native.Nat.{ℕ, _+_, _*_, _-_, _/_, _≤_, _<_, min}
 use native.Mathlib.Omega.{arith}
 use lib.ListN.{length, getD}
-use Rattle.spec.specs.Generator.{generatorBlock, generatorByte}
+use Rattle.job.specs.declared.Nonce.{Nonce}
+use Rattle.job.specs.Versions.{blockOf, byteOf}
 use Rattle.generator.proofs.Blocks.{block-byte}
 use Rattle.columns.specs.Columns.{Xored}
 use Rattle.columns.proofs.Adding.{xored-none, xored-same, xored-then}
@@ -14,17 +15,17 @@ use Rattle.rows.proofs.add_row.Statement.{statement}
 use Rattle.rows.proofs.add_row.Tie as tie
 
 -- the row's bytes from byte `first` on, added up to `at`, and then up to `end` from byte `from` of block n on
-block-added : (nk : ℕ) (seed iv : List ℕ) (tweak first n from at end : ℕ) (block old mid new : List ℕ) → block ≡ generatorBlock nk seed iv tweak n → first + at ≡ 16 * n + from
-    → at ≤ end → end + from ≤ at + 16 → Xored 0 at (λ p. generatorByte nk seed iv tweak (first + p)) old mid → Xored at end (λ p. getD block (from + (p - at)) 0) mid new
-    → Xored 0 end (λ p. generatorByte nk seed iv tweak (first + p)) old new
-block-added nk seed iv tweak first n from at end block old mid new e place h within before added =
-    xored-then 0 at end (λ p. generatorByte nk seed iv tweak (first + p)) old mid new (omega arith) h before
-    (xored-same at end end (λ p. generatorByte nk seed iv tweak (first + p)) (λ p. getD block (from + (p - at)) 0) mid new refl
-    (λ p a b. block-byte nk seed iv tweak block n from (p - at) (first + p) e (omega arith) (omega arith)) added)
+block-added : (nk : ℕ) (seed : List ℕ) (x : Nonce) (first n from at end : ℕ) (block old mid new : List ℕ) → block ≡ blockOf nk seed x n → first + at ≡ 16 * n + from
+    → at ≤ end → end + from ≤ at + 16 → Xored 0 at (λ p. byteOf nk seed x (first + p)) old mid → Xored at end (λ p. getD block (from + (p - at)) 0) mid new
+    → Xored 0 end (λ p. byteOf nk seed x (first + p)) old new
+block-added nk seed x first n from at end block old mid new e place h within before added =
+    xored-then 0 at end (λ p. byteOf nk seed x (first + p)) old mid new (omega arith) h before
+    (xored-same at end end (λ p. byteOf nk seed x (first + p)) (λ p. getD block (from + (p - at)) 0) mid new refl
+    (λ p a b. block-byte nk seed x block n from (p - at) (first + p) e (omega arith) (omega arith)) added)
 
 abbrev Inv-loop : tie.InvT-loop
 Inv-loop t seed x first sum₀ keys rounds b at₀ sum at =
-    (at ≤ b) × Xored 0 at (λ p. generatorByte (length seed / 4) seed (x .iv) (x .tweak) (first + p)) sum₀ sum × (rounds ≡ length seed / 4 + 6)
+    (at ≤ b) × Xored 0 at (λ p. byteOf (length seed / 4) seed x (first + p)) sum₀ sum × (rounds ≡ length seed / 4 + 6)
 
 abbrev μ-loop : tie.MeasureT-loop
 μ-loop t seed x first sum₀ keys rounds b at₀ sum at = b - at
@@ -47,7 +48,7 @@ loop-again c =
     let g = c .before .before .before .before .before .before .before .before .before .before .before .before .before .before .before .before .before .before .args in
     let l = c .before .before .before .before .before .before .before .before .before .before .before .before .before .before .loop in
     let pair = c .before .before .before .before .before .before .before .before .before .before .block-pair .ensures (length (g .seed .now) / 4) (g .seed .now) (l .inv .2) (c .before .before .before .before .before .before .before .before .before .before .before .before .before .before .before .key-schedule .ensures) in
-    let added = block-added (length (g .seed .now) / 4) (g .seed .now) (g .x .iv) (g .x .tweak) (g .first) in
+    let added = block-added (length (g .seed .now) / 4) (g .seed .now) (g .x) (g .first) in
     let one = c .before .before .before .before .before .before .add-block .ensures in
     let two = c .before .before .add-block2 .ensures in
     let size = l .inv .1 .size in
@@ -67,7 +68,7 @@ loop-again-2 c =
     let one = c .before .before .add-block3 .ensures in
     let size = l .inv .1 .size in (
       omega (arith, one .0),
-      block-added (length (g .seed .now) / 4) (g .seed .now) (g .x .iv) (g .x .tweak) (g .first) _ _ _ _ _ _ _ _ block (omega arith) (omega (arith, one .0)) (omega (arith, one .0)) (l .inv .1) (one .1),
+      block-added (length (g .seed .now) / 4) (g .seed .now) (g .x) (g .first) _ _ _ _ _ _ _ _ block (omega arith) (omega (arith, one .0)) (omega (arith, one .0)) (l .inv .1) (one .1),
       l .inv .2,
     )
 
@@ -77,8 +78,8 @@ returns c = λ nk words.
     let l = c .before .loop in
     let e : l .at ≡ length (g .sum .now) = omega arith in
     let d : length (g .seed .now) / 4 ≡ nk = omega arith in
-    subst (λ (m : ℕ). Xored 0 (length (g .sum .now)) (λ p. generatorByte m (g .seed .now) (g .x .iv) (g .x .tweak) (g .first + p)) (g .sum .now) (l .sum)) d
-    (subst (λ (n : ℕ). Xored 0 n (λ p. generatorByte (length (g .seed .now) / 4) (g .seed .now) (g .x .iv) (g .x .tweak) (g .first + p)) (g .sum .now) (l .sum)) e (l .inv .1))
+    subst (λ (m : ℕ). Xored 0 (length (g .sum .now)) (λ p. byteOf m (g .seed .now) (g .x) (g .first + p)) (g .sum .now) (l .sum)) d
+    (subst (λ (n : ℕ). Xored 0 n (λ p. byteOf (length (g .seed .now) / 4) (g .seed .now) (g .x) (g .first + p)) (g .sum .now) (l .sum)) e (l .inv .1))
 
 pub add-row-spec : {M : Type 1} → statement M
 add-row-spec =

@@ -7,7 +7,12 @@ use lib.ListN.{length}
 use Rattle.spec.specs.Hashes.{hash1}
 use Rattle.spec.specs.Shapes.{rate}
 use Rattle.spec.specs.Primitives.{faest}
-use Rattle.spec.specs.Leaves.{commitmentOf}
+use Rattle.spec.specs.Leaves.{leafKey, commitmentOf}
+use Rattle.spec.specs.Rows.{rowByte, stretchByte}
+use Rattle.spec.specs.Signer.{signerLeafCommitment}
+use Rattle.job.specs.Versions.{primitivesOf, leafNode, nodesBytes, leafSeedOf, leafCommitmentOf}
+use Rattle.job.specs.Jobs.{entryCommitment, entryByte}
+use Rattle.job.proofs.Each.{two-fits}
 use Rattle.leaf.proofs.Keys.{keys-same}
 use Rattle.spec.specs.Calls.{committed}
 use Rattle.signer_commit.proofs.Answers.{commit-writes}
@@ -18,6 +23,7 @@ grow-requires : tie.Need-grow-requires
 grow-requires c κs = (let start = c .before .before .before .before .before .before .before .before .before .before .before .before .before .before .before .before .before .before .before in (c .before .before .before .before .before .before .before .table .ensures, (start .pre .0 .0, start .pre .0 .2, start .pre .1 .1)))
 
 write-vectors-requires : tie.Need-write-vectors-requires
+unfolding nodesBytes
 write-vectors-requires c κs =
     let start = c .before .before .before .before .before .before .before .before .before .before .before .before .before .before .before .before .before .before .before .before .before .before .before .before .before .before .before .before .before .before in
     let g = start .args in
@@ -25,10 +31,10 @@ write-vectors-requires c κs =
     let q = start .pre .1 in
     let keys = keys-same (g .s) _ _ _ (c .before .before .before .before .before .before .before .before .before .before .before .before .before .before .before .before .before .load-iv .ensures) (c .before .before .before .before .before .before .before .before .before .before .before .before .before .before .before .hash-keys .ensures) in
     let lent-tree = c .before .before .before .before .before .before .before .before .before .before .grow .kept .1 .1 .1 .1 .0 ∙ q .1 in
-    ((record { job = record { shape = p .0; row = p .1 }; table = c .before .before .before .before .before .before .before .before .before .before .before .before .before .before .before .before .before .before .table .ensures; tree = lent-tree }, keys, q .2, p .5), (q .3, q .4, q .5))
+    ((record { job = record { shape = p .0; kind = two-fits (g .s); row = p .1 }; table = c .before .before .before .before .before .before .before .before .before .before .before .before .before .before .before .before .before .before .table .ensures; tree = lent-tree }, keys, q .2, p .5), (q .3, q .4, q .5))
 
 returns : tie.Need-returns
-unfolding faest commitmentOf
+unfolding faest leafKey commitmentOf rowByte stretchByte signerLeafCommitment primitivesOf leafNode leafSeedOf leafCommitmentOf entryCommitment entryByte
 returns c =
     let start = c .before .before .before .before .before .before .before .before .before .before .before .before .before .before .before .before .before .before .before .before .before .before .before .before .before .before .before .before .before .before .before .before .before .before .before .before .before .before .before .before .before .before .before .before .before .before in
     let g = start .args in

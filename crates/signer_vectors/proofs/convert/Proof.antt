@@ -10,7 +10,8 @@ use Rattle.spec.specs.Hashes.{hash1}
 use Rattle.spec.specs.Shapes.{depthOf}
 use Rattle.spec.specs.Rows.{uByte}
 use Rattle.columns.proofs.Running.{running-total}
-use Rattle.vector.specs.Entries.{rowOf, numbered}
+use Rattle.job.specs.Jobs.{entryByte}
+use Rattle.vector.specs.Entries.{numbered}
 use Rattle.vector.proofs.Buffers.{last-end}
 use Rattle.vector.proofs.Numbers.{width-small, deep, height-small, u-by-number}
 use Rattle.vector.proofs.Halves.{upper, lower-inside, upper-inside, lower-marked, upper-marked, columns-of}
@@ -94,10 +95,10 @@ returns c =
     let x = one .last .1 .1 .1 .1 .1 .1 .0 in
     let y = two .last .1 .1 .1 .1 .1 .1 .0 in
     let at = ap (λ (d : ℕ). b * (d - 1)) (d .ensures .0) in (
-      sum-of b (b * (d .result - 1)) (uByte s (rowOf (g .g) tree) i) x y (g .total .now) _ _ (p .0 .3) (c .before .before .before .before .before .before .before .before .before .before .before .before .before .before .before .before .before .before .before .before .before .add-part .ensures) (c .before .before .before .before .before .before .before .before .add-part2 .ensures)
+      sum-of b (b * (d .result - 1)) (uByte s (entryByte (g .g) tree) i) x y (g .total .now) _ _ (p .0 .3) (c .before .before .before .before .before .before .before .before .before .before .before .before .before .before .before .before .before .before .before .before .before .add-part .ensures) (c .before .before .before .before .before .before .before .before .add-part2 .ensures)
           (λ q l. ap (λ (k : ℕ). bitXor (getD x (k + q) 0) (getD y (k + q) 0)) at
           ∙ running-total b (depthOf s i - 1) (numbered (g .g) tree (upper (g .g) ok i 0 (n .result) (n .ensures .0) m)) (n .result / 2) (n .result) q x y l (one .ensures .1) (two .ensures .1)
-          ∙ u-by-number s (rowOf (g .g) tree) i 0 m (n .result) q (n .ensures .0)),
+          ∙ u-by-number s (entryByte (g .g) tree) i 0 m (n .result) q (n .ensures .0)),
       converted (g .g) tree i (n .result / 2) (n .result) (g .lcs .now) _ _ _ (g .hash .now) _ (n .ensures .0) (p .1 .0) (p .1 .2) (one .ensures .0) (two .ensures .0)
           (columns-of (g .g) ok i 0 (n .result) (n .ensures .0) m tree y (two .ensures .1))
           (c .before .before .h1 .ensures ∙ ap (λ (r : ℕ). hash1 r (two .last .1 .1 .1 .1 .1 .0) (length (g .hash .now))) (c .before .before .before .before .before .rate-bytes .ensures .0)),

@@ -8,10 +8,10 @@ use lib.ListN.{length, take}
 use Rattle.spec.specs.Bytes.{concat}
 use Rattle.spec.specs.Shapes.{hashBytes, leafCommitmentsBytes, matrixBytes, correctionsBytes}
 use Rattle.spec.specs.Primitives.{faest}
-use Rattle.spec.specs.Signer.{signerLeafCommitment, signerU, signerColumn, correction, corrections}
+use Rattle.spec.specs.Signer.{signerU, signerColumn, correction, corrections}
 use Rattle.laws.proofs.Concat.{mul-limit}
 use Rattle.planning_laws.proofs.ShapeFacts.{shape-facts}
-use Rattle.vector.specs.Entries.{rowOf}
+use Rattle.job.specs.Jobs.{entryCommitment, entryByte}
 use Rattle.vector.specs.Vectors.{Before}
 use Rattle.vector.proofs.Buffers.{lent, block-end, put-all, all-columns}
 use Rattle.vector.proofs.Numbers.{width-small}
@@ -23,9 +23,9 @@ use Rattle.signer_vectors.proofs.write_vectors.Tie as tie
 abbrev Inv-loop : tie.InvT-loop
 Inv-loop t g keys tree lcs₀ u v₀ corrections₀ hashes₀ b others j₀ lcs v corrections hashes j =
     (j ≤ g .shape .tau - 1) × (length lcs ≡ leafCommitmentsBytes (g .shape)) × (length v ≡ matrixBytes (g .shape) (g .stretch .width)) × (length corrections ≡ correctionsBytes (g .shape) (g .stretch .width))
-    × (length hashes ≡ hashBytes (g .shape) * g .shape .tau) × (u ≡ signerU (g .shape) (g .stretch .width) (rowOf g tree))
-    × (take (g .stretch .width * j) corrections ≡ concat j (λ i. correction (g .shape) (g .stretch .width) (rowOf g tree) (i + 1)))
-    × Before (g .shape) (g .stretch .width) (signerLeafCommitment faest (g .shape) (g .iv) tree) (signerColumn (g .shape) (g .stretch .width) (rowOf g tree)) (j + 1) lcs v hashes
+    × (length hashes ≡ hashBytes (g .shape) * g .shape .tau) × (u ≡ signerU (g .shape) (g .stretch .width) (entryByte g tree))
+    × (take (g .stretch .width * j) corrections ≡ concat j (λ i. correction (g .shape) (g .stretch .width) (entryByte g tree) (i + 1)))
+    × Before (g .shape) (g .stretch .width) (entryCommitment g tree) (signerColumn (g .shape) (g .stretch .width) (entryByte g tree)) (j + 1) lcs v hashes
 
 abbrev μ-loop : tie.MeasureT-loop
 μ-loop t g keys tree lcs₀ u v₀ corrections₀ hashes₀ b others j₀ lcs v corrections hashes j = g .shape .tau - 1 - j
@@ -52,7 +52,7 @@ loop-holds c =
       kept .1 .0 ∙ p .1 .1,
       p .1 .2,
       kept .1 .1 .0 ∙ p .0 .3,
-      u-of (g .shape) (g .stretch .width) (rowOf g (start .args .tree .now)) _ _ _ (c .before .before .before .before .before .before .before .before .before .before .before .before .before .before .before .clear-from .ensures) (first .ensures .0),
+      u-of (g .shape) (g .stretch .width) (entryByte g (start .args .tree .now)) _ _ _ (c .before .before .before .before .before .before .before .before .before .before .before .before .before .before .before .clear-from .ensures) (first .ensures .0),
       ap (λ (m : ℕ). take m (start .args .corrections .now)) (mul-zero (g .stretch .width)),
       first .ensures .1 (before-none _ _ _ _ _ _ _),
     )
@@ -108,7 +108,7 @@ loop-again c =
       c .before .before .before .before .before .before .before .corrections2 .given .1 ∙ copy .kept .1 .1 .1 .0 ∙ l .inv .3,
       kept .1 .1 .0 ∙ l .inv .4,
       l .inv .5,
-      correction-more (g .shape) (g .stretch .width) (rowOf g (start .args .tree .now)) (l .j) _ (l .corrections) (copy .last .1 .1 .1 .0) _ _ (l .inv .5) (correction-end (c .before .before .before .before .before .before .before .before .before .before .before .before .before .before .before .before .before .before)) (u-length _ _ _ _ (l .inv .5)) (copy .ensures) (made .ensures .0) (l .inv .6),
+      correction-more (g .shape) (g .stretch .width) (entryByte g (start .args .tree .now)) (l .j) _ (l .corrections) (copy .last .1 .1 .1 .0) _ _ (l .inv .5) (correction-end (c .before .before .before .before .before .before .before .before .before .before .before .before .before .before .before .before .before .before)) (u-length _ _ _ _ (l .inv .5)) (copy .ensures) (made .ensures .0) (l .inv .6),
       made .ensures .1 (l .inv .7),
     )
 
@@ -130,13 +130,13 @@ returns c =
     let g = start .args .g in
     let s = g .shape in
     let b = g .stretch .width in
-    let row = rowOf g (start .args .tree .now) in
+    let row = entryByte g (start .args .tree .now) in
     let l = c .before .before .before .before .before .before .loop in
     let out = c .before .before .before .before .before .loop-test .left in
     let f = shape-facts s (start .pre .0 .0 .job .shape) in
     let rest : l .j ≡ s .tau - 1 = (let i = l .inv .0 in omega arith) in
     let all : l .j + 1 ≡ s .tau = omega arith in
-    let lc = signerLeafCommitment faest s (g .iv) (start .args .tree .now) in
+    let lc = entryCommitment g (start .args .tree .now) in
     let whole = before-all s b lc (signerColumn s b row) (start .pre .0 .0 .job .shape) _ (l .lcs) (l .v) _ (l .hashes) (l .inv .1) (l .inv .2) (l .inv .4) (c .before .before .before .before .columns-from .ensures) (c .before .before .clear-from2 .ensures)
     (subst (λ (n : ℕ). Before s b lc (signerColumn s b row) n (l .lcs) (l .v) (l .hashes)) all (l .inv .7)) in (
       whole .0,

@@ -8,8 +8,9 @@ use native.Mathlib.Omega.{arith}
 use lib.ListN.{length, take, drop}
 use Rattle.spec.specs.Bytes.{part, tabulate}
 use Rattle.spec.specs.Shapes.{nodeBytes, keyWords}
-use Rattle.spec.specs.Generator.{generatorByte}
-use Rattle.spec.specs.Primitives.{faest, prg}
+use Rattle.spec.specs.Primitives.{prg}
+use Rattle.job.specs.Versions.{byteOf}
+use Rattle.job.proofs.Each.{prg-byte}
 use Rattle.spec.specs.Leaves.{children}
 use Rattle.laws.proofs.Lists.{length-part, tabulate-from-0}
 use Rattle.laws.proofs.Concat.{mul-limit}
@@ -76,7 +77,7 @@ key-schedule-requires c κs =
     let e = key-size (c .before) in
     (start .pre .0, (omega (arith, p .0), omega (arith, p .1), ap (λ (m : ℕ). m % 8) e ∙ p .2))
 
-cast-a : tie.Need-cast-tweak
+cast-a : tie.Need-cast-t18
 cast-a c = (let p = at (c .before .before .before) in omega arith)
 
 add-to : tie.Need-add-fill-keyed-2
@@ -102,7 +103,7 @@ fill-keyed-requires c κs =
     (start .pre .0, (omega (arith, p .0), omega (arith, p .1), omega (arith, p .2), omega (arith, p .1)))
 
 returns : tie.Need-returns
-unfolding faest prg children
+unfolding prg children
 returns c = λ s ok e.
     let start = c .before .before .before .before .before .before .before .before .before in
     let g = start .args in
@@ -119,11 +120,12 @@ returns c = λ s ok e.
     let quarter : length (part x (n * a) (n * a + n - n * a)) / 4 ≡ keyWords s = (let k = key-size (c .before .before .before .before .before .before .before) in omega arith) in
     let keyed = subst (λ (m : ℕ). Keyed m (part x (n * a) (n * a + n - n * a)) (schedule .result)) quarter (schedule .ensures) in
     let rounds : n / 4 + 6 ≡ keyWords s + 6 = omega arith in
-    let f : List ℕ → ℕ → ℕ = λ k. generatorByte (keyWords s) k (g .iv) a in
+    let f : List ℕ → ℕ → ℕ = λ k. byteOf (keyWords s) k (record { iv = g .iv; tweak = a; version = g .version }) in
     let made =
     c .before .before .fill-keyed .ensures (keyWords s) _ rounds keyed
     ∙ ap₂ (λ (m : ℕ) (k : List ℕ). tabulate m (λ q. f k (0 + q))) (two-size (c .before .before .before .before) ∙ ap (λ (m : ℕ). 2 * m) e) key
-    ∙ tabulate-from-0 (2 * nodeBytes s) (f (part x (n * a) n)) in
+    ∙ tabulate-from-0 (2 * nodeBytes s) (f (part x (n * a) n))
+    ∙ ap (tabulate (2 * nodeBytes s)) (sym (prg-byte (g .version) s (part x (n * a) n) (g .iv) a)) in
     let rest : drop (from + 2 * n - from) (drop from x) ≡ drop (n * (2 * a + 3)) x = behind from (2 * n) x ∙ ap (λ (m : ℕ). drop m x) (p .last) in
     ap₂ (λ (y z : List ℕ). take from x ++ (y ++ z)) made rest
 

@@ -8,20 +8,21 @@ use native.Mathlib.Omega.{arith}
 use lib.Bits.{bitXor}
 use lib.ListN.{length}
 use Rattle.spec.specs.Shapes.{leafCommitmentBytes, entriesOf}
-use Rattle.planning_laws.proofs.LeafKindFacts.{commitment-length}
 use Rattle.columns.specs.Columns.{Marked, Running}
 use Rattle.columns.proofs.Adding.{xored-lent}
 use Rattle.columns.proofs.Running.{running-start, running-next}
-use Rattle.vector.specs.Entries.{ownCommitment, numbered, Written}
+use Rattle.job.specs.Jobs.{entryCommitment}
+use Rattle.vector.specs.Entries.{numbered, Written}
 use Rattle.vector.proofs.Buffers.{lent, last-end, cleared-before, cleared-behind}
 use Rattle.vector.proofs.Numbers.{entry-in, entry-end, width-small, deep, height-small}
+use Rattle.vector.proofs.LeafNodes.{entry-length}
 use Rattle.vector.proofs.Entries.{written-none, written-more}
 use Rattle.vector.proofs.add_half.Statement.{statement}
 use Rattle.vector.proofs.add_half.Tie as tie
 
 abbrev Inv-loop : tie.InvT-loop
 Inv-loop t m g run tree commitments₀ cols₀ i b w h last x₀ x-end commitments cols x =
-    (run .from ≤ x) × (x ≤ run .to) × Written w (ownCommitment g tree (run .vector)) (run .mask) (run .from) x commitments₀ commitments
+    (run .from ≤ x) × (x ≤ run .to) × Written w (entryCommitment g tree (run .vector)) (run .mask) (run .from) x commitments₀ commitments
     × Running (g .stretch .width) h (run .from) x (numbered g tree run) cols
 
 abbrev μ-loop : tie.MeasureT-loop
@@ -57,7 +58,7 @@ loop-holds c =
     let room : at ≤ length (g .cols .now) = (let e = behind d in omega arith) in (
       omega arith,
       start .pre .0 .2 .order,
-      written-none _ (ownCommitment (g .g) (g .tree .now) (g .run .vector)) (g .run .mask) (g .run .from) (g .commitments .now),
+      written-none _ (entryCommitment (g .g) (g .tree .now) (g .run .vector)) (g .run .mask) (g .run .from) (g .commitments .now),
       running-start (g .g .stretch .width) (d .depth-of .result - 1) (numbered (g .g) (g .tree .now) (g .run)) (g .run .from) (g .cols .now) (clear .last .0) (marked d) (clear .kept .0)
           (cleared-before at _ (g .cols .now) (clear .last .0) room (clear .ensures)) (cleared-behind at _ (g .cols .now) (clear .last .0) room (clear .ensures)),
     )
@@ -128,8 +129,8 @@ loop-again c =
     let inside = c .before .before .before .before .before .before .before .before .before .before .before .before .loop-test .taken in (
       omega arith,
       omega arith,
-      written-more (w .result) (ownCommitment (g .g) x (g .run .vector)) (g .run .mask) (g .run .from) (l .x) (g .commitments .now) (l .commitments) _ room
-          (ap length (made .ensures .0) ∙ commitment-length _ (g .g .shape) (g .g .iv) (g .run .vector) _ ∙ sym (w .ensures .0)) from (made .ensures .0) (l .inv .2),
+      written-more (w .result) (entryCommitment (g .g) x (g .run .vector)) (g .run .mask) (g .run .from) (l .x) (g .commitments .now) (l .commitments) _ room
+          (ap length (made .ensures .0) ∙ entry-length (g .g) x (g .run .vector) _ (start .pre .0 .0 .job .kind) ∙ sym (w .ensures .0)) from (made .ensures .0) (l .inv .2),
       running-next (g .g .stretch .width) h (numbered (g .g) x (g .run)) (g .run .from) (l .x) (l .cols) _ _ (l .inv .3)
           (xored-lent (g .g .stretch .width * h) (g .g .stretch .width) _ (l .cols) _ (part-add-entry-end-2 (c .before .before .before .before .before .before .before .before .before .before)) (made .ensures .1)) (c .before .before .add-last .ensures),
     )

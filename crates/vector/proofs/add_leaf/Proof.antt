@@ -1,16 +1,19 @@
--- What `commit_leaf` and `add_row` ensure, of the leaf that `leaf_of` finds.
+-- What `commit_leaf` and `add_row` ensure, of the leaf that `leaf_node` finds.
 use borrow.Author.Needs.{needs}
-use mathlib.Core.Path.{_≡_, refl, ap, ap₂, _∙_}
-use Prim.Native.Nat.{ℕ, _+_, _-_, _*_, _%_}
+use mathlib.Core.Path.{_≡_, refl, sym, ap, ap₂, _∙_, subst}
+use mathlib.Core.List.{List}
+use Prim.Native.Nat.{ℕ, _+_, _-_, _*_, _%_, _^_}
 use native.Mathlib.Omega.{arith}
 use lib.ListN.{length}
 use Rattle.spec.specs.Bytes.{part}
-use Rattle.spec.specs.Shapes.{nodeBytes, leaves, keyWords, treeBytes}
-use Rattle.spec.specs.Primitives.{faest}
-use Rattle.spec.specs.Leaves.{nodeAt, leafKey, leafSeed, leafCommitment}
-use Rattle.spec.specs.Rows.{rowByte, stretchByte}
-use Rattle.laws.proofs.Concat.{mul-within, mul-limit}
+use Rattle.spec.specs.Shapes.{nodeBytes, keyWords}
+use Rattle.spec.specs.Leaves.{nodeAt}
+use Rattle.laws.proofs.Concat.{mul-limit}
 use Rattle.planning_laws.proofs.ShapeFacts.{shape-facts, widths}
+use Rattle.columns.specs.Columns.{Xored}
+use Rattle.job.specs.Versions.{byteOf, leafSeedOf, leafCommitmentOf}
+use Rattle.job.specs.Jobs.{nonceOf, entryCommitment, entryByte}
+use Rattle.job.proofs.Each.{prg-byte}
 use Rattle.vector.proofs.Buffers.{part-size, lent}
 use Rattle.vector.proofs.add_leaf.Statement.{statement}
 use Rattle.vector.proofs.add_leaf.Tie as tie
@@ -18,7 +21,7 @@ use Rattle.vector.proofs.add_leaf.Tie as tie
 mul-a : tie.Need-mul-a
 mul-a c =
     let n = c .before .node-bytes in
-    let m = mul-limit (n .result) (c .leaf-of .result) 32 172032 (n .ensures .2) (omega (arith, c .leaf-of .ensures .3)) in
+    let m = mul-limit (n .result) (c .leaf-node .result) 32 172032 (n .ensures .2) (omega (arith, c .leaf-node .ensures .2)) in
     omega arith
 
 leaf-tweak-requires : tie.Need-leaf-tweak-requires
@@ -36,28 +39,25 @@ add-tweak c =
 add-leaf : tie.Need-add-commit-leaf
 add-leaf c =
     let n = c .before .before .before .node-bytes in
-    let l = c .before .before .leaf-of in
-    let m = mul-limit (n .result) (l .result) 32 172032 (n .ensures .2) (omega (arith, l .ensures .3)) in
+    let l = c .before .before .leaf-node in
+    let m = mul-limit (n .result) (l .result) 32 172032 (n .ensures .2) (omega (arith, l .ensures .2)) in
     omega (arith, n .ensures .2)
 
 leaf-end : tie.Need-part-commit-leaf-end
-unfolding treeBytes
 leaf-end c =
     let start = c .before .before .before .before .before .before .before .before .before .before in
-    let s = start .args .g .shape in
     let n = c .before .before .before .node-bytes in
-    let l = c .before .before .leaf-of in
-    let m = mul-within (n .result) (l .result) (2 * leaves s - 1) (omega (arith, l .ensures .2)) in
-    let all : n .result * (2 * leaves s - 1) ≡ nodeBytes s * (2 * leaves s - 1) = ap (λ (w : ℕ). w * (2 * leaves s - 1)) (n .ensures .0) in
-    omega (arith, start .pre .0 .0 .tree)
+    let l = c .before .before .leaf-node in
+    let all : n .result * l .result ≡ nodeBytes (start .args .g .shape) * l .result = ap (λ (w : ℕ). w * l .result) (n .ensures .0) in
+    omega (arith, start .pre .0 .0 .tree, l .ensures .1, n .ensures .0)
 
 commit-leaf-requires : tie.Need-commit-leaf-requires
 commit-leaf-requires c κs =
     let start = c .before .before .before .before .before .before .before .before .before .before .before .before .before in
     let n = c .before .before .before .before .before .before .node-bytes in
-    let a = n .result * c .before .before .before .before .before .leaf-of .result in
+    let a = n .result * c .before .before .before .before .before .leaf-node .result in
     let lent-tree = start .pre .0 .0 in
-    (lent-tree .table, (lent-tree .job .shape, lent a (a + n .result) (n .result) (start .args .tree .now) refl (leaf-end (c .before .before .before)) ∙ n .ensures .0, start .pre .1 .0, start .pre .1 .1))
+    (lent-tree .table, (lent-tree .job .shape, lent-tree .job .kind, lent a (a + n .result) (n .result) (start .args .tree .now) refl (leaf-end (c .before .before .before)) ∙ n .ensures .0, start .pre .1 .0, start .pre .1 .1))
 
 -- the seed has a node's length
 seed-size : (c : tie.After-slice-known5) → length (c .before .before .before .before .commit-leaf .last .1 .1 .1 .1 .1 .0) ≡ nodeBytes (c .before .before .before .before .before .before .before .before .before .before .before .before .before .before .before .before .before .before .args .g .shape)
@@ -72,22 +72,26 @@ add-row-requires c κs =
     (start .pre .0 .0 .table, (omega (arith, w .node-min), omega (arith, w .node-max), ap (λ (n : ℕ). n % 8) e ∙ w .node-eight, omega (arith, job .row, start .pre .1 .2)))
 
 returns : tie.Need-returns
-unfolding faest nodeAt leafKey rowByte stretchByte
+unfolding nodeAt entryCommitment entryByte
 returns c =
     let start = c .before .before .before .before .before .before .before .before .before .before .before .before .before .before .before .before .before .before .before .before .before .before .before in
     let i = start .args .i in
-    let s = start .args .g .shape in
-    let iv = start .args .g .iv in
+    let g = start .args .g in
+    let s = g .shape in
     let x = start .args .tree .now in
-    let leaf = c .before .before .before .before .before .before .before .before .before .before .before .before .before .before .before .leaf-of in
+    let leaf = c .before .before .before .before .before .before .before .before .before .before .before .before .before .before .before .leaf-node in
     let n = c .before .before .before .before .before .before .before .before .before .before .before .before .before .before .before .before .node-bytes in
     let tweak = c .before .before .before .before .before .before .before .before .before .before .before .before .before .leaf-tweak .ensures ∙ ap (λ (n : ℕ). i + n - 1) (c .before .before .before .before .before .before .before .before .before .before .before .before .before .before .leaf-count .ensures .0) in
     let made = c .before .before .before .before .before .before .before .before .before .commit-leaf .ensures i tweak (start .pre .0 .1) in
     let a = n .result * leaf .result in
     let key = ap (part x a) (part-size a (n .result)) ∙ ap₂ (λ (w k : ℕ). part x (w * k) w) (n .ensures .0) (leaf .ensures .0) in
     let w = widths s (shape-facts s (start .pre .0 .0 .job .shape)) in
-    let seed = made .0 ∙ ap (leafSeed faest s iv i) key in
-    (made .1 ∙ ap (leafCommitment faest s iv i) key, rw seed at (c .before .before .add-row .ensures (keyWords s) (seed-size (c .before .before .before .before .before) ∙ w .node-words)))
+    let seed = made .0 ∙ ap (leafSeedOf (g .version) s (g .iv) i) key in
+    let byte = ap (λ (k : List ℕ). byteOf (keyWords s) k (nonceOf g (i + 2 ^ 31))) seed ∙ sym (prg-byte (g .version) s _ (g .iv) (i + 2 ^ 31)) in (
+      made .1 ∙ ap (leafCommitmentOf (g .version) s (g .iv) i) key,
+      subst (λ (f : ℕ → ℕ). Xored 0 (length (start .args .sum .now)) (λ p. f (g .stretch .first + p)) (start .args .sum .now) (c .before .before .add-row .last .1 .1 .1 .1 .0)) byte
+          (c .before .before .add-row .ensures (keyWords s) (seed-size (c .before .before .before .before .before) ∙ w .node-words)),
+    )
 
 pub add-leaf-spec : {M : Type 1} → statement M
 add-leaf-spec =

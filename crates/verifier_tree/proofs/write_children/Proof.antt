@@ -13,6 +13,7 @@ use Rattle.laws.proofs.Concat.{mul-limit}
 use Rattle.tree.proofs.Growing.{node-place}
 use Rattle.verifier_tree.proofs.Places.{node-passed, node-kept, children-kept}
 use Rattle.verifier_tree.proofs.Children.{other-reads, other-children, listed-reads, left-within, right-within, listed-children}
+use Rattle.job.specs.Versions.{primitivesOf}
 use Rattle.verifier_tree.proofs.write_children.Statement.{statement}
 use Rattle.verifier_tree.proofs.write_children.Tie as tie
 
@@ -31,6 +32,7 @@ right-room : (w a d : ℕ) → w * (2 * a + 3) ≤ d → w * (2 * a + 2) + w ≤
 right-room w a d h = (let x = node-place w a 2 in let y = node-place w a 3 in omega arith)
 
 returns : tie.Need-returns
+unfolding primitivesOf
 returns c =
     let g = c .before .before .before .before .before .before .before .before .before .args in
     let p = c .before .before .before .before .before .before .before .before .before .pre .1 in
@@ -79,7 +81,7 @@ write-child-requires-2 c κs =
       right-room (g .w) (g .a) _ (rw (w .kept .1 .1 .1 .1 .1 .1 .0) (p .5)),
     )
 
-sub-node : tie.Need-sub-t18
+sub-node : tie.Need-sub-t19
 sub-node c =
     let st = c .before .before .before .before .before .before .before .before .before .before .before .before .before in
     let z =

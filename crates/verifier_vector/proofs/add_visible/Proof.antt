@@ -7,7 +7,8 @@ use native.Mathlib.Omega.{arith}
 use lib.ListN.{length, take, drop}
 use Rattle.spec.specs.Bytes.{part}
 use Rattle.spec.specs.Shapes.{leafCommitmentBytes, depthOf, entriesOf}
-use Rattle.vector.specs.Entries.{ownCommitment, Written}
+use Rattle.job.specs.Jobs.{entryCommitment}
+use Rattle.vector.specs.Entries.{Written}
 use Rattle.vector.proofs.Buffers.{start-fits, block-end}
 use Rattle.vector.proofs.Numbers.{half-is}
 use Rattle.vector.proofs.Entries.{written-then}
@@ -69,7 +70,7 @@ returns c =
     let n = c .before .before .before .before .before .before .before .before .before .before .before .before .before .before .before .before .before .before .before .before .before .before .before .entry-count in
     let half = half-is s i (depthOf s i) ok refl (n .result) (n .ensures .0) in
     let w = leafCommitmentBytes s in
-    let own = ownCommitment (g .g) (g .tree .now) i in
+    let own = entryCommitment (g .g) (g .tree .now) i in
     let copy = c .before .before .before .before .before .before .before .before .before .before .before .before .before .before .before .before .before .before .before .before .copy-part in
     let one = c .before .before .before .before .before .before .before .before .before .before .before .add-half in
     let two = c .before .before .before .before .add-half2 in

@@ -6,16 +6,15 @@ use Prim.Native.Nat.{ℕ, _+_, _*_}
 use native.Mathlib.Omega.{arith}
 use lib.Bits.{bitXor}
 use lib.ListN.{length, take, drop}
-use Rattle.planning_laws.proofs.LeafKindFacts.{commitment-length}
 use Rattle.spec.specs.Bytes.{tabulate, concat}
 use Rattle.spec.specs.Hashes.{hash1}
 use Rattle.spec.specs.Shapes.{leafCommitmentBytes, rate, depthOf, entriesOf}
 use Rattle.spec.specs.Primitives.{faest}
-use Rattle.spec.specs.Leaves.{leafKey, vectorCommitments, vectorHash}
+use Rattle.spec.specs.Leaves.{vectorCommitments, vectorHash}
 use Rattle.spec.specs.Rows.{columnByte}
-use Rattle.spec.specs.Verifier.{verifierLeafCommitment}
-use Rattle.vector.specs.Entries.{ownCommitment, rowOf}
+use Rattle.job.specs.Jobs.{entryCommitment, entryByte, givenCommitment}
 use Rattle.vector.proofs.Buffers.{block-end}
+use Rattle.vector.proofs.LeafNodes.{entry-length}
 use Rattle.verifier_vector.specs.Vector.{given, uncorrected}
 use Rattle.verifier_vector.proofs.Given.{hashed-whole}
 use Rattle.verifier_vector.proofs.convert.Statement.{statement}
@@ -38,7 +37,7 @@ hash-vector-requires c κs =
     (r .1, r .2, block-end (w .result) (g .x .entry) n _ (start .pre .0 .3) (omega arith))
 
 returns : tie.Need-returns
-unfolding faest vectorCommitments vectorHash verifierLeafCommitment uncorrected
+unfolding faest vectorCommitments vectorHash givenCommitment uncorrected
 returns c ch opening hd hh =
     let start = c .before .before .before .before .before .before .before .before .before .before .before .before .before .before .before .before .before .before .before .before .before .before in
     let g = start .args in
@@ -51,12 +50,12 @@ returns c ch opening hd hh =
     let w = c .before .before .before .before .before .before .before .before .before .before .before .before .before .before .before .commitment-bytes in
     let made = c .before .before .before .before .before .before .before .before .before .add-visible in
     let lcs : List ℕ = made .last .1 .1 .1 .1 .1 .1 .0 in
-    let own = ownCommitment (g .g) x i in
+    let own = entryCommitment (g .g) x i in
     let leaves = made .ensures .0 ∙ ap₂ (λ (v : List ℕ) (m : ℕ). concat n (given v own m)) hh hd in
-    let message = hashed-whole (w .result) (g .hidden .now) own d n lcs (p .0 .3) (p .0 .4 ∙ sym (w .ensures .0)) (λ e. commitment-length faest s (g .g .iv) i (leafKey s x i e) ∙ sym (w .ensures .0)) (made .ensures .0) in
+    let message = hashed-whole (w .result) (g .hidden .now) own d n lcs (p .0 .3) (p .0 .4 ∙ sym (w .ensures .0)) (λ e. entry-length (g .g) x i e (p .0 .0 .job .kind) ∙ sym (w .ensures .0)) (made .ensures .0) in
     record {
       leaves = leaves;
-      columns = made .ensures .1 ∙ ap (λ (m : ℕ). concat (depthOf s i) (λ j. tabulate (g .g .stretch .width) (columnByte s (rowOf (g .g) x) (λ e. bitXor e m) i j))) hd;
+      columns = made .ensures .1 ∙ ap (λ (m : ℕ). concat (depthOf s i) (λ j. tabulate (g .g .stretch .width) (columnByte s (entryByte (g .g) x) (λ e. bitXor e m) i j))) hd;
       digest =
           c .before .before .hash-vector .ensures
           ∙ ap (λ (k : ℕ). hash1 k (take (w .result * d) lcs ++ (g .hidden .now ++ drop (w .result * d + w .result) lcs)) (length (g .hash .now))) (c .before .before .before .before .before .before .before .before .before .before .before .before .before .before .rate-bytes .ensures .0)

@@ -7,9 +7,8 @@ use native.Mathlib.Omega.{arith}
 use lib.ListN.{length}
 use Rattle.spec.specs.Shapes.{hashBytes, leafCommitmentsBytes, matrixBytes}
 use Rattle.spec.specs.Primitives.{faest}
-use Rattle.spec.specs.Verifier.{verifierLeafCommitment}
 use Rattle.planning_laws.proofs.ShapeFacts.{shape-facts}
-use Rattle.vector.specs.Entries.{rowOf}
+use Rattle.job.specs.Jobs.{entryByte, givenCommitment}
 use Rattle.vector.specs.Vectors.{Before}
 use Rattle.vector.proofs.Buffers.{all-columns}
 use Rattle.vector.proofs.Numbers.{width-small}
@@ -21,7 +20,7 @@ use Rattle.verifier_vectors.proofs.write_vectors.Tie as tie
 abbrev Inv-loop : tie.InvT-loop
 Inv-loop t g keys ch tree opening lcs₀ q₀ hashes₀ n i₀ lcs q hashes i =
     (i ≤ g .shape .tau) × (length lcs ≡ leafCommitmentsBytes (g .shape)) × (length q ≡ matrixBytes (g .shape) (g .stretch .width)) × (length hashes ≡ hashBytes (g .shape) * g .shape .tau)
-    × Before (g .shape) (g .stretch .width) (verifierLeafCommitment faest (g .shape) (g .iv) ch opening tree) (uncorrected (g .shape) (g .stretch .width) (rowOf g tree) ch) i lcs q hashes
+    × Before (g .shape) (g .stretch .width) (givenCommitment g ch opening tree) (uncorrected (g .shape) (g .stretch .width) (entryByte g tree) ch) i lcs q hashes
 
 abbrev μ-loop : tie.MeasureT-loop
 μ-loop t g keys ch tree opening lcs₀ q₀ hashes₀ n i₀ lcs q hashes i = g .shape .tau - i
@@ -61,8 +60,8 @@ returns c =
     let l = c .before .before .before .before .before .before .loop in
     let out = c .before .before .before .before .before .loop-test .left in
     let all : l .i ≡ g .shape .tau = (let i = l .inv .0 in omega arith) in
-    let lc = verifierLeafCommitment faest (g .shape) (g .iv) (start .args .ch .now) (start .args .opening .now) (start .args .tree .now) in
-    let col = uncorrected (g .shape) (g .stretch .width) (rowOf g (start .args .tree .now)) (start .args .ch .now) in
+    let lc = givenCommitment g (start .args .ch .now) (start .args .opening .now) (start .args .tree .now) in
+    let col = uncorrected (g .shape) (g .stretch .width) (entryByte g (start .args .tree .now)) (start .args .ch .now) in
     let whole = before-all (g .shape) (g .stretch .width) lc col (start .pre .0 .0 .job .shape) _ (l .lcs) (l .q) _ (l .hashes) (l .inv .1) (l .inv .2) (l .inv .3) (c .before .before .before .before .columns-from .ensures) (c .before .before .clear-from .ensures)
     (subst (λ (n : ℕ). Before (g .shape) (g .stretch .width) lc col n (l .lcs) (l .q) (l .hashes)) all (l .inv .4)) in
     (whole .0, (whole .1, whole .2))

@@ -1,0 +1,2 @@
+-- What the definitions by version are for each of the two.
+pub mod Each

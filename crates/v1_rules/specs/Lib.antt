@@ -1,0 +1,2 @@
+-- The shape inside version 1's calls.
+pub mod Inner
