@@ -36,7 +36,7 @@ pub width-one : (s : Shape) → ordinary s ≡ false → leafCommitmentBytes s �
 unfolding leafCommitmentBytes leafCommitmentBytes1
 width-one s o = ap (λ (b : Bool). cond b 3 2 * nodeBytes s) o
 
-h0-length : (r : ℕ) (m : List ℕ) (n : ℕ) → length (hash0 r m n) ≡ n
+pub h0-length : (r : ℕ) (m : List ℕ) (n : ℕ) → length (hash0 r m n) ≡ n
 unfolding hash0 shake sponge
 h0-length r m n = length-tabulate n _
 

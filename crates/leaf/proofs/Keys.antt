@@ -7,23 +7,18 @@ use native.Mathlib.Omega.{arith}
 use lib.ListN.{length}
 use Rattle.spec.specs.declared.Shape.{Shape}
 use Rattle.spec.specs.Bytes.{part}
-use Rattle.spec.specs.Sponge.{sponge, shake}
 use Rattle.spec.specs.Hashes.{hash0}
 use Rattle.spec.specs.Shapes.{ordinary, leafCommitmentBytes, rate}
 use Rattle.spec.specs.Primitives.{faest}
 use Rattle.spec.specs.Leaves.{hashKey}
-use Rattle.laws.proofs.Lists.{length-tabulate}
 use Rattle.leaf.specs.HashKeys.{HashKeys}
-
-h0-length : (s : Shape) (iv : List ℕ) (n : ℕ) → length (faest .h0 s iv n) ≡ n
-unfolding faest hash0 shake sponge
-h0-length s iv n = length-tabulate n _
+use Rattle.leaf.proofs.Hashed.{h0-length}
 
 pub keys-made : (s : Shape) (iv keys : List ℕ) (r n : ℕ) → r ≡ rate s → n ≡ leafCommitmentBytes s * s .tau → keys ≡ hash0 r iv n → HashKeys s iv keys
 unfolding faest
 keys-made s iv keys r n er en e =
     let k : keys ≡ faest .h0 s iv (leafCommitmentBytes s * s .tau) = e ∙ ap₂ (λ (r n : ℕ). hash0 r iv n) er en in
-    record { size = ap length k ∙ h0-length s iv (leafCommitmentBytes s * s .tau); made = λ o. k }
+    record { size = ap length k ∙ h0-length (rate s) iv (leafCommitmentBytes s * s .tau); made = λ o. k }
 
 pub keys-none : (s : Shape) (iv keys : List ℕ) → ordinary s ≡ false → length keys ≡ leafCommitmentBytes s * s .tau → HashKeys s iv keys
 keys-none s iv keys o l = record { size = l; made = λ p. absurd (true≢false (sym p ∙ o)) }

@@ -1,21 +1,18 @@
--- The shape inside the calls of version 1: that of the caller with the leaf kind whose leaf commitments have two nodes' length and no hash key. Nothing that version 1's definitions take from a shape looks at the kind. By computing.
-use Prim.Native.Nat.{ℕ, zero, suc, _+_, _≤_}
+-- The shape inside the calls of version 1: that of the caller with the leaf kind whose leaf commitments have two nodes' length and no hash key. What commit writes, and
+-- what the opening and the trees give, does not look at the kind. By computing.
+use Prim.Native.Nat.{ℕ, _≤_}
 use mathlib.Core.Path.{_≡_, refl, sym, ap, _∙_, fun-ext}
 use native.Mathlib.Nat.{zero-add}
 use native.Mathlib.Omega.{arith}
 use mathlib.Core.Bool.{true}
 use mathlib.Core.List.{List}
-use lib.Bits.{bitXor}
 use Rattle.spec.specs.declared.Shape.{Shape}
-use Rattle.spec.specs.Bytes.{tabulate}
-use Rattle.spec.specs.Shapes.{ordinary, level, nodeBytes, leafCommitmentBytes, hashBytes, keyWords, rate, deeper, depthOf, entriesOf, firstBit, firstEntry, leaves, shapeOk, hiddenIndex, matrixBytes, correctionsBytes}
-use Rattle.spec.specs.Generator.{generatorBlock, generatorByte}
-use Rattle.spec.specs.Primitives.{Primitives, faest, prg}
+use Rattle.spec.specs.Shapes.{level, nodeBytes, leafCommitmentBytes, hashBytes, keyWords, rate, deeper, depthOf, entriesOf, firstBit, firstEntry, leaves, shapeOk}
+use Rattle.spec.specs.Primitives.{faest, prg}
 use Rattle.spec.specs.Leaves.{nodeAt, vectorCommitments, leafCommitments, vectorHash, commitmentOf}
 use Rattle.spec.specs.Rows.{uByte, columnByte, matrixOf}
 use Rattle.spec.specs.Signer.{signerU, signerColumn, correction, corrections}
-use Rattle.spec.specs.Verifier.{correctionByte, verifierColumn}
-use Rattle.spec.specs.Version1.{shape1Ok, faest1, prg1, vectorRoot, children1, vectorTree, signerTrees, firstNode, leafIn, leafKey1, leafCommitmentBytes1, hashedLeaf, leafSeed1, leafCommitment1, signerLeafCommitment1, row1Byte, siblings, leafCommitmentAt1, decommitment, opening1Of, decommitmentFrom, slot1, hiddenLeafCommitment1, onPath, givenNode1, reconstructedChildren1, reconstructedVectorTree, reconstructedTrees, verifierLeafCommitment1}
+use Rattle.spec.specs.Version1.{shape1Ok, faest1, prg1, vectorRoot, children1, vectorTree, signerTrees, firstNode, leafIn, leafKey1, leafCommitmentBytes1, hashedLeaf, leafSeed1, leafCommitment1, signerLeafCommitment1, row1Byte, decommitmentFrom, hiddenLeafCommitment1, verifierLeafCommitment1}
 use Rattle.spec.specs.Version1Calls.{committed1}
 use Rattle.job.specs.Versions.{leafNode, leafCommitmentOf, hiddenFrom}
 use Rattle.job.specs.Jobs.{Ready, entryCommitment, entryByte, givenCommitment}
@@ -27,26 +24,9 @@ pub inner-ok : (s : Shape) → s .kind ≡ 0 → shapeOk s ≡ true → shapeOk 
 unfolding level deeper depthOf shapeOk
 inner-ok s e h = ap (λ (k : ℕ). shapeOk (withKind k s)) (sym e) ∙ h
 
-pub inner-width : (s : Shape) → leafCommitmentBytes (inner s) ≡ leafCommitmentBytes1 s
-unfolding level nodeBytes leafCommitmentBytes leafCommitmentBytes1
-inner-width s = refl
-
 pub inner-commits : (s : Shape) (b : ℕ) (root iv : List ℕ) → committed1 faest1 (inner s) b root iv ≡ committed1 faest1 s b root iv
 unfolding level nodeBytes hashBytes keyWords rate deeper depthOf entriesOf firstBit firstEntry leaves faest prg nodeAt vectorCommitments leafCommitments vectorHash commitmentOf uByte columnByte matrixOf signerU signerColumn correction corrections faest1 prg1 vectorRoot children1 vectorTree signerTrees firstNode leafIn leafKey1 leafCommitmentBytes1 hashedLeaf leafSeed1 leafCommitment1 signerLeafCommitment1 row1Byte committed1
 inner-commits s b root iv = refl
-
-pub inner-correction : (s : Shape) (b : ℕ) (ch cs : List ℕ) (i j p : ℕ) → correctionByte (inner s) b ch cs i j p ≡ correctionByte s b ch cs i j p
-unfolding level deeper firstBit correctionByte
-inner-correction s b ch cs zero j p = refl
-inner-correction s b ch cs (suc i) j p = refl
-
-pub inner-trees : (s : Shape) (iv ch op : List ℕ) → reconstructedTrees faest1 (inner s) iv ch op ≡ reconstructedTrees faest1 s iv ch op
-unfolding level nodeBytes keyWords deeper depthOf entriesOf firstBit hiddenIndex prg faest1 prg1 children1 leafIn siblings decommitmentFrom slot1 onPath givenNode1 reconstructedChildren1 reconstructedVectorTree reconstructedTrees
-inner-trees s iv ch op = refl
-
-pub inner-opening : (s : Shape) (ch nodes lcs : List ℕ) → opening1Of (inner s) ch nodes lcs ≡ opening1Of s ch nodes lcs
-unfolding level nodeBytes deeper depthOf entriesOf firstBit firstEntry hiddenIndex nodeAt firstNode leafCommitmentBytes1 siblings leafCommitmentAt1 decommitment opening1Of
-inner-opening s ch nodes lcs = refl
 
 pub inner-forest : (s : Shape) (root iv : List ℕ) → signerTrees faest1 s root iv ≡ signerTrees faest1 (inner s) root iv
 unfolding level nodeBytes keyWords deeper depthOf entriesOf prg faest1 prg1 vectorRoot children1 vectorTree signerTrees
@@ -69,8 +49,3 @@ inner-commitments s b iv nodes = commitment-1 (inner s) (record { first = 0; wid
 pub inner-given : (s : Shape) (b : ℕ) (iv nodes ch op : List ℕ) → givenCommitment (jobOf s b iv) ch op nodes ≡ verifierLeafCommitment1 faest1 (inner s) iv ch op nodes
 unfolding leafCommitmentBytes leafKey1 leafCommitmentBytes1 decommitmentFrom hiddenLeafCommitment1 verifierLeafCommitment1 leafNode leafCommitmentOf hiddenFrom entryCommitment givenCommitment
 inner-given s b iv nodes ch op = refl
-
-pub inner-columns : (s : Shape) (b : ℕ) (row : ℕ → ℕ → ℕ → ℕ) (ch cs : List ℕ) → verifierColumn (inner s) b row ch cs ≡ verifierColumn s b row ch cs
-unfolding level deeper depthOf entriesOf firstBit hiddenIndex columnByte verifierColumn
-inner-columns s b row ch cs =
-    fun-ext (λ i. fun-ext (λ j. ap (tabulate b) (fun-ext (λ p. ap (bitXor (columnByte s row (λ e. bitXor e (hiddenIndex s ch i)) i j p)) (inner-correction s b ch cs i j p)))))

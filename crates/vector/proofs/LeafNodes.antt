@@ -1,14 +1,11 @@
 -- Where the leaf of an entry stands among the lent nodes, of either version; and the length of its commitment.
 use Prim.Native.Nat.{ℕ, _+_, _-_, _*_, _≤_, _<_}
-use mathlib.Core.Path.{_≡_, refl, sym, ap, _∙_}
-use mathlib.Core.Bool.{true, false}
+use mathlib.Core.Path.{_≡_, refl, sym, _∙_}
 use mathlib.Core.List.{List, _++_}
 use native.Mathlib.Omega.{arith}
 use lib.ListN.{length, length-drop}
 use Rattle.spec.specs.declared.Shape.{Shape}
-use Rattle.spec.specs.Shapes.{ordinary, nodeBytes, leafCommitmentBytes, leaves, leafOf, treeBytes}
-use Rattle.spec.specs.Hashes.{hash0}
-use Rattle.spec.specs.Sponge.{sponge, shake}
+use Rattle.spec.specs.Shapes.{nodeBytes, leafCommitmentBytes, rate, leaves, leafOf, treeBytes}
 use Rattle.spec.specs.Primitives.{faest}
 use Rattle.spec.specs.Version1.{faest1, firstNode, leafIn, leafCommitmentBytes1, hashedLeaf, leafCommitment1, trees1Bytes}
 use Rattle.job.specs.declared.Version.{Version}
@@ -16,10 +13,9 @@ use Rattle.job.specs.declared.Version.the-variants.{One, Two}
 use Rattle.job.specs.declared.Job.{Job}
 use Rattle.job.specs.Versions.{leafNode, nodesBytes, KindFits, leafCommitmentOf}
 use Rattle.job.specs.Jobs.{entryCommitment}
-use Rattle.laws.proofs.Lists.{length-tabulate}
 use Rattle.laws.proofs.Concat.{mul-within}
 use Rattle.planning_laws.proofs.LeafKindFacts.{commitment-length}
-use Rattle.leaf.proofs.Hashed.{width-one}
+use Rattle.leaf.proofs.Hashed.{width-one, h0-length}
 
 -- node r of n
 node-end : (s : Shape) (r n : ℕ) → r < n → nodeBytes s * r + nodeBytes s ≤ nodeBytes s * n
@@ -39,14 +35,10 @@ module _ (v : Version) (s : Shape) (i j r : ℕ) where
 
 -- ---- a leaf commitment has its length
 
-h0-length : (s : Shape) (m : List ℕ) (n : ℕ) → length (faest1 .h0 s m n) ≡ n
-unfolding faest faest1 hash0 shake sponge
-h0-length s m n = length-tabulate n _
-
 one-length : (s : Shape) (iv key : List ℕ) → length (leafCommitment1 faest1 s iv key) ≡ leafCommitmentBytes1 s
-unfolding hashedLeaf leafCommitment1
+unfolding faest faest1 hashedLeaf leafCommitment1
 one-length s iv key =
-    let e = h0-length s (key ++ iv) (nodeBytes s + leafCommitmentBytes1 s) in
+    let e = h0-length (rate s) (key ++ iv) (nodeBytes s + leafCommitmentBytes1 s) in
     simp length-drop (omega arith)
 
 by-version : (v : Version) (s : Shape) (iv : List ℕ) (i : ℕ) (key : List ℕ) → KindFits v s → length (leafCommitmentOf v s iv i key) ≡ leafCommitmentBytes s
