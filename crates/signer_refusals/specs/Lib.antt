@@ -1,0 +1,2 @@
+-- The lengths that the calls compare.
+pub mod Sizes

@@ -1,0 +1,2 @@
+-- The lengths that the call compares.
+pub mod Sizes
