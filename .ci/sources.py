@@ -328,10 +328,8 @@ class Program:
         name = r.word()
         r.next('{')
         fields = dict(r.list('}', lambda: (r.skip('pub'), r.word(), r.next(':'), r.type())[1::2]))
-        known = self.structs.setdefault(name, fields)
-        if set([*known.values(), *fields.values()]) != {'usize'} and known is not fields:
+        if self.structs.setdefault(name, fields) is not fields:
             raise Refused('two structs of one name: ' + name)
-        known.update(fields)  # two of one name, of lengths alone: the lengths of the calls of either version
         return crate + '::' + name
 
     def enum(self, crate, r):

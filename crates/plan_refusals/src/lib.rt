@@ -24,9 +24,9 @@ fn list_number(s: Shape, challenge: usize, list: usize, n: usize) -> usize
     ensures { λ r. ⌜ r ≡ sizeNumber s ((challenge, challengeBytes s) ∷ (list, n) ∷ []) ⌝ }
 {
     if !rules::is_shape(s) {
-        return 1;
+        return refusals::SHAPE;
     }
-    refusals::refusal(list_fits(s, challenge, list, n), 3, 0)
+    refusals::refusal(list_fits(s, challenge, list, n), refusals::BUFFER, 0)
 }
 
 // The number of decode, whose list has `list` places: 1, 3, 4, or 0.
@@ -37,7 +37,7 @@ pub fn decode_number(s: Shape, ch: &[u8], list: usize) -> usize
     if first != 0 {
         return first;
     }
-    refusals::refusal(challenge::grinding_ok(s, ch), 4, 0)
+    refusals::refusal(challenge::grinding_ok(s, ch), refusals::GRINDING, 0)
 }
 
 // The answer to a challenge that has its length: 4, 5, or 0, with the count. The nodes are listed on the way, as far as there is room for them.
@@ -46,10 +46,10 @@ pub fn challenge_answer(s: Shape, ch: &[u8], nodes: &mut [u32]) -> Answer
     ensures { λ r. ⌜ Answered (challengeNumber s (now (ch .entry))) (plannedCount s (now (ch .entry))) r × Listed s (now (ch .entry)) (now (nodes .entry)) (now (nodes .exit)) r ⌝ }
 {
     if !challenge::grinding_ok(s, ch) {
-        return rules::answer(4, 0);
+        return rules::answer(refusals::GRINDING, 0);
     }
     let n = planning::revealed_nodes(s, ch, nodes);
-    rules::answer(refusals::refusal(n <= s.t, 5, 0), n)
+    rules::answer(refusals::refusal(n <= s.t, refusals::NODES, 0), n)
 }
 
 // The answer of plan, whose list has `list` places: 1, 3, 4, 5, or 0, with the count.

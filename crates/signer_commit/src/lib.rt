@@ -8,7 +8,7 @@ ghost use Rattle.spec.specs.Primitives.{faest};
 ghost use Rattle.spec.specs.Calls.{Committed, committed, Commit, CommitStretch};
 use job::Job;
 use job::Version;
-use signer_refusals::CommitLengths;
+use refusals::CommitLengths;
 use spec::Answer;
 use spec::Shape;
 use spec::Stretch;

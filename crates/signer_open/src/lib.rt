@@ -1,6 +1,6 @@
 // The signing half's public call open.
 ghost use Rattle.spec.specs.Calls.{Open};
-use signer_refusals::OpenLengths;
+use refusals::OpenLengths;
 use spec::Answer;
 use spec::Shape;
 

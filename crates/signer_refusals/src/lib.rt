@@ -7,30 +7,12 @@ ghost use Rattle.spec.specs.Shapes.{shapeOk, plannedCount};
 ghost use Rattle.spec.specs.Calls.{fits, planNumber, commitStretchNumber};
 ghost use Rattle.refusals.specs.Numbers.{sizeNumber, Answered};
 ghost use Rattle.plan_refusals.specs.Nodes.{Listed};
-ghost use Rattle.signer_refusals.specs.Sizes.{commitSizes, openSizes};
+ghost use Rattle.refusals.specs.Sizes.{commitSizes, openSizes};
+use refusals::CommitLengths;
+use refusals::OpenLengths;
 use spec::Answer;
 use spec::Shape;
 use spec::Stretch;
-
-// The lengths of the buffers of commit.
-pub struct CommitLengths {
-    pub root: usize,
-    pub iv: usize,
-    pub commitment: usize,
-    pub tree: usize,
-    pub leaf_commitments: usize,
-    pub u: usize,
-    pub v: usize,
-    pub corrections: usize,
-}
-
-// The lengths of the buffers of open.
-pub struct OpenLengths {
-    pub challenge: usize,
-    pub tree: usize,
-    pub leaf_commitments: usize,
-    pub opening: usize,
-}
 
 // Whether the buffers of commit have their lengths, for a stretch of b bytes.
 fn commit_fits(s: Shape, b: usize, x: CommitLengths) -> bool
@@ -59,7 +41,7 @@ pub fn commit_number(s: Shape, row_bits: usize, z: Stretch, x: CommitLengths) ->
     if first != 0 {
         return first;
     }
-    refusals::refusal(commit_fits(s, z.width, x), 3, 0)
+    refusals::refusal(commit_fits(s, z.width, x), refusals::BUFFER, 0)
 }
 
 // Whether the buffers of open have their lengths.
@@ -80,9 +62,9 @@ fn open_number(s: Shape, x: OpenLengths) -> usize
     ensures { λ r. ⌜ r ≡ sizeNumber s (openSizes s x) ⌝ }
 {
     if !rules::is_shape(s) {
-        return 1;
+        return refusals::SHAPE;
     }
-    refusals::refusal(open_fits(s, x), 3, 0)
+    refusals::refusal(open_fits(s, x), refusals::BUFFER, 0)
 }
 
 // The answer of open: 1, 3, 4, 5, or 0, with the count.

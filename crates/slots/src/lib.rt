@@ -29,7 +29,7 @@ pub fn opening_answer(s: Shape, ch: &[u8], opening: &[u8]) -> Answer
         return r;
     }
     rules::answer(
-        refusals::refusal(slots_clear(s, r.count, opening), 6, 0),
+        refusals::refusal(slots_clear(s, r.count, opening), refusals::SLOTS, 0),
         r.count,
     )
 }

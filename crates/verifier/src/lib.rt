@@ -1,10 +1,10 @@
 // The checking half's public calls: reconstruct and reconstruct_stretch. Nothing here depends on the signing half.
 ghost use Rattle.spec.specs.Primitives.{faest};
 ghost use Rattle.spec.specs.Calls.{Reconstruct, ReconstructStretch};
+use refusals::ReconstructLengths;
 use spec::Answer;
 use spec::Shape;
 use spec::Stretch;
-use verifier_refusals::ReconstructLengths;
 
 // RECONSTRUCT, of a stretch: the commitment, the tree with zeros for its covered nodes, the leaf commitments and the stretch of every column of Q, from an opening and
 // corrections that have the stretch alone. Every test comes before the first write.

@@ -6,22 +6,11 @@ ghost use lib.ListN.{length};
 ghost use Rattle.spec.specs.Shapes.{shapeOk, plannedCount};
 ghost use Rattle.spec.specs.Calls.{fits, commitStretchNumber, reconstructStretchNumber};
 ghost use Rattle.refusals.specs.Numbers.{Answered};
-ghost use Rattle.verifier_refusals.specs.Sizes.{reconstructSizes};
+ghost use Rattle.refusals.specs.Sizes.{reconstructSizes};
+use refusals::ReconstructLengths;
 use spec::Answer;
 use spec::Shape;
 use spec::Stretch;
-
-// The lengths of the buffers of reconstruct.
-pub struct ReconstructLengths {
-    pub iv: usize,
-    pub challenge: usize,
-    pub corrections: usize,
-    pub opening: usize,
-    pub commitment: usize,
-    pub tree: usize,
-    pub leaf_commitments: usize,
-    pub q: usize,
-}
 
 // Whether the buffers of reconstruct have their lengths, for a stretch of b bytes.
 fn reconstruct_fits(s: Shape, b: usize, x: ReconstructLengths) -> bool
@@ -52,7 +41,7 @@ fn reconstruct_number(s: Shape, row_bits: usize, z: Stretch, x: ReconstructLengt
     if first != 0 {
         return first;
     }
-    refusals::refusal(reconstruct_fits(s, z.width, x), 3, 0)
+    refusals::refusal(reconstruct_fits(s, z.width, x), refusals::BUFFER, 0)
 }
 
 // The answer of reconstruct_stretch: 1, 2, 8, 3, 4, 5, 6, or 0, with the count.

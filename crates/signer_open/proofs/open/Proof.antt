@@ -36,7 +36,8 @@ write-slots-requires c κs =
     let room : length (answer .last .1 .1 .1 .0) ≡ 512 = answer .kept .1 .1 .1 .0 in
     let front = answer .ensures .1 (passed .if1 .left) (rw length-replicate (omega arith)) in
     let within = p .3 in
-    ((p .0, l .1 .0, hidden .write-hidden .kept .1 .1 .1 .0 ∙ l .1 .1 .1 .0), (within, omega arith, in-tree _ _ _ _ (p .2) front (p .0)))
+    let low = in-tree _ _ _ _ (p .2) front (p .0) in
+    ((p .0, l .1 .0, hidden .write-hidden .kept .1 .1 .1 .0 ∙ l .1 .1 .1 .0), (omega arith, omega arith, λ m h. low m (omega arith)))
 
 returns-2 : tie.Need-returns-2
 returns-2 c =

@@ -1,2 +1,0 @@
--- The lengths that the calls compare.
-pub mod Sizes

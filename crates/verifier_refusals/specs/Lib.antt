@@ -1,2 +1,0 @@
--- The lengths that the call compares.
-pub mod Sizes
