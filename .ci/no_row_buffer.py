@@ -61,7 +61,7 @@ TABLE = {
     '[u8; 3072]': ('the hash keys of all vectors', 'signer_commit reconstruction'),
     '[u8; 2048]': ('the hashes of all vectors; in version 1 also zeros, in the place of hash keys', 'signer_commit reconstruction v1_signer v1_verifier'),
     '[u8; 1024]': ('the roots of the trees of version 1', 'signer_forest'),
-    '[u32; 512]': ('numbers of revealed nodes', 'verifier signer_open'),
+    '[u32; 512]': ('numbers of revealed nodes', 'signer_open'),
     '[u32; 576]': ('numbers of covered nodes', 'verifier_tree'),
     '[usize; 32]': ('numbers of covered nodes that are still to be raised', 'planning'),
 }

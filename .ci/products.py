@@ -16,15 +16,15 @@ from sources import TOP, Refused, closure, crate_lines
 CRATES, README = 'crates.txt', 'README.md'
 
 GROUPS = {
-    'base': 'spec laws planning_laws numbers rules v1_rules lengths buffers job host_words',
-    'planning': 'challenge planning',
+    'base': 'spec laws planning_laws numbers rules refusals v1_rules lengths buffers job host_words',
+    'planning': 'challenge planning plan_refusals',
     'decode and plan': 'shape shape_host',
     'primitives': 'aes_steps aes_keys aes generator keccak shake field_limbs field_384 field_576 field_768 leaf_hash',
     'vectors': 'tree leaf columns rows vector',
-    'signing': 'signer_tree signer_vectors signer_commit opening signer_open signer signer_host',
+    'signing': 'signer_refusals signer_tree signer_vectors signer_commit opening signer_open signer signer_host',
     'signing of version 1': 'signer_forest v1_opening v1_signer v1_signer_host',
     'slots': 'slots',
-    'checking': 'verifier_tree verifier_vector verifier_vectors reconstruction verifier verifier_host',
+    'checking': 'verifier_refusals verifier_tree verifier_vector verifier_vectors reconstruction verifier verifier_host',
     'checking of version 1': 'verifier_forest v1_verifier v1_verifier_host',
     'records': 'record record_fields record_reader record_reading named_sets',
     'broker': 'broker named_broker broker_host',

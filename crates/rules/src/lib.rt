@@ -1,10 +1,9 @@
-// The shape rules of documents 01 and 02, and the numbers that a shape gives; lengths compared, and an answer made.
+// The shape rules of documents 01 and 02, and the numbers that a shape gives; and an answer made.
 ghost use mathlib.Core.Path.{_≡_};
 ghost use mathlib.Core.Bool.{true};
 ghost use Prim.Native.Nat.{_+_, _-_, _*_, _^_, _<_, _≤_};
 ghost use Rattle.spec.specs.Shapes.{ordinary, resolved, level, nodeBytes, leafCommitmentBytes, hashBytes, rate, levelOk, shapeOk, deeper, depthOf, entriesOf, firstBit, firstEntry, leaves, leafOf};
-ghost use mathlib.Core.List.{[], _∷_};
-ghost use Rattle.spec.specs.Calls.{rowOk, stretchOk, fits};
+ghost use Rattle.spec.specs.Calls.{rowOk, stretchOk};
 use spec::Answer;
 use spec::Shape;
 use spec::Stretch;
@@ -20,31 +19,18 @@ pub fn answer(number: usize, count: usize) -> Answer
 pub fn resolve(s: Shape) -> Shape
     ensures { λ r. ⌜ r ≡ resolved s ⌝ }
 {
-    if s.tau != 0 {
-        return s;
-    }
-    if s.k != 0 {
-        return s;
-    }
-    if s.w != 0 {
-        return s;
-    }
-    if s.t != 0 {
-        return s;
-    }
-    if s.level != 128 {
-        return s;
-    }
-    if s.kind != 0 {
-        return s;
-    }
-    Shape {
-        tau: 16,
-        k: 7,
-        w: 8,
-        t: 110,
-        level: 128,
-        kind: 0,
+    let zeros = (s.tau == 0) & ((s.k == 0) & ((s.w == 0) & ((s.t == 0) & true)));
+    if (zeros & (s.level == 128)) & (s.kind == 0) {
+        Shape {
+            tau: 16,
+            k: 7,
+            w: 8,
+            t: 110,
+            level: 128,
+            kind: 0,
+        }
+    } else {
+        s
     }
 }
 
@@ -115,47 +101,6 @@ pub fn is_stretch(b: usize, z: Stretch) -> bool
         return false;
     }
     (1 <= g) & (f <= b - g)
-}
-
-// Whether two buffers have their lengths: a must be x, b must be y.
-pub fn fit2(a: usize, x: usize, b: usize, y: usize) -> bool
-    ensures { λ r. ⌜ r ≡ fits ((a, x) ∷ (b, y) ∷ []) ⌝ }
-{
-    (a == x) & ((b == y) & true)
-}
-
-// The same of four buffers.
-pub fn fit4(a: usize, x: usize, b: usize, y: usize, c: usize, z: usize, d: usize, v: usize) -> bool
-    ensures { λ r. ⌜ r ≡ fits ((a, x) ∷ (b, y) ∷ (c, z) ∷ (d, v) ∷ []) ⌝ }
-{
-    (a == x) & ((b == y) & ((c == z) & ((d == v) & true)))
-}
-
-// The same of eight buffers.
-pub fn fit8(
-    a: usize,
-    x: usize,
-    b: usize,
-    y: usize,
-    c: usize,
-    z: usize,
-    d: usize,
-    v: usize,
-    a2: usize,
-    x2: usize,
-    b2: usize,
-    y2: usize,
-    c2: usize,
-    z2: usize,
-    d2: usize,
-    v2: usize,
-) -> bool
-    ensures { λ r. ⌜ r ≡ fits ((a, x) ∷ (b, y) ∷ (c, z) ∷ (d, v) ∷ (a2, x2) ∷ (b2, y2) ∷ (c2, z2) ∷ (d2, v2) ∷ []) ⌝ }
-{
-    (a == x)
-        & ((b == y)
-            & ((c == z)
-                & ((d == v) & ((a2 == x2) & ((b2 == y2) & ((c2 == z2) & ((d2 == v2) & true)))))))
 }
 
 // 2 to the power of a depth.

@@ -1,53 +1,17 @@
 // The signing half's public calls commit and commit_stretch.
 ghost use mathlib.Core.Path.{_≡_};
 ghost use mathlib.Core.Bool.{true};
-ghost use mathlib.Core.List.{[], _∷_};
 ghost use Prim.Native.Nat.{_+_, _*_, _≤_};
 ghost use lib.ListN.{length};
 ghost use Rattle.spec.specs.Shapes.{nodeBytes, leafCommitmentBytes, hashBytes, ivBytes, shapeOk, treeBytes, leafCommitmentsBytes, matrixBytes, correctionsBytes};
 ghost use Rattle.spec.specs.Primitives.{faest};
-ghost use Rattle.spec.specs.Calls.{fits, Committed, committed, Commit, CommitStretch};
+ghost use Rattle.spec.specs.Calls.{Committed, committed, Commit, CommitStretch};
 use job::Job;
 use job::Version;
+use refusals::CommitLengths;
 use spec::Answer;
 use spec::Shape;
 use spec::Stretch;
-
-// Whether the buffers of commit have their lengths.
-fn commit_lengths(
-    s: Shape,
-    b: usize,
-    root: usize,
-    iv: usize,
-    commitment: usize,
-    tree: usize,
-    lcs: usize,
-    u: usize,
-    v: usize,
-    corrections: usize,
-) -> bool
-    requires { ⌜ (shapeOk s ≡ true) × (b ≤ 8192) ⌝ }
-    ensures { λ r. ⌜ r ≡ fits ((root, nodeBytes s) ∷ (iv, ivBytes) ∷ (commitment, hashBytes s) ∷ (tree, treeBytes s) ∷ (lcs, leafCommitmentsBytes s) ∷ (u, b) ∷ (v, matrixBytes s b) ∷ (corrections, correctionsBytes s b) ∷ []) ⌝ }
-{
-    rules::fit8(
-        root,
-        rules::node_bytes(s),
-        iv,
-        16,
-        commitment,
-        rules::hash_bytes(s),
-        tree,
-        lengths::tree_bytes(s),
-        lcs,
-        lengths::leaf_commitments_bytes(s),
-        u,
-        b,
-        v,
-        lengths::matrix_bytes(s, b),
-        corrections,
-        lengths::corrections_bytes(s, b),
-    )
-}
 
 // Writes what commit writes; keys and hashes are room for the hash keys and the hashes of the vectors.
 fn write_all(
@@ -144,29 +108,19 @@ pub fn commit_stretch(
         r ⌝ }
 {
     let s = rules::resolve(shape);
-    if !rules::is_shape(s) {
-        return rules::answer(1, 0);
-    }
-    if !rules::is_row_length(row_bits) {
-        return rules::answer(2, 0);
-    }
-    if !rules::is_stretch(row_bits / 8, stretch) {
-        return rules::answer(8, 0);
-    }
-    let b = stretch.width;
-    if !commit_lengths(
-        s,
-        b,
-        root.len(),
-        iv.len(),
-        commitment.len(),
-        tree.len(),
-        leaf_commitments.len(),
-        u.len(),
-        v.len(),
-        corrections.len(),
-    ) {
-        return rules::answer(3, 0);
+    let x = CommitLengths {
+        root: root.len(),
+        iv: iv.len(),
+        commitment: commitment.len(),
+        tree: tree.len(),
+        leaf_commitments: leaf_commitments.len(),
+        u: u.len(),
+        v: v.len(),
+        corrections: corrections.len(),
+    };
+    let number = signer_refusals::commit_number(s, row_bits, stretch, x);
+    if number != 0 {
+        return rules::answer(number, 0);
     }
     write_commitment(
         s,

@@ -1,6 +1,6 @@
 // The shape rules of version 1's calls (document 02, E12), and the numbers that a shape gives there.
 ghost use mathlib.Core.Path.{_≡_};
-ghost use mathlib.Core.Bool.{true, cond};
+ghost use mathlib.Core.Bool.{true};
 ghost use mathlib.Core.List.{[], _∷_};
 ghost use Prim.Native.Nat.{_+_, _*_, _<_, _≤_};
 ghost use Rattle.spec.specs.Shapes.{shapeOk, entriesOf, leaves};
@@ -19,22 +19,12 @@ pub fn is_shape(s: Shape) -> bool
     rules::is_shape(s) & (s.w == 0) & (s.t == 1) & rules::is_ordinary(s)
 }
 
-// A test in a list of tests: where it is passed the rest decides, and else its number.
-pub fn refusal(ok: bool, number: usize, rest: usize) -> usize
-    ensures { λ r. ⌜ r ≡ cond ok rest number ⌝ }
-{
-    if ok { rest } else { number }
-}
-
 // The number of the tests that commit and reconstruct begin with: 1 for the shape, 2 for the row length.
 pub fn front_number(s: Shape, row_bits: usize) -> usize
     ensures { λ r. ⌜ r ≡ firstRefusal ((shape1Ok s, 1) ∷ (rowOk «row_bits», 2) ∷ []) ⌝ }
 {
-    refusal(
-        is_shape(s),
-        1,
-        refusal(rules::is_row_length(row_bits), 2, 0),
-    )
+    let row = refusals::refusal(rules::is_row_length(row_bits), refusals::ROW_LENGTH, 0);
+    refusals::refusal(is_shape(s), refusals::SHAPE, row)
 }
 
 // The job of rows of b bytes. Inside, the shape has the leaf kind whose leaf commitments have two nodes' length and no hash keys.

@@ -8,33 +8,15 @@ ghost use Rattle.spec.specs.Shapes.{nodeBytes, challengeBytes, hashBytes, ivByt
 ghost use Rattle.spec.specs.Calls.{fits, Committed};
 ghost use Rattle.spec.specs.Version1.{faest1, shape1Ok, leafCommitmentBytes1, trees1Bytes, leafCommitments1Bytes, opening1Bytes};
 ghost use Rattle.spec.specs.Version1Calls.{row1Number, open1Number, committed1, Commit1, Open1};
+use refusals::CommitLengths;
+use refusals::OpenLengths;
 use spec::Answer;
 use spec::Shape;
-
-// The lengths of the buffers of commit.
-pub struct CommitLengths {
-    pub root: usize,
-    pub iv: usize,
-    pub commitment: usize,
-    pub trees: usize,
-    pub leaf_commitments: usize,
-    pub u: usize,
-    pub v: usize,
-    pub corrections: usize,
-}
-
-// The lengths of the buffers of open.
-pub struct OpenLengths {
-    pub challenge: usize,
-    pub trees: usize,
-    pub leaf_commitments: usize,
-    pub opening: usize,
-}
 
 // Whether the buffers of commit have their lengths, for rows of b bytes.
 fn commit_fits(s: Shape, b: usize, x: CommitLengths) -> bool
     requires { ⌜ (shapeOk s ≡ true) × (b ≤ 8192) ⌝ }
-    ensures { λ r. ⌜ r ≡ fits ((x .root, nodeBytes s) ∷ (x .iv, ivBytes) ∷ (x .commitment, hashBytes s) ∷ (x .trees, trees1Bytes s) ∷ (x .«leaf_commitments», leafCommitments1Bytes s)
+    ensures { λ r. ⌜ r ≡ fits ((x .root, nodeBytes s) ∷ (x .iv, ivBytes) ∷ (x .commitment, hashBytes s) ∷ (x .tree, trees1Bytes s) ∷ (x .«leaf_commitments», leafCommitments1Bytes s)
         ∷ (x .u, b) ∷ (x .v, matrixBytes s b) ∷ (x .corrections, correctionsBytes s b) ∷ []) ⌝ }
 {
     let node = rules::node_bytes(s);
@@ -46,21 +28,21 @@ fn commit_fits(s: Shape, b: usize, x: CommitLengths) -> bool
     (x.root == node)
         & ((x.iv == 16)
             & ((x.commitment == hash)
-                & ((x.trees == trees)
+                & ((x.tree == trees)
                     & ((x.leaf_commitments == lcs)
                         & ((x.u == b) & ((x.v == v) & ((x.corrections == corrections) & true)))))))
 }
 
 // The number of commit, by its tests in their order: 1, 2, 3, or 0.
 fn commit_number(s: Shape, row_bits: usize, x: CommitLengths) -> usize
-    ensures { λ r. ⌜ r ≡ row1Number s «row_bits» ((x .root, nodeBytes s) ∷ (x .iv, ivBytes) ∷ (x .commitment, hashBytes s) ∷ (x .trees, trees1Bytes s) ∷ (x .«leaf_commitments», leafCommitments1Bytes s)
+    ensures { λ r. ⌜ r ≡ row1Number s «row_bits» ((x .root, nodeBytes s) ∷ (x .iv, ivBytes) ∷ (x .commitment, hashBytes s) ∷ (x .tree, trees1Bytes s) ∷ (x .«leaf_commitments», leafCommitments1Bytes s)
         ∷ (x .u, «row_bits» / 8) ∷ (x .v, matrixBytes s («row_bits» / 8)) ∷ (x .corrections, correctionsBytes s («row_bits» / 8)) ∷ []) ⌝ }
 {
     let front = v1_rules::front_number(s, row_bits);
     if front != 0 {
         return front;
     }
-    v1_rules::refusal(commit_fits(s, row_bits / 8, x), 3, 0)
+    refusals::refusal(commit_fits(s, row_bits / 8, x), refusals::BUFFER, 0)
 }
 
 // Writes what commit writes, for rows of b bytes; hashes is room for the hashes of the vectors. Version 1 does not read keys, which only
@@ -152,7 +134,7 @@ pub fn commit(
         root: root.len(),
         iv: iv.len(),
         commitment: commitment.len(),
-        trees: trees.len(),
+        tree: trees.len(),
         leaf_commitments: leaf_commitments.len(),
         u: u.len(),
         v: v.len(),
@@ -180,24 +162,24 @@ pub fn commit(
 // Whether the buffers of open have their lengths.
 fn open_fits(s: Shape, x: OpenLengths) -> bool
     requires { ⌜ shapeOk s ≡ true ⌝ }
-    ensures { λ r. ⌜ r ≡ fits ((x .challenge, challengeBytes s) ∷ (x .trees, trees1Bytes s) ∷ (x .«leaf_commitments», leafCommitments1Bytes s) ∷ (x .opening, opening1Bytes s) ∷ []) ⌝ }
+    ensures { λ r. ⌜ r ≡ fits ((x .challenge, challengeBytes s) ∷ (x .tree, trees1Bytes s) ∷ (x .«leaf_commitments», leafCommitments1Bytes s) ∷ (x .opening, opening1Bytes s) ∷ []) ⌝ }
 {
     let node = rules::node_bytes(s);
     let trees = v1_rules::trees_bytes(s);
     let lcs = v1_rules::leaf_commitments_bytes(s);
     let opening = v1_rules::opening_bytes(s);
     (x.challenge == node)
-        & ((x.trees == trees) & ((x.leaf_commitments == lcs) & ((x.opening == opening) & true)))
+        & ((x.tree == trees) & ((x.leaf_commitments == lcs) & ((x.opening == opening) & true)))
 }
 
 // The number of open, by its tests in their order: 1, 3, or 0.
 fn open_number(s: Shape, x: OpenLengths) -> usize
-    ensures { λ r. ⌜ r ≡ open1Number s ((x .challenge, challengeBytes s) ∷ (x .trees, trees1Bytes s) ∷ (x .«leaf_commitments», leafCommitments1Bytes s) ∷ (x .opening, opening1Bytes s) ∷ []) ⌝ }
+    ensures { λ r. ⌜ r ≡ open1Number s ((x .challenge, challengeBytes s) ∷ (x .tree, trees1Bytes s) ∷ (x .«leaf_commitments», leafCommitments1Bytes s) ∷ (x .opening, opening1Bytes s) ∷ []) ⌝ }
 {
     if !v1_rules::is_shape(s) {
-        return 1;
+        return refusals::SHAPE;
     }
-    v1_rules::refusal(open_fits(s, x), 3, 0)
+    refusals::refusal(open_fits(s, x), refusals::BUFFER, 0)
 }
 
 // OPEN of version 1: of each vector the siblings of the path to its hidden leaf, and the hidden leaf commitment. No opening is refused for nodes or grinding.
@@ -212,7 +194,7 @@ pub fn open(
 {
     let x = OpenLengths {
         challenge: challenge.len(),
-        trees: trees.len(),
+        tree: trees.len(),
         leaf_commitments: leaf_commitments.len(),
         opening: opening.len(),
     };

@@ -8,26 +8,15 @@ ghost use Rattle.spec.specs.Shapes.{challengeBytes, hashBytes, ivBytes, shapeOk
 ghost use Rattle.spec.specs.Calls.{fits, Reconstructed};
 ghost use Rattle.spec.specs.Version1.{faest1, shape1Ok, leafCommitmentBytes1, trees1Bytes, leafCommitments1Bytes, opening1Bytes};
 ghost use Rattle.spec.specs.Version1Calls.{row1Number, reconstructed1, Reconstruct1};
+use refusals::ReconstructLengths;
 use spec::Answer;
 use spec::Shape;
-
-// The lengths of the buffers of reconstruct.
-pub struct ReconstructLengths {
-    pub iv: usize,
-    pub challenge: usize,
-    pub corrections: usize,
-    pub opening: usize,
-    pub commitment: usize,
-    pub trees: usize,
-    pub leaf_commitments: usize,
-    pub q: usize,
-}
 
 // Whether the buffers of reconstruct have their lengths, for rows of b bytes.
 fn reconstruct_fits(s: Shape, b: usize, x: ReconstructLengths) -> bool
     requires { ⌜ (shapeOk s ≡ true) × (b ≤ 8192) ⌝ }
     ensures { λ r. ⌜ r ≡ fits ((x .iv, ivBytes) ∷ (x .challenge, challengeBytes s) ∷ (x .corrections, correctionsBytes s b) ∷ (x .opening, opening1Bytes s) ∷ (x .commitment, hashBytes s)
-        ∷ (x .trees, trees1Bytes s) ∷ (x .«leaf_commitments», leafCommitments1Bytes s) ∷ (x .q, matrixBytes s b) ∷ []) ⌝ }
+        ∷ (x .tree, trees1Bytes s) ∷ (x .«leaf_commitments», leafCommitments1Bytes s) ∷ (x .q, matrixBytes s b) ∷ []) ⌝ }
 {
     let node = rules::node_bytes(s);
     let corrections = lengths::corrections_bytes(s, b);
@@ -41,20 +30,20 @@ fn reconstruct_fits(s: Shape, b: usize, x: ReconstructLengths) -> bool
             & ((x.corrections == corrections)
                 & ((x.opening == opening)
                     & ((x.commitment == hash)
-                        & ((x.trees == trees)
+                        & ((x.tree == trees)
                             & ((x.leaf_commitments == lcs) & ((x.q == q) & true)))))))
 }
 
 // The number of reconstruct, by its tests in their order: 1, 2, 3, or 0.
 fn reconstruct_number(s: Shape, row_bits: usize, x: ReconstructLengths) -> usize
     ensures { λ r. ⌜ r ≡ row1Number s «row_bits» ((x .iv, ivBytes) ∷ (x .challenge, challengeBytes s) ∷ (x .corrections, correctionsBytes s («row_bits» / 8)) ∷ (x .opening, opening1Bytes s)
-        ∷ (x .commitment, hashBytes s) ∷ (x .trees, trees1Bytes s) ∷ (x .«leaf_commitments», leafCommitments1Bytes s) ∷ (x .q, matrixBytes s («row_bits» / 8)) ∷ []) ⌝ }
+        ∷ (x .commitment, hashBytes s) ∷ (x .tree, trees1Bytes s) ∷ (x .«leaf_commitments», leafCommitments1Bytes s) ∷ (x .q, matrixBytes s («row_bits» / 8)) ∷ []) ⌝ }
 {
     let front = v1_rules::front_number(s, row_bits);
     if front != 0 {
         return front;
     }
-    v1_rules::refusal(reconstruct_fits(s, row_bits / 8, x), 3, 0)
+    refusals::refusal(reconstruct_fits(s, row_bits / 8, x), refusals::BUFFER, 0)
 }
 
 // Writes what reconstruct writes, for rows of b bytes; hashes is room for the hashes of the vectors. Version 1 does not read keys, which only
@@ -152,7 +141,7 @@ pub fn reconstruct(
         corrections: corrections.len(),
         opening: opening.len(),
         commitment: commitment.len(),
-        trees: trees.len(),
+        tree: trees.len(),
         leaf_commitments: leaf_commitments.len(),
         q: q.len(),
     };

@@ -1,0 +1,2 @@
+-- The nodes that an answer comes with.
+pub mod Nodes
