@@ -1,15 +1,19 @@
 -- Each way out by the tests that led there.
 use borrow.Author.Needs.{needs}
-use mathlib.Core.Path.{refl, ap₂}
-use mathlib.Core.Bool.{_&&_}
+use mathlib.Core.Path.{_≡_, refl, ap₂}
+use mathlib.Core.Bool.{false, _&&_}
+use Rattle.spec.specs.Shapes.{shapeOk}
 use Rattle.laws.proofs.Tests.{failed, passed}
+use Rattle.record.specs.Record.{kindFits}
 use Rattle.record_reading.proofs.said_number.Statement.{statement}
 use Rattle.record_reading.proofs.said_number.Tie as tie
 
 returns : tie.Need-returns
 returns c =
     let k = c .before in
-    rw (failed (ap₂ _&&_ (k .before .is-shape .ensures) (k .kind-fits .ensures)) (c .if1 .taken)) refl
+    let a = k .before .before .args in
+    let s : (shapeOk (a .resolved) && kindFits (a .version) (a .kind)) ≡ false = failed (ap₂ _&&_ (k .before .is-shape .ensures) (k .kind-fits .ensures)) (c .if1 .taken) in
+    rw s refl
 
 returns-2 : tie.Need-returns-2
 returns-2 c =
