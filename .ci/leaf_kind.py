@@ -45,7 +45,7 @@ MAY = {
     'record_reading/': 'the same',
     'record_writer/': 'the same',
     'record_theorems/': 'the same',
-    'broker/proofs/Answers.antt': 'the test of the kind among the others of a record',
+    'record_check/proofs/Answers.antt': 'the test of the kind among the others of a record',
     'report_text/proofs/Entries.antt': 'the same',
     'named_sets/': 'the sets of both kinds',
     'shape_host/src/': 'the six numbers of a shape from a C host',

@@ -22,9 +22,9 @@ use Rattle.planning_laws.proofs.ShapeFacts.{shape-facts, widths, leaves-pos}
 use Rattle.record.specs.Record.{contentsOf, readNumber}
 use Rattle.record.specs.RecordCalls.{Work, workLengths, workOf, made, recordNumber, answered, CheckRecord}
 use Rattle.record.specs.HostRecordCalls.{HostCheckRecord}
-use Rattle.record.proofs.ReadBack.{read-shape}
+use Rattle.record.proofs.Reading.{front-shape, read-front}
 use Rattle.record.proofs.Reconstructing.{number-refused, number-three}
-use Rattle.broker.proofs.Answers.{read-quiet}
+use Rattle.record_check.proofs.Answers.{read-quiet}
 
 -- no tree has no bytes
 tree-some : (s : Shape) → shapeOk s ≡ true → eqb 0 (treeBytes s) ≡ false
@@ -90,7 +90,7 @@ module _ (rec : List ℕ) (x : Work) (count : List ℕ) (m : ℕ) (e : m ≡ con
             → (r .number ≡ recordNumber faest rec (withCount count (lengths x))) × (eqb (answered (r .number)) 0 ≡ false) × (countGiven (answered (r .number)) ≡ false)
         go true z =
             let ok = eqb-true (readNumber rec) 0 z in
-            let n : r .number ≡ 3 = lent ∙ number-three faest rec (lengths (with-tree [])) ok (rw (tree-some (resolved (contentsOf rec .shape)) (read-shape rec ok)) refl) in
+            let n : r .number ≡ 3 = lent ∙ number-three faest rec (lengths (with-tree [])) ok (rw (tree-some (resolved (contentsOf rec .shape)) (front-shape rec (read-front rec ok))) refl) in
             (n ∙ sym (number-three faest rec (withCount count (lengths x)) ok (rw t refl)), rw n refl, rw n refl)
         go false z =
             let bad = eqb-false (readNumber rec) 0 z in

@@ -10,24 +10,16 @@ use borrow.Author.Tests.{eq-eqb}
 use Rattle.spec.specs.declared.Shape.{Shape}
 use Rattle.spec.specs.Shapes.{resolved, challengeBytes, hashBytes, ivBytes, openingBytes, correctionsBytes, shapeOk}
 use Rattle.spec.specs.Calls.{rowOk}
-use Rattle.laws.proofs.Conjunctions.{both-true}
-use Rattle.laws.proofs.Refusals.{Passed, none-failed, all-passed}
+use Rattle.laws.proofs.Refusals.{all-passed}
 use Rattle.record.specs.Fields.{fieldOk, fieldAt}
-use Rattle.record.specs.Record.{versionOf, headBytes, versionOk, headOf, ivPlace, challengePlace, correctionsPlace, openingPlace, commitmentPlace, recordEnd, restOk, contentsOf, headTests, restTests, fieldsTests, fieldsNumber, endOf, readNumber, kindFits}
+use Rattle.record.specs.Record.{versionOf, headBytes, versionOk, headOf, ivPlace, challengePlace, correctionsPlace, openingPlace, commitmentPlace, recordEnd, restOk, contentsOf, headTests, restTests, headNumber, fieldsNumber, endOf, readNumber}
 use Rattle.record.proofs.Fields.{field-room, field-cut, field-kept}
-use Rattle.record.proofs.ReadBack.{Rest, rest-fields}
+use Rattle.record.proofs.Reading.{Rest, front-version, front-head, front-said, front-row, fields-front, fields-rest}
 
 -- the places ascend, and the first record byte stands before them
 pub end-least : (h : ℕ) (s : Shape) (b : ℕ) → 41 ≤ recordEnd h s b
 unfolding correctionsPlace openingPlace commitmentPlace recordEnd
 end-least h s b = omega arith
-
--- a record that is read has its fields
-pub read-fields : (rec : List ℕ) → readNumber rec ≡ 0 → fieldsNumber rec ≡ 0
-unfolding readNumber fieldsNumber
-read-fields rec ok =
-    let q = none-failed (headTests rec ++ restTests rec) (refl, (refl, (refl, (refl, (refl, (refl, tt)))))) ok in
-    all-passed (fieldsTests rec) (q .0, (q .1 .0, (q .1 .1 .0, (q .1 .1 .1 .0, (q .1 .1 .1 .1 .0, tt)))))
 
 module _ (rec : List ℕ) (ok : fieldsNumber rec ≡ 0) where
   abbrev v : ℕ
@@ -48,27 +40,11 @@ module _ (rec : List ℕ) (ok : fieldsNumber rec ≡ 0) where
   abbrev cut : List ℕ
   cut = take (endOf rec) rec
 
-  tests : Passed (fieldsTests rec)
-  unfolding fieldsNumber
-  tests = none-failed (fieldsTests rec) (refl, (refl, (refl, (refl, (refl, tt))))) ok
-
-  pub fields-version : versionOk rec ≡ true
-  fields-version = tests .0
-
-  pub fields-head : fieldOk rec 1 (headBytes (versionOf rec)) ≡ true
-  fields-head = tests .1 .0
-
-  pub fields-said : (shapeOk (resolved (contentsOf rec .shape)) && kindFits (versionOf rec) (contentsOf rec .shape .kind)) ≡ true
-  fields-said = tests .1 .1 .0
-
-  pub fields-shape : shapeOk (resolved (contentsOf rec .shape)) ≡ true
-  fields-shape = both-true _ (kindFits (versionOf rec) (contentsOf rec .shape .kind)) fields-said .0
-
-  pub fields-row : rowOk (contentsOf rec .row) ≡ true
-  fields-row = tests .1 .1 .1 .0
+  front : headNumber rec ≡ 0
+  front = fields-front rec ok
 
   rest : Rest (headBytes (versionOf rec)) (resolved (contentsOf rec .shape)) (contentsOf rec .row / 8) rec
-  rest = rest-fields h s b rec (tests .1 .1 .1 .1 .0)
+  rest = fields-rest rec ok
 
   pub end-within : endOf rec ≤ length rec
   unfolding recordEnd
@@ -104,13 +80,13 @@ module _ (rec : List ℕ) (ok : fieldsNumber rec ≡ 0) where
       )
       refl
 
-  front : fieldOk cut 1 h ≡ true
+  there : fieldOk cut 1 h ≡ true
   unfolding correctionsPlace openingPlace commitmentPlace recordEnd
-  front = field-kept e rec 1 h (omega arith) end-within fields-head
+  there = field-kept e rec 1 h (omega arith) end-within (front-head rec front)
 
   pub cut-read : readNumber (take (endOf rec) rec) ≡ 0
   unfolding readNumber versionOk
   cut-read =
       let end = eq-eqb (length cut) e (length-take-le e rec end-within) in
       all-passed (headTests cut ++ restTests cut)
-      (rw first fields-version, (rw first front, (rw (first, cut-contents) fields-said, (rw cut-contents fields-row, (rw (first, cut-contents) kept, (rw (first, cut-contents) end, tt))))))
+      (rw first (front-version rec front), (rw first there, (rw (first, cut-contents) (front-said rec front), (rw cut-contents (front-row rec front), (rw (first, cut-contents) kept, (rw (first, cut-contents) end, tt))))))

@@ -4,6 +4,7 @@ pub mod Numbers
 pub mod Fields
 pub mod Bounds
 pub mod SameBytes
+pub mod Reading
 pub mod ReadBack
 pub mod Cut
 pub mod Reconstructing

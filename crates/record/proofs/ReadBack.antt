@@ -17,13 +17,14 @@ use Rattle.laws.proofs.Conjunctions.{both-true}
 use Rattle.laws.proofs.Lists.{length-part}
 use Rattle.laws.proofs.Numbers.{Digits}
 use Rattle.laws.proofs.Strings.{digits-part}
-use Rattle.laws.proofs.Refusals.{Passed, none-failed, all-passed}
+use Rattle.laws.proofs.Refusals.{all-passed}
 use Rattle.planning_laws.proofs.ShapeFacts.{shape-facts, widths}
 use Rattle.record.specs.Fields.{fieldOk, fieldOf}
 use Rattle.spec.specs.Bytes.{bigEndian, bigEndianBytes}
 use Rattle.record.specs.Record.{versionOf, headBytes, versionOk, headOf, shapeIn, rowIn, ivPlace, challengePlace, correctionsPlace, openingPlace, commitmentPlace, recordEnd, restOk, Contents, contentsOf, kindFits, headTests, restTests, readNumber, versionFor, headFor, restOf, recordOf, headOfVersion1, recordOfVersion1}
 use Rattle.laws.proofs.BigEndian.{big-endian-bytes, length-big-endian, bytes-big-endian}
 use Rattle.record.proofs.Fields.{field-stands, field-read, field-behind, field-end, field-room, field-length, field-written}
+use Rattle.record.proofs.Reading.{Lengths, front-version, front-head, front-said, fields-rest, read-fields, read-front, read-length}
 use Rattle.record.proofs.Bounds.{versionBy, head-small, given-small, row-small, corrections-small, opening-small}
 
 -- ---- the head: nine bytes of numbers, and what stands behind them
@@ -191,34 +192,6 @@ third-only v h three one e bytes =
     tail : getD h 10 0 ∷ [] ≡ cond (ordinary (shapeIn v h)) [] (shapeIn v h .kind ∷ [])
     tail = sym (rw (ap (λ (k : ℕ). eqb k 0) one) (rw three refl))
 
--- ---- the fields of the rest, one by one
-
-abbrev pub Rest : ℕ → Shape → ℕ → List ℕ → Type 0
-Rest h s b rec =
-    (fieldOk rec (ivPlace h) ivBytes ≡ true)
-    × (fieldOk rec (challengePlace h) (challengeBytes s) ≡ true)
-    × (fieldOk rec (correctionsPlace h s) (correctionsBytes s b) ≡ true)
-    × (fieldOk rec (openingPlace h s b) (openingBytes s) ≡ true)
-    × (fieldOk rec (commitmentPlace h s b) (hashBytes s) ≡ true)
-
-pub rest-fields : (h : ℕ) (s : Shape) (b : ℕ) (rec : List ℕ) → restOk h s b rec ≡ true → Rest h s b rec
-unfolding restOk
-rest-fields h s b rec ok =
-    let four = both-true _ (fieldOk rec (commitmentPlace h s b) (hashBytes s)) ok in
-    let three = both-true _ (fieldOk rec (openingPlace h s b) (openingBytes s)) (four .0) in
-    let two = both-true _ (fieldOk rec (correctionsPlace h s) (correctionsBytes s b)) (three .0) in
-    let one = both-true (fieldOk rec (ivPlace h) ivBytes) (fieldOk rec (challengePlace h) (challengeBytes s)) (two .0) in
-    (one .0, one .1, two .1, three .1, four .1)
-
-abbrev pub Lengths : Contents → List (ℕ × ℕ)
-Lengths c =
-    (length (c .iv), ivBytes)
-    ∷ (length (c .challenge), challengeBytes (resolved (c .shape)))
-    ∷ (length (c .corrections), correctionsBytes (resolved (c .shape)) (c .row / 8))
-    ∷ (length (c .opening), openingBytes (resolved (c .shape)))
-    ∷ (length (c .commitment), hashBytes (resolved (c .shape)))
-    ∷ []
-
 -- ---- the fields of c behind a head of version v that says its shape and row length
 
 module _ (v : ℕ) (head : List ℕ) (c : Contents) (long : length head ≡ headBytes v) (shape : shapeIn v head ≡ c .shape) (row : rowIn head ≡ c .row) (sized : Sized (Lengths c)) where
@@ -366,15 +339,11 @@ module _ (rec : List ℕ) (ok : readNumber rec ≡ 0) where
   abbrev n : ℕ
   n = Said .row / 8
 
-  tests : Passed (headTests rec ++ restTests rec)
-  unfolding readNumber
-  tests = none-failed (headTests rec ++ restTests rec) (refl, (refl, (refl, (refl, (refl, (refl, tt)))))) ok
+  said : (shapeOk r && kindFits v (Said .shape .kind)) ≡ true
+  said = front-said rec (read-front rec ok)
 
-  pub read-said : (shapeOk (resolved (contentsOf rec .shape)) && kindFits (versionOf rec) (contentsOf rec .shape .kind)) ≡ true
-  read-said = tests .1 .1 .0
-
-  pub read-shape : shapeOk (resolved (contentsOf rec .shape)) ≡ true
-  read-shape = both-true _ (kindFits v (Said .shape .kind)) read-said .0
+  there : fieldOk rec 1 m ≡ true
+  there = front-head rec (read-front rec ok)
 
   kind-0 : eqb v 3 ≡ false → Said .shape .kind ≡ 0
   unfolding contentsOf shapeIn
@@ -386,54 +355,22 @@ module _ (rec : List ℕ) (ok : readNumber rec ≡ 0) where
     where
       go : (a : Bool) → eqb v 3 ≡ a → Said .shape .kind ≡ cond a 1 0
       go true e =
-          let fitting = both-true (shapeOk r) (kindFits v (Said .shape .kind)) read-said .1 in
+          let fitting = both-true (shapeOk r) (kindFits v (Said .shape .kind)) said .1 in
           eqb-true (Said .shape .kind) 1 (sym (ap (λ (a : Bool). cond a (eqb (Said .shape .kind) 1) true) e) ∙ fitting)
       go false e = kind-0 e
-
-  pub read-row : rowOk (contentsOf rec .row) ≡ true
-  read-row = tests .1 .1 .1 .0
-
-  pub read-rest : Rest (headBytes (versionOf rec)) (resolved (contentsOf rec .shape)) (contentsOf rec .row / 8) rec
-  read-rest = rest-fields m r n rec (tests .1 .1 .1 .1 .0)
-
-  pub read-sized : Sized (Lengths (contentsOf rec))
-  unfolding contentsOf
-  read-sized =
-      let q = read-rest in (
-        field-length rec (ivPlace m) ivBytes (q .0),
-        (
-          field-length rec (challengePlace m) (challengeBytes r) (q .1),
-          (
-            field-length rec (correctionsPlace m r) (correctionsBytes r n) (q .2),
-            (
-              field-length rec (openingPlace m r n) (openingBytes r) (q .3),
-              (field-length rec (commitmentPlace m r n) (hashBytes r) (q .4), tt),
-            ),
-          ),
-        ),
-      )
-
-  pub read-version : versionOk rec ≡ true
-  read-version = tests .0
-
-  pub read-head : fieldOk rec 1 (headBytes (versionOf rec)) ≡ true
-  read-head = tests .1 .0
-
-  pub read-length : length rec ≡ recordEnd (headBytes (versionOf rec)) (resolved (contentsOf rec .shape)) (contentsOf rec .row / 8)
-  read-length = eqb-true (length rec) (recordEnd m r n) (tests .1 .1 .1 .1 .1 .0)
 
   -- it is its version, its head and the fields of what it says
   read-parts : Digits 8 rec → rec ≡ versionOf rec ∷ (fieldOf (headOf rec) ++ restOf (contentsOf rec))
   unfolding contentsOf correctionsPlace openingPlace commitmentPlace recordEnd
   read-parts bytes =
-      let q = read-rest in
-      let six = field-written rec (commitmentPlace m r n) (hashBytes r) (q .4) bytes ∙ ap (λ (l : List ℕ). fieldOf (Said .commitment) ++ l) (drop-of-length-le rec {i = recordEnd m r n} (let e = read-length in omega arith)) ∙ append-nil _ in
+      let q = fields-rest rec (read-fields rec ok) in
+      let six = field-written rec (commitmentPlace m r n) (hashBytes r) (q .4) bytes ∙ ap (λ (l : List ℕ). fieldOf (Said .commitment) ++ l) (drop-of-length-le rec {i = recordEnd m r n} (let e = read-length rec ok in omega arith)) ∙ append-nil _ in
       let five = field-written rec (openingPlace m r n) (openingBytes r) (q .3) bytes ∙ ap (λ (l : List ℕ). fieldOf (Said .opening) ++ l) six in
       let four = field-written rec (correctionsPlace m r) (correctionsBytes r n) (q .2) bytes ∙ ap (λ (l : List ℕ). fieldOf (Said .corrections) ++ l) five in
       let three = field-written rec (challengePlace m) (challengeBytes r) (q .1) bytes ∙ ap (λ (l : List ℕ). fieldOf (Said .challenge) ++ l) four in
       let two = field-written rec (ivPlace m) ivBytes (q .0) bytes ∙ ap (λ (l : List ℕ). fieldOf (Said .iv) ++ l) three in
-      let one = field-written rec 1 m read-head bytes ∙ ap (λ (l : List ℕ). fieldOf (headOf rec) ++ l) two in
-      drop-cons rec 0 0 (let e = field-room rec 1 m read-head in omega arith) ∙ ap (λ (l : List ℕ). v ∷ l) one
+      let one = field-written rec 1 m there bytes ∙ ap (λ (l : List ℕ). fieldOf (headOf rec) ++ l) two in
+      drop-cons rec 0 0 (let e = field-room rec 1 m there in omega arith) ∙ ap (λ (l : List ℕ). v ∷ l) one
 
   -- it is the record of what it says, in version 1 or in the version that is written
   pub read-only : Digits 8 rec → rec ≡ cond (eqb (versionOf rec) 1) (recordOfVersion1 (contentsOf rec)) (recordOf (contentsOf rec))
@@ -444,7 +381,7 @@ module _ (rec : List ℕ) (ok : readNumber rec ≡ 0) where
       digits = digits-part 8 rec 5 m bytes
 
       long : length (headOf rec) ≡ m
-      long = field-length rec 1 m read-head
+      long = field-length rec 1 m there
 
       -- version x, which is written for the shape
       by-version : (x : ℕ) → v ≡ x → versionFor (Said .shape) ≡ x → headOf rec ≡ headFor (Said .shape) (Said .row) → rec ≡ recordOf (contentsOf rec)
@@ -463,4 +400,4 @@ module _ (rec : List ℕ) (ok : readNumber rec ≡ 0) where
           let eleven : m ≡ 11 = rw three refl in
           let one = read-kind ∙ ap (λ (a : Bool). cond a 1 0) g in
           by-version 3 three (rw (ap (λ (k : ℕ). eqb k 0) one) refl) (third-only v (headOf rec) three one (long ∙ eleven) digits)
-      go false false false e f g = absurd (true≢false (sym read-version ∙ rw (e, f, g) refl))
+      go false false false e f g = absurd (true≢false (sym (front-version rec (read-front rec ok)) ∙ rw (e, f, g) refl))

@@ -19,7 +19,7 @@ use Rattle.laws.proofs.Lengths.{fits-sized}
 use Rattle.laws.proofs.Refusals.{Numbered, none-failed, then}
 use Rattle.record.specs.Record.{Contents, contentsOf, headTests, restTests, readNumber}
 use Rattle.record.specs.RecordCalls.{Work, workLengths, workOf, Reconstructs, made, sameBytes, workTests, recordNumber}
-use Rattle.record.proofs.ReadBack.{read-shape, read-row, read-sized}
+use Rattle.record.proofs.Reading.{front-shape, front-row, fields-sized, read-fields, read-front}
 
 -- the buffers of reconstruct where the one for the commitment holds zeros
 abbrev pub lent : Contents → Work → Reconstructed
@@ -93,10 +93,10 @@ pub open-decide : (rec : List ℕ) (x : Reconstructed) → readNumber rec ≡ 0 
     ≡ (let c = contentsOf rec in firstRefusal (workTests c (workLengths (resolved (c .shape)) (c .row / 8) (workOf x))))
 unfolding ranNumber reconstructNumber
 open-decide rec x ok e =
-    let q = read-sized rec ok in
+    let q = fields-sized rec (read-fields rec ok) in
     rw (
-      read-shape rec ok,
-      read-row rec ok,
+      front-shape rec (read-front rec ok),
+      front-row rec (read-front rec ok),
       eq-eqb _ _ (q .0),
       eq-eqb _ _ (q .1 .0),
       eq-eqb _ _ (q .1 .1 .0),

@@ -1,5 +1,5 @@
-// Fields of a record, on a slice and a place in it: tested, and handed out; the version and the head's length and numbers, by the version; the places of the fields
-// behind a head; strings compared.
+// Fields of a record, on a slice and a place in it: tested, and handed out; the version and the head's length and numbers, by the version; the length of a record
+// that is written; strings compared.
 ghost use mathlib.Core.Path.{_≡_};
 ghost use mathlib.Core.Bool.{true};
 ghost use Prim.Native.Nat.{_+_, _<_, _≤_};
@@ -8,7 +8,7 @@ ghost use Rattle.spec.specs.Bytes.{part};
 ghost use Rattle.spec.specs.Shapes.{challengeBytes, shapeOk};
 ghost use Rattle.record.specs.Fields.{fieldOk, fieldAt};
 ghost use Rattle.spec.specs.Bytes.{bigEndian};
-ghost use Rattle.record.specs.Record.{versionOf, headBytes, versionOk, shapeIn, rowIn, ivPlace, challengePlace, correctionsPlace, openingPlace, commitmentPlace, recordEnd, kindFits, versionFor, recordBytes};
+ghost use Rattle.record.specs.Record.{versionOf, headBytes, shapeIn, rowIn, kindFits, versionFor, recordBytes};
 ghost use Rattle.record.specs.RecordCalls.{sameBytes};
 use spec::Shape;
 
@@ -91,20 +91,6 @@ pub fn version_of(bytes: &[u8]) -> u8
     bytes[0]
 }
 
-// The bytes of the head of a record.
-pub fn head_bytes(bytes: &[u8]) -> usize
-    ensures { λ r. ⌜ (r ≡ headBytes (versionOf (now (bytes .entry)))) × (r ≤ 11) ⌝ }
-{
-    head_length(version_of(bytes))
-}
-
-// Whether the version is known.
-pub fn version_ok(bytes: &[u8]) -> bool
-    ensures { λ r. ⌜ r ≡ versionOk (now (bytes .entry)) ⌝ }
-{
-    0 < head_bytes(bytes)
-}
-
 // The level in the head of a version, in bits.
 fn level_in(version: u8, head: &[u8]) -> usize
     requires { ⌜ (0 < headBytes version) × (length (now head) ≡ headBytes version) ⌝ }
@@ -167,7 +153,7 @@ pub fn version_for(s: Shape) -> u8
     if rules::is_ordinary(s) { 2 } else { 3 }
 }
 
-// ---- places of the fields behind a head of h bytes, of a resolved shape with rows of b bytes
+// ---- lengths of a resolved shape, with rows of b bytes
 
 // The bytes of a challenge.
 pub fn challenge_length(s: Shape) -> usize
@@ -177,56 +163,15 @@ pub fn challenge_length(s: Shape) -> usize
     rules::node_bytes(s)
 }
 
-pub fn iv_place(h: usize) -> usize
-    requires { ⌜ h ≤ 255 ⌝ }
-    ensures { λ r. ⌜ r ≡ ivPlace h ⌝ }
-{
-    h + 5
-}
-
-pub fn challenge_place(h: usize) -> usize
-    requires { ⌜ h ≤ 255 ⌝ }
-    ensures { λ r. ⌜ r ≡ challengePlace h ⌝ }
-{
-    h + 25
-}
-
-pub fn corrections_place(h: usize, s: Shape) -> usize
-    requires { ⌜ (h ≤ 255) × (shapeOk s ≡ true) ⌝ }
-    ensures { λ r. ⌜ (r ≡ correctionsPlace h s) × (r ≤ h + 61) ⌝ }
-{
-    challenge_place(h) + 4 + challenge_length(s)
-}
-
-pub fn opening_place(h: usize, s: Shape, b: usize) -> usize
-    requires { ⌜ (h ≤ 255) × (shapeOk s ≡ true) × (b ≤ 8192) ⌝ }
-    ensures { λ r. ⌜ (r ≡ openingPlace h s b) × (r ≤ h + 254017) ⌝ }
-{
-    corrections_place(h, s) + 4 + lengths::corrections_bytes(s, b)
-}
-
-pub fn commitment_place(h: usize, s: Shape, b: usize) -> usize
-    requires { ⌜ (h ≤ 255) × (shapeOk s ≡ true) × (b ≤ 8192) ⌝ }
-    ensures { λ r. ⌜ (r ≡ commitmentPlace h s b) × (r ≤ h + 273477) ⌝ }
-{
-    opening_place(h, s, b) + 4 + lengths::opening_bytes(s)
-}
-
-// Where the record ends.
-pub fn record_end(h: usize, s: Shape, b: usize) -> usize
-    requires { ⌜ (h ≤ 255) × (shapeOk s ≡ true) × (b ≤ 8192) ⌝ }
-    ensures { λ r. ⌜ (r ≡ recordEnd h s b) × (r ≤ h + 273545) ⌝ }
-{
-    commitment_place(h, s, b) + 4 + rules::hash_bytes(s)
-}
-
-// The length of the record that is written for a shape.
+// The length of the record that is written for a shape: the version byte, six lengths of fields and the IV are 41 bytes.
 pub fn record_length(s: Shape, b: usize) -> usize
     requires { ⌜ (shapeOk s ≡ true) × (b ≤ 8192) ⌝ }
     ensures { λ r. ⌜ (r ≡ recordBytes s b) × (r ≤ 273555) ⌝ }
 {
     let h = head_length(version_for(s));
-    record_end(h, s, b)
+    let front = h + challenge_length(s);
+    let rest = lengths::corrections_bytes(s, b) + lengths::opening_bytes(s) + rules::hash_bytes(s);
+    41 + front + rest
 }
 
 // Whether two strings are the same.

@@ -1,190 +1,140 @@
-// What reading a record gives: its number, its shape and row length, and of a record that is read the other fields, each handed out by a reader.
+// What reading a record gives. What its front says is read once, and the lengths of its fields are made of that once; both go on by value. The bytes of the fields
+// are tested by a reader, record_reader, and handed out by it where they are used.
 ghost use mathlib.Core.Path.{_≡_};
-ghost use mathlib.Core.Bool.{true};
-ghost use Prim.Native.Nat.{_/_, _≤_};
-ghost use Rattle.spec.specs.Shapes.{resolved, shapeOk};
-ghost use Rattle.record.specs.Fields.{fieldOk};
-ghost use Rattle.record.specs.Record.{versionOf, headBytes, versionOk, headOf, contentsOf, headNumber, fieldsNumber, endOf, readNumber, restOk};
+ghost use mathlib.Core.Bool.{true, _&&_, cond};
+ghost use mathlib.Core.List.{List, [], _∷_};
+ghost use Prim.Native.Nat.{ℕ, _<_, _≤_};
+ghost use lib.ListN.{length};
+ghost use Rattle.spec.specs.Shapes.{shapeOk};
+ghost use Rattle.spec.specs.Calls.{firstRefusal, rowOk};
+ghost use Rattle.record.specs.Record.{headBytes, kindFits, fieldsTest, endOf, readNumber};
+ghost use Rattle.record_reading.specs.Front.{frontIn, FrontOf, ReadFront, SizesOf};
+use record_reader::Rest;
 use spec::Shape;
 
-// The head, by the version.
-fn head_of(bytes: &[u8]) -> &[u8]
-    requires { ⌜ fieldOk (now bytes) 1 (headBytes (versionOf (now bytes))) ≡ true ⌝ }
-    ensures { λ f. ⌜ now f ≡ headOf (now (bytes .entry)) ⌝ }
-{
-    record_reader::field_of(bytes, 1, record_fields::head_bytes(bytes))
+// The number of a front, 9, 10, 1, 2 or 0, and with 0 what it says: the version, the shape as written and resolved, the row length in bits and in bytes.
+pub struct Front {
+    pub number: usize,
+    pub version: u8,
+    pub shape: Shape,
+    pub resolved: Shape,
+    pub row: usize,
+    pub row_bytes: usize,
 }
 
-// The shape, as the head writes it.
-pub fn shape_of(bytes: &[u8]) -> Shape
-    requires { ⌜ (versionOk (now bytes) ≡ true) × (fieldOk (now bytes) 1 (headBytes (versionOf (now bytes))) ≡ true) ⌝ }
-    ensures { λ r. ⌜ r ≡ contentsOf (now (bytes .entry)) .shape ⌝ }
-{
-    let version = record_fields::version_of(bytes);
-    record_fields::shape_in(version, head_of(bytes))
+// The lengths of fields one and three to six. An IV has 16 bytes.
+pub struct Sizes {
+    pub head: usize,
+    pub challenge: usize,
+    pub corrections: usize,
+    pub opening: usize,
+    pub commitment: usize,
 }
 
-// The row length in bits.
-pub fn row_of(bytes: &[u8]) -> usize
-    requires { ⌜ (versionOk (now bytes) ≡ true) × (fieldOk (now bytes) 1 (headBytes (versionOf (now bytes))) ≡ true) ⌝ }
-    ensures { λ r. ⌜ r ≡ contentsOf (now (bytes .entry)) .row ⌝ }
+// A front that is refused before its head is read.
+fn unread(number: usize) -> Front
+    ensures { λ f. ⌜ f .number ≡ number ⌝ }
 {
-    record_fields::row_in(head_of(bytes))
-}
-
-// The front: 9, 10, 1 or 2, or 0.
-pub fn head_number(bytes: &[u8]) -> usize
-    ensures { λ r. ⌜ r ≡ headNumber (now (bytes .entry)) ⌝ }
-{
-    let version = record_fields::version_of(bytes);
-    if !record_fields::version_ok(bytes) {
-        return 9;
+    let none = Shape {
+        tau: 0,
+        k: 0,
+        w: 0,
+        t: 0,
+        level: 0,
+        kind: 0,
+    };
+    Front {
+        number,
+        version: 0,
+        shape: none,
+        resolved: none,
+        row: 0,
+        row_bytes: 0,
     }
-    if !record_fields::field_fits(bytes, 1, record_fields::head_bytes(bytes)) {
-        return 10;
-    }
-    let shape = shape_of(bytes);
-    if !(rules::is_shape(rules::resolve(shape)) & record_fields::kind_fits(version, shape.kind)) {
+}
+
+// The number of a head by what it says: 1, 2 or 0.
+fn said_number(version: u8, kind: usize, resolved: Shape, row: usize) -> usize
+    ensures { λ r. ⌜ r ≡ firstRefusal ((shapeOk resolved && kindFits version kind, 1) ∷ (rowOk row, 2) ∷ []) ⌝ }
+{
+    if !(rules::is_shape(resolved) & record_fields::kind_fits(version, kind)) {
         return 1;
     }
-    if !rules::is_row_length(row_of(bytes)) {
+    if !rules::is_row_length(row) {
         return 2;
     }
     0
 }
 
-// The resolved shape of a record whose front is read, and the bytes of its rows.
-pub fn resolved_shape(bytes: &[u8]) -> Shape
-    requires { ⌜ headNumber (now bytes) ≡ 0 ⌝ }
-    ensures { λ r. ⌜ (r ≡ resolved (contentsOf (now (bytes .entry)) .shape)) × (shapeOk r ≡ true) ⌝ }
+// What a head of a version says.
+fn front_in(version: u8, head: &[u8]) -> Front
+    requires { ⌜ (0 < headBytes version) × (length (now head) ≡ headBytes version) ⌝ }
+    ensures { λ f. ⌜ f ≡ frontIn version (now (head .entry)) ⌝ }
 {
-    rules::resolve(shape_of(bytes))
-}
-
-pub fn row_bytes(bytes: &[u8]) -> usize
-    requires { ⌜ headNumber (now bytes) ≡ 0 ⌝ }
-    ensures { λ r. ⌜ (r ≡ contentsOf (now (bytes .entry)) .row / 8) × (r ≤ 8192) ⌝ }
-{
-    row_of(bytes) / 8
-}
-
-// Whether fields two to six are there, behind a head of h bytes.
-fn rest_ok(bytes: &[u8], h: usize, s: Shape, b: usize) -> bool
-    requires { ⌜ (h ≤ 255) × (shapeOk s ≡ true) × (b ≤ 8192) ⌝ }
-    ensures { λ r. ⌜ r ≡ restOk h s b (now (bytes .entry)) ⌝ }
-{
-    record_fields::field_fits(bytes, record_fields::iv_place(h), 16)
-        & record_fields::field_fits(
-            bytes,
-            record_fields::challenge_place(h),
-            record_fields::challenge_length(s),
-        )
-        & record_fields::field_fits(
-            bytes,
-            record_fields::corrections_place(h, s),
-            lengths::corrections_bytes(s, b),
-        )
-        & record_fields::field_fits(
-            bytes,
-            record_fields::opening_place(h, s, b),
-            lengths::opening_bytes(s),
-        )
-        & record_fields::field_fits(
-            bytes,
-            record_fields::commitment_place(h, s, b),
-            rules::hash_bytes(s),
-        )
-}
-
-// The front, then 10 for a field of the rest that is not there, or 0. What stands behind the sixth field is not looked at.
-pub fn fields_number(bytes: &[u8]) -> usize
-    ensures { λ r. ⌜ r ≡ fieldsNumber (now (bytes .entry)) ⌝ }
-{
-    let number = head_number(bytes);
-    if number != 0 {
-        return number;
+    let shape = record_fields::shape_in(version, head);
+    let resolved = rules::resolve(shape);
+    let row = record_fields::row_in(head);
+    Front {
+        number: said_number(version, shape.kind, resolved, row),
+        version,
+        shape,
+        resolved,
+        row,
+        row_bytes: row / 8,
     }
-    let h = record_fields::head_bytes(bytes);
-    let s = resolved_shape(bytes);
-    if !rest_ok(bytes, h, s, row_bytes(bytes)) {
-        return 10;
+}
+
+// The front of a record.
+pub fn front_of(bytes: &[u8]) -> Front
+    ensures { λ f. ⌜ ReadFront (now (bytes .entry)) f ⌝ }
+{
+    let version = record_fields::version_of(bytes);
+    let h = record_fields::head_length(version);
+    if h == 0 {
+        return unread(9);
     }
-    0
-}
-
-// Where the sixth field ends, by the front.
-pub fn end_of(bytes: &[u8]) -> usize
-    requires { ⌜ headNumber (now bytes) ≡ 0 ⌝ }
-    ensures { λ r. ⌜ r ≡ endOf (now (bytes .entry)) ⌝ }
-{
-    let h = record_fields::head_bytes(bytes);
-    let s = resolved_shape(bytes);
-    record_fields::record_end(h, s, row_bytes(bytes))
-}
-
-// The same, and 10 for bytes left over, or 0: the record is read.
-pub fn read_number(bytes: &[u8]) -> usize
-    ensures { λ r. ⌜ r ≡ readNumber (now (bytes .entry)) ⌝ }
-{
-    let number = fields_number(bytes);
-    if number != 0 {
-        return number;
+    if !record_reader::head_fits(bytes, h) {
+        return unread(10);
     }
-    if bytes.len() != end_of(bytes) {
-        return 10;
+    front_in(version, record_reader::head_of(bytes, h))
+}
+
+// The lengths of the fields of every record that has this front.
+pub fn sizes_of(f: Front) -> Sizes
+    requires { ⌜ (shapeOk (f .resolved) ≡ true) × (f .«row_bytes» ≤ 8192) ⌝ }
+    ensures { λ z. ⌜ ((rec : List ℕ) → FrontOf rec f → SizesOf rec z) ⌝ }
+{
+    let s = f.resolved;
+    Sizes {
+        head: record_fields::head_length(f.version),
+        challenge: record_fields::challenge_length(s),
+        corrections: lengths::corrections_bytes(s, f.row_bytes),
+        opening: lengths::opening_bytes(s),
+        commitment: rules::hash_bytes(s),
     }
-    0
 }
 
-// ---- the fields of a record that is read
-
-pub fn iv_of(bytes: &[u8]) -> &[u8]
-    requires { ⌜ readNumber (now bytes) ≡ 0 ⌝ }
-    ensures { λ f. ⌜ now f ≡ contentsOf (now (bytes .entry)) .iv ⌝ }
+// Whether fields two to six are there, and where the sixth ends. What stands behind it is not looked at.
+pub fn rest(bytes: &[u8], z: Sizes) -> Rest
+    requires { ⌜ SizesOf (now bytes) z ⌝ }
+    ensures { λ r. ⌜ (r .fits ≡ fieldsTest (now (bytes .entry)) .0) × (r .end ≡ endOf (now (bytes .entry))) ⌝ }
 {
-    let h = record_fields::head_bytes(bytes);
-    record_reader::field_of(bytes, record_fields::iv_place(h), 16)
+    record_reader::rest_of(
+        bytes,
+        z.head,
+        16,
+        z.challenge,
+        z.corrections,
+        z.opening,
+        z.commitment,
+    )
 }
 
-pub fn challenge_of(bytes: &[u8]) -> &[u8]
-    requires { ⌜ readNumber (now bytes) ≡ 0 ⌝ }
-    ensures { λ f. ⌜ now f ≡ contentsOf (now (bytes .entry)) .challenge ⌝ }
+// Whether a record with such a front is read: its fields are there, and nothing is left over.
+pub fn is_read(bytes: &[u8], z: Sizes) -> bool
+    requires { ⌜ SizesOf (now bytes) z ⌝ }
+    ensures { λ r. ⌜ readNumber (now (bytes .entry)) ≡ cond r 0 10 ⌝ }
 {
-    let h = record_fields::head_bytes(bytes);
-    let s = resolved_shape(bytes);
-    let at = record_fields::challenge_place(h);
-    record_reader::field_of(bytes, at, record_fields::challenge_length(s))
-}
-
-pub fn corrections_of(bytes: &[u8]) -> &[u8]
-    requires { ⌜ readNumber (now bytes) ≡ 0 ⌝ }
-    ensures { λ f. ⌜ now f ≡ contentsOf (now (bytes .entry)) .corrections ⌝ }
-{
-    let h = record_fields::head_bytes(bytes);
-    let s = resolved_shape(bytes);
-    let b = row_bytes(bytes);
-    let at = record_fields::corrections_place(h, s);
-    record_reader::field_of(bytes, at, lengths::corrections_bytes(s, b))
-}
-
-pub fn opening_of(bytes: &[u8]) -> &[u8]
-    requires { ⌜ readNumber (now bytes) ≡ 0 ⌝ }
-    ensures { λ f. ⌜ now f ≡ contentsOf (now (bytes .entry)) .opening ⌝ }
-{
-    let h = record_fields::head_bytes(bytes);
-    let s = resolved_shape(bytes);
-    let b = row_bytes(bytes);
-    let at = record_fields::opening_place(h, s, b);
-    record_reader::field_of(bytes, at, lengths::opening_bytes(s))
-}
-
-pub fn commitment_of(bytes: &[u8]) -> &[u8]
-    requires { ⌜ readNumber (now bytes) ≡ 0 ⌝ }
-    ensures { λ f. ⌜ now f ≡ contentsOf (now (bytes .entry)) .commitment ⌝ }
-{
-    let h = record_fields::head_bytes(bytes);
-    let s = resolved_shape(bytes);
-    let b = row_bytes(bytes);
-    let at = record_fields::commitment_place(h, s, b);
-    record_reader::field_of(bytes, at, rules::hash_bytes(s))
+    let r = rest(bytes, z);
+    r.fits & (bytes.len() == r.end)
 }

@@ -28,7 +28,8 @@ use Rattle.record.specs.HostRecordCalls.{HostCheckRecord, workWords}
 use Rattle.laws.proofs.Words.{count-slice}
 use Rattle.laws.proofs.Refusals.{none-failed, all-passed}
 use Rattle.record.proofs.SameBytes.{same-refl, same-equal}
-use Rattle.record.proofs.ReadBack.{Lengths, contents-back, reads-back, first-contents, first-reads, read-kind, read-only}
+use Rattle.record.proofs.Reading.{Lengths}
+use Rattle.record.proofs.ReadBack.{contents-back, reads-back, first-contents, first-reads, read-kind, read-only}
 use Rattle.record.proofs.Reconstructing.{lent, ranNumber, ran-number, ran-made, reconstructs, fields-fit, number-steps}
 use Rattle.named_sets.specs.NamedSets.{namedOk}
 use Rattle.named_sets.specs.NamedCalls.{namedNumber, CheckNamed, HostCheckNamed}

@@ -3,11 +3,14 @@ ghost use mathlib.Core.Path.{_≡_};
 ghost use mathlib.Core.Bool.{true};
 ghost use Prim.Native.Nat.{_≤_};
 ghost use lib.ListN.{length, take, drop};
-ghost use Rattle.spec.specs.Shapes.{challengeBytes, shapeOk, plannedCount};
-ghost use Rattle.record.specs.Record.{readNumber};
+ghost use Rattle.spec.specs.Shapes.{challengeBytes, openingBytes, shapeOk, plannedCount};
+ghost use Rattle.record.specs.Record.{fieldsNumber, endOf};
+ghost use Rattle.record_reading.specs.Front.{FrontOf, SizesOf};
 ghost use Rattle.listing_text.specs.Put.{Put};
-ghost use Rattle.report_text.specs.Entries.{entryOf, entries};
+ghost use Rattle.report_text.specs.Entries.{entryOf, openedEntry, entries};
 ghost use Rattle.report_text.specs.Text.{entriesText, reportText};
+use record_reading::Front;
+use record_reading::Sizes;
 use report_text::Entry;
 use spec::Shape;
 
@@ -32,41 +35,61 @@ fn refused(number: usize, bytes: usize) -> Entry
     }
 }
 
-// The entry of a record that is read: 4, 5 and 6 are tested, and nothing is reconstructed.
-fn opened(bytes: &[u8]) -> Entry
-    requires { ⌜ readNumber (now bytes) ≡ 0 ⌝ }
-    ensures { λ r. ⌜ r ≡ entryOf (now (bytes .entry)) ⌝ }
+// The entry of an opening in a record of that many bytes: 4, 5 and 6 are tested, and nothing is reconstructed.
+fn opened<'a>(f: Front, challenge: &'a [u8], opening: &'a [u8], bytes: usize) -> Entry
+    requires { ⌜ (shapeOk (f .resolved) ≡ true) × (length (now challenge) ≡ challengeBytes (f .resolved)) × (length (now opening) ≡ openingBytes (f .resolved)) ⌝ }
+    ensures { λ r. ⌜ r ≡ openedEntry (f .resolved) (now (challenge .entry)) (now (opening .entry)) bytes ⌝ }
 {
-    let s = record_reading::resolved_shape(bytes);
-    let challenge = record_reading::challenge_of(bytes);
+    let s = f.resolved;
     if !challenge::grinding_ok(s, challenge) {
-        return refused(4, bytes.len());
+        return refused(4, bytes);
     }
     let n = count_nodes(s, challenge);
     if s.t < n {
-        return refused(5, bytes.len());
+        return refused(5, bytes);
     }
-    if !slots::slots_clear(s, n, record_reading::opening_of(bytes)) {
-        return refused(6, bytes.len());
+    if !slots::slots_clear(s, n, opening) {
+        return refused(6, bytes);
     }
     Entry {
         number: 0,
         count: n,
         unused: s.t - n,
-        bytes: bytes.len(),
+        bytes,
     }
+}
+
+// The entry of a record whose fields are there, up to its end: the fields are handed out by one reader, and two of them passed on.
+fn open_fields(bytes: &[u8], f: Front, z: Sizes, end: usize) -> Entry
+    requires { ⌜ FrontOf (now bytes) f × SizesOf (now bytes) z × (fieldsNumber (now bytes) ≡ 0) × (end ≡ endOf (now bytes)) ⌝ }
+    ensures { λ r. ⌜ r ≡ entryOf (now (bytes .entry)) ⌝ }
+{
+    let p = record_reader::fields_of(
+        bytes,
+        z.head,
+        16,
+        z.challenge,
+        z.corrections,
+        z.opening,
+        z.commitment,
+    );
+    opened(f, p.challenge, p.opening, end)
 }
 
 // The entry of the record that begins a string. One with a number of the front or of a missing field takes all that is left, so that nothing is read behind it.
 fn entry(bytes: &[u8]) -> Entry
     ensures { λ r. ⌜ r ≡ entryOf (now (bytes .entry)) ⌝ }
 {
-    let number = record_reading::fields_number(bytes);
-    if number != 0 {
-        return refused(number, bytes.len());
+    let f = record_reading::front_of(bytes);
+    if f.number != 0 {
+        return refused(f.number, bytes.len());
     }
-    let end = record_reading::end_of(bytes);
-    opened(&bytes[..end])
+    let z = record_reading::sizes_of(f);
+    let r = record_reading::rest(bytes, z);
+    if !r.fits {
+        return refused(10, bytes.len());
+    }
+    open_fields(bytes, f, z, r.end)
 }
 
 // Puts a line for each record of the input, and the totals behind them.

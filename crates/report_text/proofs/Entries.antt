@@ -19,10 +19,10 @@ use Rattle.planning_laws.proofs.ShapeFacts.{shape-facts}
 use Rattle.record.specs.Fields.{fieldOk}
 use Rattle.record.specs.Record.{versionOf, headBytes, versionOk, restOk, Contents, contentsOf, fieldsTests, fieldsNumber, endOf, readNumber, kindFits}
 use Rattle.record.specs.RecordCalls.{openingTests}
-use Rattle.record.proofs.ReadBack.{read-length}
-use Rattle.record.proofs.Cut.{read-fields, fields-shape, end-least, end-within, cut-read, cut-contents}
+use Rattle.record.proofs.Reading.{front-shape, fields-front}
+use Rattle.record.proofs.Cut.{end-least, end-within}
 use Rattle.report_text.specs.declared.Entry.{Entry}
-use Rattle.report_text.specs.Entries.{entryNumber, stops, entryOf, entriesWithin, entries, accepted, sumOf, nodesTotal, unusedTotal}
+use Rattle.report_text.specs.Entries.{entryNumber, stops, entryOf, openedEntry, entriesWithin, entries, accepted, sumOf, nodesTotal, unusedTotal}
 
 -- ---- the number
 
@@ -93,32 +93,10 @@ module _ (xs : List ℕ) where
     unfolding entryOf
     entry-end = rw (goes-on .0) refl
 
--- ---- a record that is read alone, and the part of a string that is its first record
-
--- the entry of an opening, of a record that takes n bytes
-abbrev openedEntry : Contents → ℕ → Entry
-openedEntry c n =
-    let s = resolved (c .shape) in
-    let k = firstRefusal (openingTests c) in
-    record {
-      number = k;
-      count = written k (plannedCount s (c .challenge)) 0;
-      unused = written k (s .t - plannedCount s (c .challenge)) 0;
-      bytes = n;
-    }
-
-entry-opened : (xs : List ℕ) → fieldsNumber xs ≡ 0 → entryOf xs ≡ openedEntry (contentsOf xs) (endOf xs)
+-- the entry of a record whose fields are there is that of its opening
+pub entry-opened : (xs : List ℕ) → fieldsNumber xs ≡ 0 → entryOf xs ≡ openedEntry (resolved (contentsOf xs .shape)) (contentsOf xs .challenge) (contentsOf xs .opening) (endOf xs)
 unfolding entryOf
 entry-opened xs ok = rw (goes-on xs ok .0, number-opened xs ok) refl
-
-pub entry-read : (xs : List ℕ) → readNumber xs ≡ 0 → entryOf xs ≡ openedEntry (contentsOf xs) (length xs)
-entry-read xs ok = entry-opened xs (read-fields xs ok) ∙ ap (openedEntry (contentsOf xs)) (sym (read-length xs ok))
-
-pub entry-cut : (xs : List ℕ) → fieldsNumber xs ≡ 0 → entryOf (take (endOf xs) xs) ≡ entryOf xs
-entry-cut xs ok =
-    entry-read (take (endOf xs) xs) (cut-read xs ok)
-    ∙ ap₂ openedEntry (cut-contents xs ok) (length-take-le (endOf xs) xs (end-within xs ok))
-    ∙ sym (entry-opened xs ok)
 
 -- ---- bounds
 
@@ -145,7 +123,7 @@ opened-small xs ok =
     let q = goes-on xs ok in
     let s = resolved (contentsOf xs .shape) in
     let n = plannedCount s (contentsOf xs .challenge) in
-    let t = shape-facts s (fields-shape xs ok) .t-max in
+    let t = shape-facts s (front-shape xs (fields-front xs ok)) .t-max in
     (q .1, counted (entryNumber xs) n (λ z. let m = leb-true n (s .t) (q .2 z) in omega arith), counted (entryNumber xs) (s .t - n) (λ z. omega arith))
 
 pub bounds : (xs : List ℕ) → Bounds xs (entryOf xs)

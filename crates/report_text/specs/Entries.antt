@@ -4,8 +4,10 @@ use mathlib.Core.Bool.{Bool, _||_, cond}
 use mathlib.Core.List.{List, [], _∷_, _++_}
 use lib.Dec.{eqb}
 use lib.ListN.{length, drop}
-use Rattle.spec.specs.Shapes.{resolved, plannedCount}
-use Rattle.spec.specs.Calls.{firstRefusal, written}
+use Rattle.spec.specs.declared.Shape.{Shape}
+use Rattle.spec.specs.Shapes.{resolved, grindingOk, plannedCount}
+use Rattle.spec.specs.Verifier.{slotsOk}
+use Rattle.spec.specs.Calls.{firstRefusal, nodesOk, written}
 use Rattle.record.specs.Record.{contentsOf, fieldsTests, endOf}
 use Rattle.record.specs.RecordCalls.{openingTests}
 use Rattle.report_text.specs.declared.Entry.{Entry}
@@ -30,6 +32,12 @@ entryOf xs =
       unused = written n (s .t - plannedCount s (c .challenge)) 0;
       bytes = cond (stops n) (length xs) (endOf xs);
     }
+
+-- the entry of an opening by its parts, a resolved shape, a challenge and an opening, in a record that takes n bytes
+abbrev pub openedEntry : Shape → List ℕ → List ℕ → ℕ → Entry
+openedEntry s ch op n =
+    let k = firstRefusal ((grindingOk s ch, 4) ∷ (nodesOk s ch, 5) ∷ (slotsOk s ch op, 6) ∷ []) in
+    record { number = k; count = written k (plannedCount s ch) 0; unused = written k (s .t - plannedCount s ch) 0; bytes = n }
 
 -- at most n records of a string: none where no bytes are left, and none behind one that stops
 unfoldable pub entriesWithin : ℕ → List ℕ → List Entry

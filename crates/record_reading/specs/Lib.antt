@@ -1,0 +1,2 @@
+-- What the structs of this crate say of a record.
+pub mod Front
