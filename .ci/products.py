@@ -33,8 +33,8 @@ GROUPS = {
     'listings': 'listing list_nodes enumeration_text enumeration list_challenges',
     'report': 'report_text report report_openings',
     'claims': 'standards standards_levels theorems record_theorems',
-    'tests': 'round_trip round_trip_report run_round_trip v1_round_trip test_support vectors_calls vectors_probes vectors vectors_stretches '
-             'record_cases vectors_records v1_cases v1_vectors list_nodes_runs list_challenges_runs report_runs bench_exports',
+    'tests': 'round_trip round_trip_report run_round_trip v1_round_trip test_support case_text vectors_calls vectors_probes record_cases run_cases '
+             'vectors vectors_stretches vectors_records v1_vectors list_nodes_runs list_challenges_runs report_runs bench_exports',
 }
 PRODUCTS = {
     'shape_host': ['base', 'planning', 'decode and plan'],

@@ -6,6 +6,7 @@ use std::io::Read;
 use crate::calls::{
     commit, commit_stretch, decode, open, plan, reconstruct, reconstruct_stretch, Answer,
 };
+use crate::cases::cases_command;
 use crate::enumeration::list_challenges;
 use crate::listing::list;
 use crate::record_commands::{check_command, checks_command, record_command};
@@ -38,10 +39,11 @@ usage: reference decode      TAU K W T LEVEL KIND CHALLENGE
        reference v1_roundtrip   TAU K W T LEVEL KIND ROWBITS ROOT IV CHALLENGE
        reference probe_v1_commit      TAU K W T LEVEL KIND ROWBITS WHICH MORE
        reference probe_v1_open        TAU K W T LEVEL KIND BYTE WHICH MORE
-       reference probe_v1_reconstruct TAU K W T LEVEL KIND ROWBITS BYTE WHICH MORE
+       reference probe_v1_reconstruct TAU K W T LEVEL KIND ROWBITS BYTE WHICH MORE SET
        reference list        (its line on standard input)
        reference list_challenges (its line on standard input)
        reference report      (records on standard input)
+       reference cases       (cases on standard input, one a line)
        reference check       [--named] (a record on standard input)
        reference checks      (records and buffers on standard input)
 Each with ROWBITS but those on records and of v1 is also there for a stretch of the
@@ -586,6 +588,7 @@ pub fn run(args: &[String], input: &mut impl Read) -> Option<Outcome> {
         "probe_commit" | "probe_reconstruct" => probe_command(command, of_stretch, rest),
         _ if of_stretch => None,
         "list" | "list_challenges" | "report" => list_command(command, rest, input),
+        "cases" => cases_command(rest, input),
         "check" => check_command(rest, input),
         "checks" => checks_command(rest, input),
         "record" | "named" | "prefixes" | "flips" | "pairs" => record_command(command, false, rest),

@@ -10,6 +10,7 @@
 pub mod aes;
 pub mod bavc;
 pub mod calls;
+mod cases;
 pub mod cli;
 pub mod enumeration;
 pub mod field;

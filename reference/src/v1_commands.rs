@@ -27,6 +27,9 @@ const V: usize = 4;
 const CORRECTIONS: usize = 5;
 const Q: usize = 3;
 
+/// The place of the opening among the buffers of reconstruct.
+const OPENING: usize = 3;
+
 /// Shape and row length in bits of a call.
 #[derive(Clone, Copy)]
 struct Numbers {
@@ -206,6 +209,10 @@ pub fn probe_command(command: &str, mut rest: Arguments) -> Option<Outcome> {
         _ => u8::try_from(rest.number()?).ok()?,
     };
     let (which, more) = (rest.number()?, rest.number()?);
+    let set = match command {
+        "probe_v1_reconstruct" => rest.number()?,
+        _ => usize::MAX,
+    };
     rest.end()?;
 
     let (lengths, first_written, challenge): (Vec<usize>, usize, usize) = match command {
@@ -215,6 +222,12 @@ pub fn probe_command(command: &str, mut rest: Arguments) -> Option<Outcome> {
     };
     let mut buffers = probed(&lengths, first_written, which, more);
     buffers[challenge][0] = first_byte;
+    if let Some(byte) = buffers
+        .get_mut(OPENING)
+        .and_then(|opening| opening.get_mut(set))
+    {
+        *byte = 1;
+    }
     let (read, written) = buffers.split_at_mut(first_written);
     let answer = match command {
         "probe_v1_commit" => numbers.commit(&read[0], &read[1], written),

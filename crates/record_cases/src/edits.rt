@@ -84,8 +84,15 @@ pub fn flips(bytes: &mut [u8; 512], n: usize)
 // ---- edits: 0 of the version, 1 of the length of the first field, 2 of tau, 3 of the row length, 4 of the length of the IV, 5 a byte left over, 6, 7, 8 of the lengths
 // of the work buffers, 9 of the last byte of the challenge, 10 of the last byte of the opening, 11 of the first byte of the commitment
 
-// The place of the byte that an edit changes in a record of n bytes.
-fn place(edit: usize, n: usize) -> usize
+fn wide(b: u8) -> usize
+    ensures { λ r. ⌜ r < 256 ⌝ }
+{
+    b as usize
+}
+
+// The place of the byte that an edit changes in a record of n bytes, whose first field has `head` bytes.
+fn place(edit: usize, head: usize, n: usize) -> usize
+    requires { ⌜ head < 256 ⌝ }
     ensures { λ r. ⌜ r < 512 ⌝ }
 {
     let end = at_most(n, 511);
@@ -94,8 +101,8 @@ fn place(edit: usize, n: usize) -> usize
         1 => 4,
         2 => 5,
         3 => 13,
-        4 => 18,
-        9 => 54,
+        4 => head + 8,
+        9 => head + 44,
         10 => back(end, 37),
         _ => back(end, 32),
     }
@@ -128,8 +135,10 @@ fn change(edit: usize) -> u8 {
 }
 
 // Makes the edit in a record of n bytes, or takes it back.
-fn make(edit: usize, n: usize, bytes: &mut [u8; 512]) {
-    let at = place(edit, n);
+fn make(edit: usize, head: usize, n: usize, bytes: &mut [u8; 512])
+    requires { ⌜ head < 256 ⌝ }
+{
+    let at = place(edit, head, n);
     bytes[at] = bytes[at] ^ change(edit);
 }
 
@@ -150,8 +159,9 @@ const NONE: usize = 99;
 // The record with two edits, or one where both are the same.
 fn edited(bytes: &mut [u8; 512], n: usize, first: usize, second: usize, l: Lengths) {
     let other = if first == second { NONE } else { second };
-    make(first, n, bytes);
-    make(other, n, bytes);
+    let head = wide(bytes[4]);
+    make(first, head, n, bytes);
+    make(other, head, n, bytes);
     let changed = Lengths {
         number: 0,
         tree: length(l.tree, first, other, 6, NONE + 1),
@@ -159,8 +169,8 @@ fn edited(bytes: &mut [u8; 512], n: usize, first: usize, second: usize, l: Lengt
         q: length(l.q, first, other, 8, NONE + 1),
     };
     verdict(front(bytes, length(n, first, other, NONE + 1, 5)), changed);
-    make(other, n, bytes);
-    make(first, n, bytes);
+    make(other, head, n, bytes);
+    make(first, head, n, bytes);
 }
 
 // An edit with each from it on.

@@ -2,36 +2,28 @@
 use crate::calls::call_commit;
 use crate::calls::call_open;
 use crate::calls::call_reconstruct;
-use crate::inputs::numbered;
-use crate::inputs::root;
+use crate::inputs::Call;
+use crate::inputs::Inputs;
 use crate::print::print_answer;
 use crate::print::print_buffer;
-use spec::Shape;
-use test_support::lengths::Lengths;
-use test_support::lengths::Rows;
-use test_support::parts::front;
+use case_text::first_bytes;
 
 // What both halves write of the tree.
-fn print_leaves(l: Lengths, commitment: &[u8], tree: &[u8], leaf_commitments: &[u8]) {
+fn print_leaves(c: Call, commitment: &[u8], tree: &[u8], leaf_commitments: &[u8]) {
+    let l = c.lengths;
     print_buffer(b"commitment ", commitment, l.commitment);
-    print_buffer(b"tree ", tree, l.tree);
+    if c.version == 1 {
+        print_buffer(b"trees ", tree, l.tree);
+    } else {
+        print_buffer(b"tree ", tree, l.tree);
+    }
     print_buffer(b"leaf_commitments ", leaf_commitments, l.leaf_commitments);
-}
-
-// What commit writes of the rows.
-fn print_rows(l: Lengths, u: &[u8], v: &[u8], corrections: &[u8]) {
-    print_buffer(b"u ", u, l.u);
-    print_buffer(b"v ", v, l.v);
-    print_buffer(b"corrections ", corrections, l.corrections);
 }
 
 // Commit, and what `reference commit` prints.
 fn commit_case(
-    s: Shape,
-    rows: Rows,
-    l: Lengths,
-    root: &[u8; 32],
-    iv: &[u8; 16],
+    c: Call,
+    x: Inputs,
     commitment: &mut [u8; 64],
     tree: &mut [u8; 1310704],
     leaf_commitments: &mut [u8; 1966080],
@@ -39,13 +31,12 @@ fn commit_case(
     v: &mut [u8; 1048576],
     corrections: &mut [u8; 253952],
 ) {
-    let n = test_support::lengths::challenge(s);
+    let root = x.root.bytes;
+    let iv = x.iv.bytes;
     let r = call_commit(
-        s,
-        rows,
-        l,
-        front(root, n),
-        iv,
+        c,
+        first_bytes(&root, x.root.length),
+        first_bytes(&iv, x.iv.length),
         commitment,
         tree,
         leaf_commitments,
@@ -55,26 +46,33 @@ fn commit_case(
     );
     print_answer(r);
     if r.number == 0 {
-        print_leaves(l, commitment, tree, leaf_commitments);
-        print_rows(l, u, v, corrections);
+        print_leaves(c, commitment, tree, leaf_commitments);
+        print_buffer(b"u ", u, c.lengths.u);
+        print_buffer(b"v ", v, c.lengths.v);
+        print_buffer(b"corrections ", corrections, c.lengths.corrections);
     }
 }
 
 // Open, and what `reference open` prints; then the byte `at` of the opening is flipped, where there is one.
 fn open_case(
-    s: Shape,
-    l: Lengths,
-    challenge: &[u8; 32],
+    c: Call,
+    x: Inputs,
     tree: &[u8; 1310704],
     leaf_commitments: &[u8; 1966080],
     opening: &mut [u8; 19456],
     at: usize,
 ) {
-    let n = test_support::lengths::challenge(s);
-    let r = call_open(s, l, front(challenge, n), tree, leaf_commitments, opening);
+    let challenge = x.challenge.bytes;
+    let r = call_open(
+        c,
+        first_bytes(&challenge, x.challenge.length),
+        tree,
+        leaf_commitments,
+        opening,
+    );
     print_answer(r);
     if r.number == 0 {
-        print_buffer(b"opening ", opening, l.opening);
+        print_buffer(b"opening ", opening, c.lengths.opening);
     }
     if at < 19456 {
         opening[at] = opening[at] ^ 1;
@@ -83,11 +81,8 @@ fn open_case(
 
 // Reconstruct, and what `reference reconstruct` prints. It is lent the buffers that commit wrote, with these bytes in them.
 fn reconstruct_case(
-    s: Shape,
-    rows: Rows,
-    l: Lengths,
-    iv: &[u8; 16],
-    challenge: &[u8; 32],
+    c: Call,
+    x: Inputs,
     corrections: &[u8; 253952],
     opening: &[u8; 19456],
     commitment: &mut [u8; 64],
@@ -95,13 +90,12 @@ fn reconstruct_case(
     leaf_commitments: &mut [u8; 1966080],
     q: &mut [u8; 1048576],
 ) {
-    let n = test_support::lengths::challenge(s);
+    let iv = x.iv.bytes;
+    let challenge = x.challenge.bytes;
     let r = call_reconstruct(
-        s,
-        rows,
-        l,
-        iv,
-        front(challenge, n),
+        c,
+        first_bytes(&iv, x.iv.length),
+        first_bytes(&challenge, x.challenge.length),
         corrections,
         opening,
         commitment,
@@ -111,17 +105,14 @@ fn reconstruct_case(
     );
     print_answer(r);
     if r.number == 0 {
-        print_leaves(l, commitment, tree, leaf_commitments);
-        print_buffer(b"q ", q, l.v);
+        print_leaves(c, commitment, tree, leaf_commitments);
+        print_buffer(b"q ", q, c.lengths.v);
     }
 }
 
 // The three calls, with the byte `at` of the opening flipped before reconstruct. Each is made, also behind one that is refused: it is lent what the buffers hold
-// then. They hold 0xa5 at first, so that a byte that is not written shows.
-pub fn run_case(s: Shape, rows: Rows, known: usize, challenge: [u8; 32], at: usize) {
-    let key = root(known / 10);
-    let iv = numbered(known % 10);
-    let l = test_support::lengths::of(s, rows);
+// then. They hold 0xa5 at first, so that a byte that is not written shows. The trees of 192s and 256s do not fit: hosts/c/cases.c runs those sets.
+pub fn run_case(c: Call, x: Inputs, at: usize) {
     let mut commitment = [0xa5u8; 64];
     let mut tree = [0xa5u8; 1310704];
     let mut leaf_commitments = [0xa5u8; 1966080];
@@ -130,11 +121,8 @@ pub fn run_case(s: Shape, rows: Rows, known: usize, challenge: [u8; 32], at: usi
     let mut corrections = [0xa5u8; 253952];
     let mut opening = [0xa5u8; 19456];
     commit_case(
-        s,
-        rows,
-        l,
-        &key,
-        &iv,
+        c,
+        x,
         &mut commitment,
         &mut tree,
         &mut leaf_commitments,
@@ -142,13 +130,10 @@ pub fn run_case(s: Shape, rows: Rows, known: usize, challenge: [u8; 32], at: usi
         &mut v,
         &mut corrections,
     );
-    open_case(s, l, &challenge, &tree, &leaf_commitments, &mut opening, at);
+    open_case(c, x, &tree, &leaf_commitments, &mut opening, at);
     reconstruct_case(
-        s,
-        rows,
-        l,
-        &iv,
-        &challenge,
+        c,
+        x,
         &corrections,
         &opening,
         &mut commitment,

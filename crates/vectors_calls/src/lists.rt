@@ -1,6 +1,8 @@
 // Decode and plan on the front of a list of 512 numbers, and what the command line of reference/ prints of each.
 use crate::print::print_answer;
 use crate::print::print_list;
+use case_text::Bytes;
+use case_text::first_bytes;
 use spec::Answer;
 use spec::Shape;
 use test_support::lengths::at_most;
@@ -36,10 +38,11 @@ pub fn call_plan(s: Shape, challenge: &[u8], list: &mut [u32], n: usize) -> Answ
 }
 
 // Decode, and what `reference decode` prints.
-pub fn decode_case(s: Shape, challenge: [u8; 16]) {
+pub fn decode_case(s: Shape, challenge: Bytes) {
+    let bytes = challenge.bytes;
     let n = index_count(s);
     let mut list = [0u32; 512];
-    let r = call_decode(s, &challenge, &mut list, n);
+    let r = call_decode(s, first_bytes(&bytes, challenge.length), &mut list, n);
     print_answer(r);
     if r.number == 0 {
         print_list(b"indices ", front(&list, n));
@@ -47,10 +50,11 @@ pub fn decode_case(s: Shape, challenge: [u8; 16]) {
 }
 
 // Plan, and what `reference plan` prints.
-pub fn plan_case(s: Shape, challenge: [u8; 16]) {
+pub fn plan_case(s: Shape, challenge: Bytes) {
+    let bytes = challenge.bytes;
     let n = node_limit(s);
     let mut list = [0u32; 512];
-    let r = call_plan(s, &challenge, &mut list, n);
+    let r = call_plan(s, first_bytes(&bytes, challenge.length), &mut list, n);
     print_answer(r);
     if r.number == 0 {
         print_list(b"nodes ", front(&list, r.count));

@@ -1,14 +1,13 @@
-// A call on buffers of which one may be a byte (a list: a number) shorter or longer than the exact length, with 0xa5 in each byte of the outputs and zeros in the inputs.
-// Printed are the answer, and whether every byte of the outputs still is 0xa5.
+// A call on buffers of which one may be a byte (a list: a number) shorter or longer than the exact length, with 0xa5 in each byte of the outputs and zeros in the
+// inputs. Printed are the answer, and whether every byte of the outputs still is 0xa5. A shape that is not refused must have small trees: of version 2 those of
+// two vectors of depth 2, of version 1 those of 32 vectors of depth 4 at level 128.
 use spec::Shape;
 use test_support::lengths::Lengths;
-use test_support::lengths::Rows;
 use test_support::lengths::at_most;
-use test_support::lengths::part;
-use test_support::lengths::whole;
+use test_support::lengths::challenge;
 use test_support::parts::front;
 use test_support::print::text;
-use vectors_calls::at_128;
+use vectors_calls::Call;
 use vectors_calls::call_decode;
 use vectors_calls::call_plan;
 use vectors_calls::index_count;
@@ -18,13 +17,22 @@ use vectors_calls::print_answer;
 // The place of a buffer that the call has not.
 const NONE: usize = 9;
 
-// The length of the buffer at a place among the buffers of a call: the exact one, or at the place `which` one byte less, or more where `more` is not 0.
-fn length(exact: usize, place: usize, which: usize, more: usize) -> usize {
-    if place != which {
+// Which buffer has another length, by its place among those of the call, and whether it is longer; the first byte of the challenge, and the place of a byte of the
+// opening that is 1.
+pub struct Probe {
+    pub which: usize,
+    pub more: usize,
+    pub byte: u8,
+    pub set: usize,
+}
+
+// The length of the buffer at a place among the buffers of a call: the exact one, or at the place of the probe one byte less, or more.
+fn length(exact: usize, place: usize, p: Probe) -> usize {
+    if place != p.which {
         return exact;
     }
-    if more != 0 {
-        return at_most(exact, 511) + 1;
+    if p.more != 0 {
+        return at_most(exact, 16399) + 1;
     }
     if exact == 0 {
         return 0;
@@ -32,24 +40,32 @@ fn length(exact: usize, place: usize, which: usize, more: usize) -> usize {
     exact - 1
 }
 
-// The lengths of the buffers of a call, which are at the places given.
-fn lengths(s: Shape, rows: Rows, places: Lengths, which: usize, more: usize) -> Lengths {
-    let l = test_support::lengths::of(s, rows);
-    Lengths {
-        commitment: length(l.commitment, places.commitment, which, more),
-        tree: length(l.tree, places.tree, which, more),
-        leaf_commitments: length(l.leaf_commitments, places.leaf_commitments, which, more),
-        u: length(l.u, places.u, which, more),
-        v: length(l.v, places.v, which, more),
-        corrections: length(l.corrections, places.corrections, which, more),
-        opening: length(l.opening, places.opening, which, more),
+// The call with the lengths of its buffers, which are at the places given.
+fn probed(c: Call, places: Lengths, p: Probe) -> Call {
+    let l = c.lengths;
+    let lengths = Lengths {
+        commitment: length(l.commitment, places.commitment, p),
+        tree: length(l.tree, places.tree, p),
+        leaf_commitments: length(l.leaf_commitments, places.leaf_commitments, p),
+        u: length(l.u, places.u, p),
+        v: length(l.v, places.v, p),
+        corrections: length(l.corrections, places.corrections, p),
+        opening: length(l.opening, places.opening, p),
+    };
+    let shape = c.shape;
+    let rows = c.rows;
+    Call {
+        version: c.version,
+        shape,
+        rows,
+        lengths,
     }
 }
 
 // Whether each byte is 0xa5.
-pub fn is_kept(a: &[u8; 512]) -> bool {
+pub fn is_kept(a: &[u8]) -> bool {
     let mut i = 0;
-    while i < 512 {
+    while i < a.len() {
         if a[i] != 0xa5 {
             return false;
         }
@@ -67,8 +83,13 @@ fn kept(yes: bool) {
     }
 }
 
-// Commit.
-fn commit_on(s: Shape, rows: Rows, which: usize, more: usize) {
+// The first n bytes of a buffer of a probe.
+fn first(a: &[u8; 16400], n: usize) -> &[u8] {
+    front(a, n)
+}
+
+// Commit, on a call of the exact lengths; the place is 8 where each buffer has its length.
+pub fn probe_commit(c: Call, p: Probe) {
     let places = Lengths {
         commitment: 2,
         tree: 3,
@@ -78,19 +99,17 @@ fn commit_on(s: Shape, rows: Rows, which: usize, more: usize) {
         corrections: 7,
         opening: NONE,
     };
-    let zeros = [0u8; 512];
-    let mut commitment = [0xa5u8; 512];
-    let mut tree = [0xa5u8; 512];
-    let mut leaf_commitments = [0xa5u8; 512];
-    let mut u = [0xa5u8; 512];
-    let mut v = [0xa5u8; 512];
-    let mut corrections = [0xa5u8; 512];
+    let zeros = [0u8; 16400];
+    let mut commitment = [0xa5u8; 16400];
+    let mut tree = [0xa5u8; 16400];
+    let mut leaf_commitments = [0xa5u8; 16400];
+    let mut u = [0xa5u8; 16400];
+    let mut v = [0xa5u8; 16400];
+    let mut corrections = [0xa5u8; 16400];
     let r = vectors_calls::call_commit(
-        s,
-        rows,
-        lengths(s, rows, places, which, more),
-        front(&zeros, length(16, 0, which, more)),
-        front(&zeros, length(16, 1, which, more)),
+        probed(c, places, p),
+        front(&zeros, length(challenge(c.shape), 0, p)),
+        front(&zeros, length(16, 1, p)),
         &mut commitment,
         &mut tree,
         &mut leaf_commitments,
@@ -99,46 +118,12 @@ fn commit_on(s: Shape, rows: Rows, which: usize, more: usize) {
         &mut corrections,
     );
     print_answer(r);
-    let first = is_kept(&commitment) & is_kept(&tree) & is_kept(&leaf_commitments);
-    kept(first & is_kept(&u) & is_kept(&v) & is_kept(&corrections));
+    let front_kept = is_kept(&commitment) & is_kept(&tree) & is_kept(&leaf_commitments);
+    kept(front_kept & is_kept(&u) & is_kept(&v) & is_kept(&corrections));
 }
 
-// `which` is 8 where each buffer has its length.
-pub fn probe_commit(
-    tau: usize,
-    k: usize,
-    w: usize,
-    t: usize,
-    row_bits: usize,
-    which: usize,
-    more: usize,
-) {
-    commit_on(at_128(tau, k, w, t), whole(row_bits), which, more);
-}
-
-// The same with a stretch of the rows.
-pub fn probe_commit_stretch(
-    tau: usize,
-    k: usize,
-    w: usize,
-    t: usize,
-    row_bits: usize,
-    first: usize,
-    width: usize,
-    which: usize,
-    more: usize,
-) {
-    commit_on(
-        at_128(tau, k, w, t),
-        part(row_bits, first, width),
-        which,
-        more,
-    );
-}
-
-// The first byte of the challenge is c.
-pub fn probe_open(tau: usize, k: usize, w: usize, t: usize, c: u8, which: usize, more: usize) {
-    let s = at_128(tau, k, w, t);
+// Open.
+pub fn probe_open(c: Call, p: Probe) {
     let places = Lengths {
         commitment: NONE,
         tree: 1,
@@ -148,14 +133,13 @@ pub fn probe_open(tau: usize, k: usize, w: usize, t: usize, c: u8, which: usize,
         corrections: NONE,
         opening: 3,
     };
-    let zeros = [0u8; 512];
-    let mut challenge = [0u8; 512];
-    challenge[0] = c;
-    let mut opening = [0xa5u8; 512];
+    let zeros = [0u8; 16400];
+    let mut chosen = [0u8; 16400];
+    chosen[0] = p.byte;
+    let mut opening = [0xa5u8; 16400];
     let r = vectors_calls::call_open(
-        s,
-        lengths(s, whole(8), places, which, more),
-        front(&challenge, length(16, 0, which, more)),
+        probed(c, places, p),
+        first(&chosen, length(challenge(c.shape), 0, p)),
         &zeros,
         &zeros,
         &mut opening,
@@ -165,7 +149,7 @@ pub fn probe_open(tau: usize, k: usize, w: usize, t: usize, c: u8, which: usize,
 }
 
 // Reconstruct.
-fn reconstruct_on(s: Shape, rows: Rows, c: u8, which: usize, more: usize, set: usize) {
+pub fn probe_reconstruct(c: Call, p: Probe) {
     let places = Lengths {
         commitment: 4,
         tree: 5,
@@ -175,66 +159,31 @@ fn reconstruct_on(s: Shape, rows: Rows, c: u8, which: usize, more: usize, set: u
         corrections: 2,
         opening: 3,
     };
-    let zeros = [0u8; 512];
-    let mut challenge = [0u8; 512];
-    challenge[0] = c;
-    let mut opening = [0u8; 512];
-    let at = at_most(set, 511);
+    let zeros = [0u8; 16400];
+    let mut chosen = [0u8; 16400];
+    chosen[0] = p.byte;
+    let mut opening = [0u8; 16400];
+    let at = at_most(p.set, 16399);
     opening[at] = 1;
-    let mut commitment = [0xa5u8; 512];
-    let mut tree = [0xa5u8; 512];
-    let mut leaf_commitments = [0xa5u8; 512];
-    let mut q = [0xa5u8; 512];
+    let mut commitment = [0xa5u8; 16400];
+    let mut tree = [0xa5u8; 16400];
+    let mut leaf_commitments = [0xa5u8; 16400];
+    let mut q = [0xa5u8; 16400];
+    let lent = probed(c, places, p);
     let r = vectors_calls::call_reconstruct(
-        s,
-        rows,
-        lengths(s, rows, places, which, more),
-        front(&zeros, length(16, 0, which, more)),
-        front(&challenge, length(16, 1, which, more)),
+        lent,
+        front(&zeros, length(16, 0, p)),
+        first(&chosen, length(challenge(c.shape), 1, p)),
         &zeros,
-        &opening,
+        first(&opening, lent.lengths.opening),
         &mut commitment,
         &mut tree,
         &mut leaf_commitments,
         &mut q,
     );
     print_answer(r);
-    let first = is_kept(&commitment) & is_kept(&tree);
-    kept(first & is_kept(&leaf_commitments) & is_kept(&q));
-}
-
-// The first byte of the challenge is c, and the byte of the opening at the place `set` is 1, where there is one.
-pub fn probe_reconstruct(
-    tau: usize,
-    k: usize,
-    w: usize,
-    t: usize,
-    row_bits: usize,
-    c: u8,
-    which: usize,
-    more: usize,
-    set: usize,
-) {
-    let s = at_128(tau, k, w, t);
-    reconstruct_on(s, whole(row_bits), c, which, more, set);
-}
-
-// The same with a stretch of the rows.
-pub fn probe_reconstruct_stretch(
-    tau: usize,
-    k: usize,
-    w: usize,
-    t: usize,
-    row_bits: usize,
-    first: usize,
-    width: usize,
-    c: u8,
-    which: usize,
-    more: usize,
-    set: usize,
-) {
-    let s = at_128(tau, k, w, t);
-    reconstruct_on(s, part(row_bits, first, width), c, which, more, set);
+    let front_kept = is_kept(&commitment) & is_kept(&tree);
+    kept(front_kept & is_kept(&leaf_commitments) & is_kept(&q));
 }
 
 // Whether each number is 0xa5a5a5a5.
@@ -249,33 +198,31 @@ fn is_list_kept(a: &[u32; 512]) -> bool {
     true
 }
 
-// The first byte of the challenge is c. `which` is 2 where the challenge and the list have their lengths.
-pub fn probe_decode(tau: usize, k: usize, w: usize, t: usize, c: u8, which: usize, more: usize) {
-    let s = at_128(tau, k, w, t);
-    let mut challenge = [0u8; 512];
-    challenge[0] = c;
+// Decode; the place is 2 where the challenge and the list have their lengths.
+pub fn probe_decode(s: Shape, p: Probe) {
+    let mut chosen = [0u8; 512];
+    chosen[0] = p.byte;
     let mut list = [0xa5a5a5a5u32; 512];
     let r = call_decode(
         s,
-        front(&challenge, length(16, 0, which, more)),
+        front(&chosen, length(challenge(s), 0, p)),
         &mut list,
-        length(index_count(s), 1, which, more),
+        length(index_count(s), 1, p),
     );
     print_answer(r);
     kept(is_list_kept(&list));
 }
 
-// The same of plan.
-pub fn probe_plan(tau: usize, k: usize, w: usize, t: usize, c: u8, which: usize, more: usize) {
-    let s = at_128(tau, k, w, t);
-    let mut challenge = [0u8; 512];
-    challenge[0] = c;
+// Plan, in the same way.
+pub fn probe_plan(s: Shape, p: Probe) {
+    let mut chosen = [0u8; 512];
+    chosen[0] = p.byte;
     let mut list = [0xa5a5a5a5u32; 512];
     let r = call_plan(
         s,
-        front(&challenge, length(16, 0, which, more)),
+        front(&chosen, length(challenge(s), 0, p)),
         &mut list,
-        length(node_limit(s), 1, which, more),
+        length(node_limit(s), 1, p),
     );
     print_answer(r);
     kept(is_list_kept(&list));

@@ -313,16 +313,40 @@ fn probes_of_version_1() {
         ("open 32 4 0 1 128 0 12 4 0", 0, "written"),
         ("open 32 4 0 1 128 0 12 3 0", 3, "kept"),
         ("open 32 4 0 1 128 1 12 3 0", 1, "kept"),
-        ("reconstruct 32 4 0 1 128 0 16 255 8 0", 0, "written"),
-        ("reconstruct 32 4 0 1 128 0 16 255 4 0", 3, "kept"),
-        ("reconstruct 32 4 0 1 128 0 12 255 4 0", 2, "kept"),
-        ("reconstruct 32 4 1 1 128 0 12 255 4 0", 1, "kept"),
+        ("reconstruct 32 4 0 1 128 0 16 255 8 0 0", 0, "written"),
+        ("reconstruct 32 4 0 1 128 0 16 255 4 0 0", 3, "kept"),
+        ("reconstruct 32 4 0 1 128 0 12 255 4 0 0", 2, "kept"),
+        ("reconstruct 32 4 1 1 128 0 12 255 4 0 0", 1, "kept"),
         ("commit 31 8 0 1 256 0 8 8 0", 0, "written"),
         ("commit 31 8 0 1 256 0 8 0 1", 3, "kept"),
     ] {
         let expected = format!("number {number}\ncount 0\noutputs {outputs}\n");
         let probe = format!("probe_v1_{args}");
         assert_eq!(program(&probe, ""), (0, expected), "{args}");
+    }
+}
+
+#[test]
+fn cases_by_lines() {
+    let shape = "2 2 124 4 128 0";
+    let challenge = "0c000000000000000000000000000000";
+    let calls = format!("{shape} 8 {ROOT} {ROOT}");
+    let commands = [
+        format!("commit {calls}"),
+        format!("open {calls} {challenge}"),
+        format!("reconstruct {calls} {challenge} 0"),
+        format!("plan {shape} {challenge}"),
+    ];
+    let right: String = commands.iter().map(|args| program(args, "").1).collect();
+    let good = format!("flipped 2 {calls} {challenge} 0\nplan 2 {shape} {challenge}\n");
+    let file = format!("# a comment\n\n{good}");
+    assert_eq!(program("cases", &file), (0, right.clone()));
+    for wrong in ["plan", "plan 2 2", "calls 3", "Plan 2", "plan  2"] {
+        let said = format!("{right}line 5 cannot be read\n");
+        assert_eq!(
+            program("cases", &format!("{file}{wrong}\n{good}")),
+            (1, said)
+        );
     }
 }
 
@@ -556,8 +580,9 @@ fn arguments_that_cannot_be_read() {
         format!("v1_decode 32 4 0 1 128 0 {ROOT}"),
         "probe_v1_commit 32 4 0 1 128 0 8 0".into(),
         "probe_v1_open 32 4 0 1 128 0 256 0 0".into(),
-        "probe_v1_reconstruct 32 4 0 1 128 0 8 0 0".into(),
-        "probe_v1_reconstruct 32 4 0 1 128 0 8 0 0 0 0".into(),
+        "probe_v1_reconstruct 32 4 0 1 128 0 8 0 0 0".into(),
+        "probe_v1_reconstruct 32 4 0 1 128 0 8 0 0 0 0 0".into(),
+        "cases more".into(),
         "check --named more".into(),
     ] {
         assert_eq!(program(&args, ""), (2, String::new()), "{args}");
