@@ -20,7 +20,7 @@ static void expect(int right, const char *what, shape s)
 }
 
 /* reconstruct with a grinding bit set: 4 where every length is right. Of the seven buffers whose length the shape or the row decides, the one numbered `longer` has a byte more. */
-static size_t reconstruct(shape s, const rachnoel_lengths *n, int longer)
+static size_t reconstruct(shape s, const rachnoel_sizes *n, int longer)
 {
     return rachnoel_reconstruct(NUMBERS(s), 8 * ROW, iv, sizeof iv, challenge, n->node + (longer == 6), corrections, n->corrections + (longer == 1), opening,
         n->opening + (longer == 2), commitment, n->commitment + (longer == 7), tree, n->tree + (longer == 3), lcs, n->leaf_commitments + (longer == 4), q,
@@ -28,19 +28,19 @@ static size_t reconstruct(shape s, const rachnoel_lengths *n, int longer)
 }
 
 /* The same for version 1: no refusal is behind 3, so a call with every length right is made. */
-static size_t commit_v1(shape s, const rachnoel_lengths_v1 *n, int longer)
+static size_t commit_v1(shape s, const rachnoel_sizes_v1 *n, int longer)
 {
     return rachnoel_v1_commit(NUMBERS(s), 8 * ROW, root, n->node + (longer == 1), iv, sizeof iv, commitment, n->commitment + (longer == 2), tree, n->trees + (longer == 3), lcs,
         n->leaf_commitments + (longer == 4), u, n->u + (longer == 5), q, n->matrix + (longer == 6), corrections, n->corrections + (longer == 7), count, sizeof count);
 }
 
-static size_t open_v1(shape s, const rachnoel_lengths_v1 *n, int longer)
+static size_t open_v1(shape s, const rachnoel_sizes_v1 *n, int longer)
 {
     return rachnoel_v1_open(NUMBERS(s), challenge, n->node + (longer == 1), tree, n->trees + (longer == 2), lcs, n->leaf_commitments + (longer == 3), opening,
         n->opening + (longer == 4), count, sizeof count);
 }
 
-static size_t reconstruct_v1(shape s, const rachnoel_lengths_v1 *n, int longer)
+static size_t reconstruct_v1(shape s, const rachnoel_sizes_v1 *n, int longer)
 {
     return rachnoel_v1_reconstruct(NUMBERS(s), 8 * ROW, iv, sizeof iv, challenge, n->node + (longer == 1), corrections, n->corrections + (longer == 2), opening,
         n->opening + (longer == 3), commitment, n->commitment + (longer == 4), tree, n->trees + (longer == 5), lcs, n->leaf_commitments + (longer == 6), q,
@@ -49,14 +49,14 @@ static size_t reconstruct_v1(shape s, const rachnoel_lengths_v1 *n, int longer)
 
 static void try_version_1(shape s)
 {
-    const rachnoel_lengths_v1 n = rachnoel_lengths_of_v1(NUMBERS(s), ROW);
+    const rachnoel_sizes_v1 n = rachnoel_lengths_of_v1(NUMBERS(s), ROW);
     const size_t number = rachnoel_v1_open(NUMBERS(s), challenge, 0, tree, 0, lcs, 0, opening, 0, count, sizeof count);
-    expect(number == (n.leaves == 0 ? RACHNOEL_SHAPE : RACHNOEL_BUFFER), "a shape of version 1", s);
+    expect(number == (n.leaves == 0 ? RACHNOEL_REFUSED_SHAPE : RACHNOEL_REFUSED_BUFFER), "a shape of version 1", s);
     if (n.leaves == 0)
         return;
     of_version_1++;
     for (int longer = 0; longer <= 7; longer++) {
-        const size_t right = longer ? RACHNOEL_BUFFER : 0;
+        const size_t right = longer ? RACHNOEL_REFUSED_BUFFER : 0;
         expect(commit_v1(s, &n, longer) == right, "the buffers of commit of version 1", s);
         expect(longer > 4 || open_v1(s, &n, longer) == right, "the buffers of open of version 1", s);
         expect(reconstruct_v1(s, &n, longer) == right, "the buffers of reconstruct of version 1", s);
@@ -66,22 +66,22 @@ static void try_version_1(shape s)
 static void try(shape s)
 {
     try_version_1(s);
-    const rachnoel_lengths n = rachnoel_lengths_of(NUMBERS(s), ROW);
+    const rachnoel_sizes n = rachnoel_lengths_of(NUMBERS(s), ROW);
     size_t number = rachnoel_decode(NUMBERS(s), challenge, 0, list, 0, count, sizeof count);
-    expect(number == (n.leaves == 0 ? RACHNOEL_SHAPE : RACHNOEL_BUFFER), "a shape", s);
+    expect(number == (n.leaves == 0 ? RACHNOEL_REFUSED_SHAPE : RACHNOEL_REFUSED_BUFFER), "a shape", s);
     if (n.leaves == 0)
         return;
     shapes++;
     for (size_t more = 0; more < 2; more++) {
         number = rachnoel_decode(NUMBERS(s), challenge, n.node, list, n.indices + more, count, sizeof count);
-        expect(number == (more ? RACHNOEL_BUFFER : 0), "the indices", s);
+        expect(number == (more ? RACHNOEL_REFUSED_BUFFER : 0), "the indices", s);
         number = rachnoel_plan(NUMBERS(s), challenge, n.node, list, n.nodes + more, count, sizeof count);
-        expect(more ? number == RACHNOEL_BUFFER : number == 0 || number == RACHNOEL_NODES, "the nodes", s);
+        expect(more ? number == RACHNOEL_REFUSED_BUFFER : number == 0 || number == RACHNOEL_REFUSED_NODES, "the nodes", s);
     }
     challenge[n.node - 1] = 0x80;
     if (grinding_bits(s) > 0)
         for (int longer = 0; longer <= 7; longer++)
-            expect(reconstruct(s, &n, longer) == (longer ? RACHNOEL_BUFFER : RACHNOEL_GRINDING), "the buffers of reconstruct", s);
+            expect(reconstruct(s, &n, longer) == (longer ? RACHNOEL_REFUSED_BUFFER : RACHNOEL_REFUSED_GRINDING), "the buffers of reconstruct", s);
     challenge[n.node - 1] = 0;
 }
 
@@ -99,7 +99,7 @@ int main(void)
     static const size_t large[] = {64, 1 << 16, (size_t)1 << 32, (size_t)1 << 63, (size_t)-1};
     for (size_t i = 0; i < sizeof large / sizeof large[0]; i++)
         for (int place = 0; place < 6; place++) {
-            shape s = FAEST_128S;
+            shape s = RACHNOEL_FAEST_128S.shape;
             size_t *const numbers[] = {&s.tau, &s.k, &s.w, &s.t, &s.level, &s.kind};
             *numbers[place] = large[i];
             try(s);

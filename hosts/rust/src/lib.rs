@@ -96,8 +96,11 @@ impl Shape {
         Shape { kind: 1, ..self }
     }
 
-    /// The lengths with rows of so many bytes: row_bits / 8, or the width of a stretch. None where this is no shape.
+    /// The lengths with rows of so many bytes: row_bits / 8, or the width of a stretch. None where this is no shape, or a row has more than 8,192 bytes.
     pub fn lengths(self, row_bytes: usize) -> Option<Lengths> {
+        if row_bytes > 8192 {
+            return None;
+        }
         let Shape { tau, k, w, t, level, kind } = if self == DEFAULT { FAEST_128F } else { self };
         if !(1..=32).contains(&tau) || !(1..=12).contains(&k) || w > 127 || !(1..=512).contains(&t) || ![128, 192, 256].contains(&level) || kind > 1 {
             return None;

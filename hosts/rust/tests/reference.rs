@@ -225,7 +225,7 @@ fn halves() {
         let shape = dice.shape();
         let challenge = dice.challenge(shape);
         let bits = dice.row_bits();
-        let m = shape.lengths(bits / 8).unwrap_or(Shape::new(2, 2, 124, 4, 128).lengths(bits / 8).unwrap());
+        let m = shape.lengths((bits / 8).min(8192)).unwrap_or(Shape::new(2, 2, 124, 4, 128).lengths((bits / 8).min(8192)).unwrap());
         let root = { let n = dice.length(m.node); dice.bytes(n) };
         let iv = { let n = dice.length(16); dice.bytes(n) };
 
@@ -286,7 +286,7 @@ fn stretches() {
         let shape = dice.shape();
         let challenge = dice.challenge(shape);
         let bits = dice.row_bits();
-        let b = bits / 8;
+        let b = (bits / 8).min(8192);
         let (first, width) = dice.stretch(b);
         let refusal = stretch_refusal(shape, bits, first, width);
         let some = Shape::new(2, 2, 124, 4, 128);
@@ -372,7 +372,7 @@ fn all_sets() {
         (rachnoel::FAEST_EM_256F, 3472),
     ];
     for (shape, bits) in sets {
-        let m = shape.lengths(bits / 8).unwrap();
+        let m = shape.lengths((bits / 8).min(8192)).unwrap();
         let (root, iv) = (dice.bytes(m.node), dice.bytes(16));
         let lens = [m.commitment, m.tree, m.leaf_commitments, m.u, m.matrix, m.corrections];
         let (mut x, mut y, mut count) = (lens.map(fresh), lens.map(fresh), fresh(4));

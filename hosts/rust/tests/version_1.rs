@@ -142,7 +142,7 @@ fn halves() {
     let mut seen = [[0; 4]; 3];
     for _ in 0..400 {
         let (shape, bits) = (dice.shape(), dice.row_bits());
-        let m = v1::lengths(shape, bits / 8).unwrap_or(v1::lengths(v1::shape(32, 4, 128), bits / 8).unwrap());
+        let m = v1::lengths(shape, (bits / 8).min(8192)).unwrap_or(v1::lengths(v1::shape(32, 4, 128), (bits / 8).min(8192)).unwrap());
         let [root, iv, challenge] = [m.node, 16, m.node].map(|right| { let n = dice.length(right); dice.bytes(n) });
 
         let lens = [m.commitment, m.trees, m.leaf_commitments, m.u, m.matrix, m.corrections].map(|right| dice.length(right));
