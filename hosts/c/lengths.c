@@ -1,9 +1,10 @@
-/* The header's rule for shapes and its lengths are those of the calls: every tau, k and w up to past their limits, with several t, levels and kinds. */
+/* The header's rule for shapes and its lengths are those of the calls, and the eleven numbers of the proved call rachnoel_lengths: every tau, k and w up to past their limits, with several t, levels and kinds. */
 #include <rachnoel.h>
 
 #include "shape.h"
 
 #include <stdio.h>
+#include <string.h>
 
 enum { ROW = 1, MOST_LEAVES = 86016 };
 static uint8_t tree[64 * MOST_LEAVES], lcs[96 * MOST_LEAVES + 1], opening[96 * 32 + 32 * 512 + 1], list[4 * 512 + 1];
@@ -63,8 +64,28 @@ static void try_version_1(shape s)
     }
 }
 
+/* the eleven numbers of the proved call, or its refusal with nothing written */
+static void try_proved(shape s, size_t row_bits)
+{
+    const rachnoel_sizes n = rachnoel_lengths_of(NUMBERS(s), row_bits / 8);
+    const size_t all[] = {n.leaves, n.node, n.commitment, n.indices, n.nodes, n.tree, n.leaf_commitments, n.u, n.matrix, n.corrections, n.opening};
+    uint8_t proved[RACHNOEL_LENGTHS_SLICE + 1];
+    memset(proved, 0xa5, sizeof proved);
+    const size_t row = row_bits % 8 == 0 && row_bits >= 8 && row_bits <= 65536, right = rachnoel_lengths_of(NUMBERS(s), 1).leaves == 0 ? RACHNOEL_REFUSED_SHAPE : row ? 0 : RACHNOEL_REFUSED_ROW;
+    for (size_t length = RACHNOEL_LENGTHS_SLICE - 1; length <= RACHNOEL_LENGTHS_SLICE + 1; length += 2)
+        expect(rachnoel_lengths(NUMBERS(s), row_bits, proved, length) == (right == 0 ? RACHNOEL_REFUSED_BUFFER : right), "the slice of rachnoel_lengths", s);
+    for (size_t i = 0; i < sizeof proved; i++)
+        expect(proved[i] == 0xa5, "rachnoel_lengths wrote with a refusal", s);
+    expect(rachnoel_lengths(NUMBERS(s), row_bits, proved, RACHNOEL_LENGTHS_SLICE) == right, "the number of rachnoel_lengths", s);
+    for (size_t i = 0; i < sizeof all / sizeof all[0]; i++)
+        expect(right == 0 ? rachnoel_number(proved + 4 * i) == all[i] : proved[4 * i] == 0xa5, "the numbers of rachnoel_lengths", s);
+}
+
 static void try(shape s)
 {
+    static const size_t rows[] = {8, 1680, 65536, 0, 12, 65544, (size_t)1 << 60, (size_t)-8};
+    for (size_t i = 0; i < (s.t == 110 || s.t == 0 ? sizeof rows / sizeof rows[0] : 1); i++)
+        try_proved(s, rows[i]);
     try_version_1(s);
     const rachnoel_sizes n = rachnoel_lengths_of(NUMBERS(s), ROW);
     size_t number = rachnoel_decode(NUMBERS(s), challenge, 0, list, 0, count, sizeof count);

@@ -21,7 +21,7 @@ static int named;   /* whether shape and row length are a named set's */
 static rachnoel_sizes n, m;  /* of the whole rows, and of the stretch */
 static rachnoel_sizes_v1 n1; /* of version 1 */
 static uint8_t root[RACHNOEL_NODE_MOST], iv[RACHNOEL_IV], challenge[RACHNOEL_NODE_MOST], commitment[RACHNOEL_COMMITMENT_MOST], count[RACHNOEL_COUNT];
-static uint8_t record[RACHNOEL_RECORD_MOST], length[RACHNOEL_LENGTH_SLICE], lengths[RACHNOEL_WORK_LENGTHS_SLICE];
+static uint8_t record[RACHNOEL_RECORD_MOST], length[RACHNOEL_LENGTH_SLICE], lengths[RACHNOEL_WORK_LENGTHS_SLICE], all[RACHNOEL_LENGTHS_SLICE];
 static uint8_t *tree, *lcs, *u, *v, *corrections, *opening, *indices, *nodes;
 static size_t answer;
 
@@ -47,6 +47,7 @@ static void reconstruct_stretch(void)
     answer = rachnoel_reconstruct_stretch(SHAPE, bits, FIRST, WIDTH, iv, 16, challenge, n.node, corrections, m.corrections, opening, m.opening, commitment, n.commitment, tree, m.tree, lcs,
         m.leaf_commitments, v, m.matrix, count, 4);
 }
+static void all_lengths(void) { answer = rachnoel_lengths(SHAPE, bits, all, sizeof all); }
 static void record_length(void) { answer = rachnoel_record_length(SHAPE, bits, length, 4); }
 static void write_record(void)
 {
@@ -81,7 +82,7 @@ static void nothing(void) {}
 static const struct {
     const char *name;
     void (*work)(void);
-} calls[] = {{"nothing", nothing}, {"decode", decode}, {"plan", plan}, {"commit", commit}, {"commit_stretch", commit_stretch}, {"open", opened}, {"reconstruct", reconstruct},
+} calls[] = {{"nothing", nothing}, {"decode", decode}, {"plan", plan}, {"lengths", all_lengths}, {"commit", commit}, {"commit_stretch", commit_stretch}, {"open", opened}, {"reconstruct", reconstruct},
     {"reconstruct_stretch", reconstruct_stretch}, {"record_length", record_length}, {"write_record", write_record}, {"work_lengths", work_lengths},
     {"check_record", check_record}, {"check_named", check_named}, {"v1_commit", v1_commit}, {"v1_open", v1_open}, {"v1_reconstruct", v1_reconstruct}};
 enum { CALLS = sizeof calls / sizeof calls[0], V1 = CALLS - 3 };

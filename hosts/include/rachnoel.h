@@ -137,13 +137,14 @@ RACHNOEL_UNUSED static const rachnoel_shape RACHNOEL_V1_256F = {32, 8, 0, 1, 256
 
 enum {
     RACHNOEL_IV = 16,
-    RACHNOEL_NODE_MOST = 32,         /* no root, challenge or node has more: level / 8 */
-    RACHNOEL_COMMITMENT_MOST = 64,   /* no commitment has more: level / 4 */
-    RACHNOEL_COUNT = 4,              /* the count slice of a flat call: one number */
-    RACHNOEL_LENGTH_SLICE = 4,       /* the slice that rachnoel_record_length writes: one number */
+    RACHNOEL_NODE_MOST = 32,          /* no root, challenge or node has more: level / 8 */
+    RACHNOEL_COMMITMENT_MOST = 64,    /* no commitment has more: level / 4 */
+    RACHNOEL_COUNT = 4,               /* the count slice of a flat call: one number */
+    RACHNOEL_LENGTH_SLICE = 4,        /* the slice that rachnoel_record_length writes: one number */
     RACHNOEL_WORK_LENGTHS_SLICE = 12, /* the slice that rachnoel_work_lengths writes: three numbers */
-    RACHNOEL_ROW_MOST = 8192,        /* no row has more: row_bits / 8 */
-    RACHNOEL_RECORD_MOST = 273555    /* no record has more bytes */
+    RACHNOEL_LENGTHS_SLICE = 44,      /* the slice that rachnoel_lengths writes: eleven numbers */
+    RACHNOEL_ROW_MOST = 8192,         /* no row has more: row_bits / 8 */
+    RACHNOEL_RECORD_MOST = 273555     /* no record has more bytes */
 };
 
 /* stack in bytes, for any call at any shape; the deepest that was measured, 15,224 of reconstruct_stretch, is at most seven eighths of it */
@@ -222,6 +223,10 @@ static inline uint32_t rachnoel_number(const uint8_t bytes[4])
 }
 
 /* ---- planning: librachnoel_planning */
+
+/* The lengths of a shape's buffers, eleven numbers in the order of rachnoel_sizes: what rachnoel_lengths_of gives with row_bits / 8, for hosts that cannot use
+ * inline functions. Refusals 1, 2, 3. */
+RACHNOEL_MUST_USE size_t rachnoel_lengths(size_t tau, size_t k, size_t w, size_t t, size_t level, size_t kind, size_t row_bits, uint8_t *lengths, size_t lengths_len);
 
 /* The hidden indices of a challenge. Refusals 1, 3, 4. */
 RACHNOEL_MUST_USE size_t rachnoel_decode(size_t tau, size_t k, size_t w, size_t t, size_t level, size_t kind, const uint8_t *challenge, size_t challenge_len, uint8_t *indices, size_t indices_len,

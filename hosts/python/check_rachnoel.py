@@ -85,7 +85,7 @@ def number(record, *options):
 
 def records():
     """Every set, and small shapes: reconstruct gives the bytes of the second implementation; the checks its numbers, of changed records too."""
-    cases = [(s.name, s.shape, s.row_bits) for s in rachnoel.SETS if s.name.endswith('f')]
+    cases = [(s.name, s.shape, s.row_bits) for s in (rachnoel.FAEST_128F, rachnoel.FAEST_EM_192F, rachnoel.FAEST_256F)]
     cases += [('2,2,124,4', rachnoel.Shape(2, 2, 124, 4, 128, 0), 8), ('1,1,127,1', rachnoel.Shape(1, 1, 127, 1, 128, 0), 8), ('zeros', rachnoel.DEFAULT.shape, 1680)]
     seen = set()
     for name, shape, row_bits in cases:
