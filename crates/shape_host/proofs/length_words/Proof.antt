@@ -1,8 +1,8 @@
 -- Each number is the one that the call beneath gives; those without a call are small, by the shape's rules.
 use borrow.Author.Needs.{needs}
-use mathlib.Core.Path.{refl}
 use native.Mathlib.Omega.{arith}
 use Rattle.planning_laws.proofs.ShapeFacts.{shape-facts}
+use Rattle.shape_host.proofs.Lengths.{words}
 use Rattle.shape_host.proofs.length_words.Statement.{statement}
 use Rattle.shape_host.proofs.length_words.Tie as tie
 
@@ -22,16 +22,8 @@ returns : tie.Need-returns
 returns c =
     let t = c .before .before .before .before in
     let h = t .before .before .before in
-    rw (
-      h .before .before .leaf-count .ensures .0,
-      h .before .node-bytes .ensures .0,
-      h .hash-bytes .ensures .0,
-      t .tree-bytes .ensures .0,
-      c .before .before .before .leaf-commitments-bytes .ensures .0,
-      c .before .before .matrix-bytes .ensures .0,
-      c .before .corrections-bytes .ensures .0,
-      c .opening-bytes .ensures .0
-    ) refl
+    words _ _ (h .before .before .leaf-count .ensures .0) (h .before .node-bytes .ensures .0) (h .hash-bytes .ensures .0) (t .tree-bytes .ensures .0)
+    (c .before .before .before .leaf-commitments-bytes .ensures .0) (c .before .before .matrix-bytes .ensures .0) (c .before .corrections-bytes .ensures .0) (c .opening-bytes .ensures .0)
 
 pub length-words-spec : {M : Type 1} → statement M
 length-words-spec =
