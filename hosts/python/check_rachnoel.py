@@ -61,6 +61,22 @@ def plans():
     expect(seen, {0, 1, 4, 5}, 'the numbers that came up')
 
 
+def proved_lengths():
+    """The module's lengths are the eleven numbers of the proved call, or all 0 where that refuses."""
+    seen = set()
+    for _ in range(3000):
+        level = DICE.choice([128, 192, 256, 160])
+        tau, k = DICE.randint(0, 33), DICE.randint(0, 13)
+        shape = rachnoel.Shape(tau, k, max(0, level - tau * k - DICE.randint(0, 3)), DICE.choice([0, 1, 102, 512, 513]), level, DICE.choice([0, 1, 2]))
+        row, out = DICE.choice([8, 1680, 65536, 65544, 12]), bytearray(b'\xa5' * 44)
+        number = rachnoel.call('planning', 'rachnoel_lengths', *shape, row, out)
+        right = b''.join(x.to_bytes(4, 'little') for x in rachnoel.lengths(shape, row // 8)) if number == 0 else b'\xa5' * 44
+        expect(bytes(out), right, f'{shape} {row}')
+        expect(number == 1, not any(rachnoel.lengths(shape, 1)), f'{shape}')
+        seen.add(number)
+    expect(seen, {0, 1, 2}, 'the numbers that came up')
+
+
 def line(name, data):
     return [str(len(data))] + ([] if not data else [data.hex()] if len(data) <= 64 else ['shake128', hashlib.shake_128(data).hexdigest(32)])
 
@@ -168,6 +184,6 @@ def can_fail():
     expect(number_found, 3, 'a wrong length of the module')
 
 
-for test in plans, records, bad_lengths, bad_input, missing_library, can_fail:
+for test in plans, proved_lengths, records, bad_lengths, bad_input, missing_library, can_fail:
     test()
 print(f'{tried} answers of rachnoel.py as they must be')

@@ -52,6 +52,11 @@ call! { "planning",
     plan = rachnoel_plan(; challenge challenge_len; nodes nodes_len, count count_len)
 }
 
+call! { "planning",
+    /// The lengths of a shape's buffers, eleven numbers: the leaves, then those of [`super::Lengths`] in their order.
+    lengths = rachnoel_lengths(row_bits; ; lengths lengths_len)
+}
+
 call! { "signer",
     /// The commitment to the tree of a root.
     commit = rachnoel_commit(row_bits; root root_len, iv iv_len; commitment commitment_len, tree tree_len, leaf_commitments leaf_commitments_len,

@@ -169,10 +169,15 @@ fn lengths() {
                     let ours = shape.lengths(7);
                     let theirs = theirs(shape).resolve();
                     assert_eq!(ours.is_some(), theirs.is_some(), "{shape:?}");
+                    let mut proved = fresh(44);
+                    let number = rachnoel::flat::lengths(shape, 56, &mut proved);
+                    assert_eq!((number, number != 0), (usize::from(ours.is_none()), proved == fresh(44)), "{shape:?}");
                     let (Some(n), Some(s)) = (ours, theirs) else { continue };
                     assert_eq!((n.node, n.commitment), (s.node_bytes(), s.commitment_bytes()));
                     assert_eq!((n.tree, n.leaf_commitments, n.opening), (s.tree_bytes(), s.leaf_commitments_bytes(), s.opening_bytes()));
                     assert_eq!((n.indices, n.nodes, n.u, n.matrix, n.corrections), (4 * s.tau, 4 * s.t, 7, 7 * s.level, 7 * s.tau - 7));
+                    let all = [n.node, n.commitment, n.indices, n.nodes, n.tree, n.leaf_commitments, n.u, n.matrix, n.corrections, n.opening];
+                    assert_eq!(proved[4..], all.iter().flat_map(|&n| (n as u32).to_le_bytes()).collect::<Vec<_>>(), "{shape:?}");
                     shapes += 1;
                 }
             }
