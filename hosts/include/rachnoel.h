@@ -860,8 +860,8 @@ static inline const char *rachnoel_write_wrong(const rachnoel_write_buffers *b)
 
 /* ---- the stack */
 
-/* Clears RACHNOEL_STACK bytes below the caller's frame: where key schedules and seeds stay behind commit and open. The call must have been made from the same
- * depth of the stack, or from less. Registers, the host's own copies, and what a signal handler or a debugger saved are not reached. */
+/* Clears RACHNOEL_STACK bytes below the caller's frame: where key schedules and seeds stay behind commit and open. So it is called from the function that made
+ * that call. Registers, the host's own copies, and what a signal handler or a debugger saved are not reached. */
 RACHNOEL_APART static void rachnoel_wipe_stack(void)
 {
     RACHNOEL_UNUSED volatile uint64_t below[RACHNOEL_STACK / 8];
