@@ -1,4 +1,5 @@
-/* The header's rule for shapes and its lengths are those of the calls, and the eleven numbers of the proved call rachnoel_lengths: every tau, k and w up to past their limits, with several t, levels and kinds. */
+/* The header's rule for shapes and its lengths are those of the calls, and the eleven numbers of the proved call rachnoel_lengths: every tau, k and w up to past
+ * their limits, with several t, levels and kinds. */
 #include <rachnoel.h>
 
 #include "shape.h"
@@ -9,7 +10,8 @@
 
 enum { ROW = 1, MOST_LEAVES = 86016 };
 static uint8_t tree[64 * MOST_LEAVES], lcs[96 * MOST_LEAVES + 1], opening[96 * 32 + 32 * 512 + 1], list[4 * 512 + 1];
-static uint8_t challenge[RACHNOEL_NODE_MOST + 1], u[ROW + 1], root[RACHNOEL_NODE_MOST + 1], iv[RACHNOEL_IV], commitment[RACHNOEL_COMMITMENT_MOST + 1], q[256 * ROW + 1], corrections[31 * ROW + 1], count[RACHNOEL_COUNT];
+static uint8_t challenge[RACHNOEL_NODE_MOST + 1], u[ROW + 1], root[RACHNOEL_NODE_MOST + 1], iv[RACHNOEL_IV], commitment[RACHNOEL_COMMITMENT_MOST + 1];
+static uint8_t q[256 * ROW + 1], corrections[31 * ROW + 1], count[RACHNOEL_COUNT];
 
 static size_t wrong, shapes, of_version_1;
 

@@ -226,95 +226,101 @@ static inline uint32_t rachnoel_number(const uint8_t bytes[4])
 
 /* The lengths of a shape's buffers, eleven numbers in the order of rachnoel_sizes: what rachnoel_lengths_of gives with row_bits / 8, for hosts that cannot use
  * inline functions. Refusals 1, 2, 3. */
-RACHNOEL_MUST_USE size_t rachnoel_lengths(size_t tau, size_t k, size_t w, size_t t, size_t level, size_t kind, size_t row_bits, uint8_t *lengths, size_t lengths_len);
+RACHNOEL_MUST_USE size_t rachnoel_lengths(size_t tau, size_t k, size_t w, size_t t, size_t level, size_t kind, size_t row_bits,
+    uint8_t *lengths, size_t lengths_len);
 
 /* The hidden indices of a challenge. Refusals 1, 3, 4. */
-RACHNOEL_MUST_USE size_t rachnoel_decode(size_t tau, size_t k, size_t w, size_t t, size_t level, size_t kind, const uint8_t *challenge, size_t challenge_len, uint8_t *indices, size_t indices_len,
-    uint8_t *count, size_t count_len);
+RACHNOEL_MUST_USE size_t rachnoel_decode(size_t tau, size_t k, size_t w, size_t t, size_t level, size_t kind,
+    const uint8_t *challenge, size_t challenge_len, uint8_t *indices, size_t indices_len, uint8_t *count, size_t count_len);
 
 /* The nodes that an opening reveals, at the front of the list; what stands behind them stays. Refusals 1, 3, 4, 5. */
-RACHNOEL_MUST_USE size_t rachnoel_plan(size_t tau, size_t k, size_t w, size_t t, size_t level, size_t kind, const uint8_t *challenge, size_t challenge_len, uint8_t *nodes, size_t nodes_len, uint8_t *count,
-    size_t count_len);
+RACHNOEL_MUST_USE size_t rachnoel_plan(size_t tau, size_t k, size_t w, size_t t, size_t level, size_t kind, const uint8_t *challenge, size_t challenge_len,
+    uint8_t *nodes, size_t nodes_len, uint8_t *count, size_t count_len);
 
 /* ---- the signing half: librachnoel_signer */
 
 /* The commitment to the tree of a root. Root, tree, u and v are secret. Refusals 1, 2, 3. */
-RACHNOEL_MUST_USE size_t rachnoel_commit(size_t tau, size_t k, size_t w, size_t t, size_t level, size_t kind, size_t row_bits, const uint8_t *root, size_t root_len, const uint8_t *iv, size_t iv_len,
-    uint8_t *commitment, size_t commitment_len, uint8_t *tree, size_t tree_len, uint8_t *leaf_commitments, size_t leaf_commitments_len, uint8_t *u, size_t u_len,
-    uint8_t *v, size_t v_len, uint8_t *corrections, size_t corrections_len, uint8_t *count, size_t count_len);
+RACHNOEL_MUST_USE size_t rachnoel_commit(size_t tau, size_t k, size_t w, size_t t, size_t level, size_t kind, size_t row_bits,
+    const uint8_t *root, size_t root_len, const uint8_t *iv, size_t iv_len, uint8_t *commitment, size_t commitment_len, uint8_t *tree, size_t tree_len,
+    uint8_t *leaf_commitments, size_t leaf_commitments_len, uint8_t *u, size_t u_len, uint8_t *v, size_t v_len,
+    uint8_t *corrections, size_t corrections_len, uint8_t *count, size_t count_len);
 
 /* The same with bytes first to first + width - 1 of u, of each correction and of each column of v only. Refusals 1, 2, 8, 3. */
-RACHNOEL_MUST_USE size_t rachnoel_commit_stretch(size_t tau, size_t k, size_t w, size_t t, size_t level, size_t kind, size_t row_bits, size_t first, size_t width, const uint8_t *root, size_t root_len,
-    const uint8_t *iv, size_t iv_len, uint8_t *commitment, size_t commitment_len, uint8_t *tree, size_t tree_len, uint8_t *leaf_commitments,
-    size_t leaf_commitments_len, uint8_t *u, size_t u_len, uint8_t *v, size_t v_len, uint8_t *corrections, size_t corrections_len, uint8_t *count, size_t count_len);
+RACHNOEL_MUST_USE size_t rachnoel_commit_stretch(size_t tau, size_t k, size_t w, size_t t, size_t level, size_t kind, size_t row_bits, size_t first,
+    size_t width, const uint8_t *root, size_t root_len, const uint8_t *iv, size_t iv_len, uint8_t *commitment, size_t commitment_len,
+    uint8_t *tree, size_t tree_len, uint8_t *leaf_commitments, size_t leaf_commitments_len, uint8_t *u, size_t u_len, uint8_t *v, size_t v_len,
+    uint8_t *corrections, size_t corrections_len, uint8_t *count, size_t count_len);
 
 /* The opening of a challenge, from the tree and the leaf commitments that commit wrote. Open a tree for one challenge only. Refusals 1, 3, 4, 5. */
-RACHNOEL_MUST_USE size_t rachnoel_open(size_t tau, size_t k, size_t w, size_t t, size_t level, size_t kind, const uint8_t *challenge, size_t challenge_len, const uint8_t *tree, size_t tree_len,
-    const uint8_t *leaf_commitments, size_t leaf_commitments_len, uint8_t *opening, size_t opening_len, uint8_t *count, size_t count_len);
+RACHNOEL_MUST_USE size_t rachnoel_open(size_t tau, size_t k, size_t w, size_t t, size_t level, size_t kind, const uint8_t *challenge, size_t challenge_len,
+    const uint8_t *tree, size_t tree_len, const uint8_t *leaf_commitments, size_t leaf_commitments_len, uint8_t *opening, size_t opening_len,
+    uint8_t *count, size_t count_len);
 
 /* ---- the checking half: librachnoel_verifier */
 
 /* Commitment, tree, leaf commitments and q from an opening. The host compares the commitment with the one that it was given. Refusals 1 to 6. */
-RACHNOEL_MUST_USE size_t rachnoel_reconstruct(size_t tau, size_t k, size_t w, size_t t, size_t level, size_t kind, size_t row_bits, const uint8_t *iv, size_t iv_len, const uint8_t *challenge,
-    size_t challenge_len, const uint8_t *corrections, size_t corrections_len, const uint8_t *opening, size_t opening_len, uint8_t *commitment,
-    size_t commitment_len, uint8_t *tree, size_t tree_len, uint8_t *leaf_commitments, size_t leaf_commitments_len, uint8_t *q, size_t q_len, uint8_t *count,
-    size_t count_len);
+RACHNOEL_MUST_USE size_t rachnoel_reconstruct(size_t tau, size_t k, size_t w, size_t t, size_t level, size_t kind, size_t row_bits,
+    const uint8_t *iv, size_t iv_len, const uint8_t *challenge, size_t challenge_len, const uint8_t *corrections, size_t corrections_len,
+    const uint8_t *opening, size_t opening_len, uint8_t *commitment, size_t commitment_len, uint8_t *tree, size_t tree_len,
+    uint8_t *leaf_commitments, size_t leaf_commitments_len, uint8_t *q, size_t q_len, uint8_t *count, size_t count_len);
 
 /* The same with the corrections cut to bytes first to first + width - 1, and these bytes of each column of q. Refusals 1, 2, 8, 3, 4, 5, 6. */
-RACHNOEL_MUST_USE size_t rachnoel_reconstruct_stretch(size_t tau, size_t k, size_t w, size_t t, size_t level, size_t kind, size_t row_bits, size_t first, size_t width, const uint8_t *iv, size_t iv_len,
-    const uint8_t *challenge, size_t challenge_len, const uint8_t *corrections, size_t corrections_len, const uint8_t *opening, size_t opening_len,
-    uint8_t *commitment, size_t commitment_len, uint8_t *tree, size_t tree_len, uint8_t *leaf_commitments, size_t leaf_commitments_len, uint8_t *q, size_t q_len,
-    uint8_t *count, size_t count_len);
+RACHNOEL_MUST_USE size_t rachnoel_reconstruct_stretch(size_t tau, size_t k, size_t w, size_t t, size_t level, size_t kind, size_t row_bits, size_t first,
+    size_t width, const uint8_t *iv, size_t iv_len, const uint8_t *challenge, size_t challenge_len, const uint8_t *corrections, size_t corrections_len,
+    const uint8_t *opening, size_t opening_len, uint8_t *commitment, size_t commitment_len, uint8_t *tree, size_t tree_len,
+    uint8_t *leaf_commitments, size_t leaf_commitments_len, uint8_t *q, size_t q_len, uint8_t *count, size_t count_len);
 
 /* ---- version 1, the signing half: librachnoel_v1_signer
  *
  * A tree for each vector, with w 0, t 1 and kind 0; the count is 0, and no challenge is refused. No byte of version 1 was compared with another maker's. */
 
 /* The commitment to the trees that grow from a root. Root, trees, u and v are secret. Refusals 1, 2, 3. */
-RACHNOEL_MUST_USE size_t rachnoel_v1_commit(size_t tau, size_t k, size_t w, size_t t, size_t level, size_t kind, size_t row_bits, const uint8_t *root, size_t root_len, const uint8_t *iv, size_t iv_len,
-    uint8_t *commitment, size_t commitment_len, uint8_t *trees, size_t trees_len, uint8_t *leaf_commitments, size_t leaf_commitments_len, uint8_t *u, size_t u_len,
-    uint8_t *v, size_t v_len, uint8_t *corrections, size_t corrections_len, uint8_t *count, size_t count_len);
+RACHNOEL_MUST_USE size_t rachnoel_v1_commit(size_t tau, size_t k, size_t w, size_t t, size_t level, size_t kind, size_t row_bits,
+    const uint8_t *root, size_t root_len, const uint8_t *iv, size_t iv_len, uint8_t *commitment, size_t commitment_len, uint8_t *trees, size_t trees_len,
+    uint8_t *leaf_commitments, size_t leaf_commitments_len, uint8_t *u, size_t u_len, uint8_t *v, size_t v_len,
+    uint8_t *corrections, size_t corrections_len, uint8_t *count, size_t count_len);
 
 /* The opening of a challenge, from the trees and the leaf commitments that commit wrote. Open the trees for one challenge only. Refusals 1, 3. */
-RACHNOEL_MUST_USE size_t rachnoel_v1_open(size_t tau, size_t k, size_t w, size_t t, size_t level, size_t kind, const uint8_t *challenge, size_t challenge_len, const uint8_t *trees, size_t trees_len,
-    const uint8_t *leaf_commitments, size_t leaf_commitments_len, uint8_t *opening, size_t opening_len, uint8_t *count, size_t count_len);
+RACHNOEL_MUST_USE size_t rachnoel_v1_open(size_t tau, size_t k, size_t w, size_t t, size_t level, size_t kind,
+    const uint8_t *challenge, size_t challenge_len, const uint8_t *trees, size_t trees_len, const uint8_t *leaf_commitments, size_t leaf_commitments_len,
+    uint8_t *opening, size_t opening_len, uint8_t *count, size_t count_len);
 
 /* ---- version 1, the checking half: librachnoel_v1_verifier */
 
 /* Commitment, trees, leaf commitments and q from an opening. The host compares the commitment with the one that it was given. Refusals 1, 2, 3. */
-RACHNOEL_MUST_USE size_t rachnoel_v1_reconstruct(size_t tau, size_t k, size_t w, size_t t, size_t level, size_t kind, size_t row_bits, const uint8_t *iv, size_t iv_len, const uint8_t *challenge,
-    size_t challenge_len, const uint8_t *corrections, size_t corrections_len, const uint8_t *opening, size_t opening_len, uint8_t *commitment,
-    size_t commitment_len, uint8_t *trees, size_t trees_len, uint8_t *leaf_commitments, size_t leaf_commitments_len, uint8_t *q, size_t q_len, uint8_t *count,
-    size_t count_len);
+RACHNOEL_MUST_USE size_t rachnoel_v1_reconstruct(size_t tau, size_t k, size_t w, size_t t, size_t level, size_t kind, size_t row_bits,
+    const uint8_t *iv, size_t iv_len, const uint8_t *challenge, size_t challenge_len, const uint8_t *corrections, size_t corrections_len,
+    const uint8_t *opening, size_t opening_len, uint8_t *commitment, size_t commitment_len, uint8_t *trees, size_t trees_len,
+    uint8_t *leaf_commitments, size_t leaf_commitments_len, uint8_t *q, size_t q_len, uint8_t *count, size_t count_len);
 
-/* ---- records, checked: librachnoel_broker
- *
- * A record is a version byte and six fields, each a length of four bytes, greatest first, and that many bytes: tau, k, w in a byte each, t in two and row_bits in four,
- * greatest first, from version 2 on level / 8 in a byte, in version 3 kind in a byte; the IV; the challenge; the corrections; the opening; the commitment. Version 1 has level
- * 128, versions 1 and 2 kind 0, version 3 kind 1. */
+/* ---- records, checked: librachnoel_broker  A record is a version byte and six fields, each a length of four bytes, greatest first, and that many bytes:
+ * tau, k, w in a byte each, t in two and row_bits in four, greatest first, from version 2 on level / 8 in a byte, in version 3 kind in a byte; the IV; the
+ * challenge; the corrections; the opening; the commitment. Version 1 has level 128, versions 1 and 2 kind 0, version 3 kind 1. */
 
 /* The lengths of the three work buffers that a record asks for by its front: tree, leaf_commitments, q, three numbers. Refusals 9, 10, 1, 2, 3. */
 RACHNOEL_MUST_USE size_t rachnoel_work_lengths(const uint8_t *record, size_t record_len, uint8_t *lengths, size_t lengths_len);
 
-/* Whether a record has its form, reconstruct accepts its fields, and gives the record's commitment. The corrections are not bound by it. With 0 and with 11 the work buffers
- * hold what reconstruct writes, and the count is written; with 5 and 6 the count alone. Refusals 9, 10, 1, 2, 10, 3, 4, 5, 6, 11. */
-RACHNOEL_MUST_USE size_t rachnoel_check_record(const uint8_t *record, size_t record_len, uint8_t *tree, size_t tree_len, uint8_t *leaf_commitments, size_t leaf_commitments_len,
-    uint8_t *q, size_t q_len, uint8_t *count, size_t count_len);
+/* Whether a record has its form, reconstruct accepts its fields, and gives the record's commitment. The corrections are not bound by it. With 0 and with 11
+ * the work buffers hold what reconstruct writes, and the count is written; with 5 and 6 the count alone. Refusals 9, 10, 1, 2, 10, 3, 4, 5, 6, 11. */
+RACHNOEL_MUST_USE size_t rachnoel_check_record(const uint8_t *record, size_t record_len, uint8_t *tree, size_t tree_len,
+    uint8_t *leaf_commitments, size_t leaf_commitments_len, uint8_t *q, size_t q_len, uint8_t *count, size_t count_len);
 
 /* The same for the twelve sets of FAEST version 2 alone, each with its row length: any other shape or row length is 13, four zeros too. Of a named set it is
  * rachnoel_check_record. 13 writes nothing. Refusals 9, 10, 1, 2, 13, 10, 3, 4, 5, 6, 11. */
-RACHNOEL_MUST_USE size_t rachnoel_check_named(const uint8_t *record, size_t record_len, uint8_t *tree, size_t tree_len, uint8_t *leaf_commitments, size_t leaf_commitments_len,
-    uint8_t *q, size_t q_len, uint8_t *count, size_t count_len);
+RACHNOEL_MUST_USE size_t rachnoel_check_named(const uint8_t *record, size_t record_len, uint8_t *tree, size_t tree_len,
+    uint8_t *leaf_commitments, size_t leaf_commitments_len, uint8_t *q, size_t q_len, uint8_t *count, size_t count_len);
 
 /* ---- records, written: librachnoel_writer */
 
 /* The length of a record, one number. Refusals 1, 2, 3. */
-RACHNOEL_MUST_USE size_t rachnoel_record_length(size_t tau, size_t k, size_t w, size_t t, size_t level, size_t kind, size_t row_bits, uint8_t *length, size_t length_len);
+RACHNOEL_MUST_USE size_t rachnoel_record_length(size_t tau, size_t k, size_t w, size_t t, size_t level, size_t kind, size_t row_bits,
+    uint8_t *length, size_t length_len);
 
-/* The record, of version 2 for kind 0 and of 3 for kind 1, of a shape as it is given, four zeros too, a row length and the other fields, which are not tested but for their lengths. Refusals 1, 2, 3. */
-RACHNOEL_MUST_USE size_t rachnoel_write_record(size_t tau, size_t k, size_t w, size_t t, size_t level, size_t kind, size_t row_bits, const uint8_t *iv, size_t iv_len, const uint8_t *challenge,
-    size_t challenge_len, const uint8_t *corrections, size_t corrections_len, const uint8_t *opening, size_t opening_len, const uint8_t *commitment,
-    size_t commitment_len, uint8_t *record, size_t record_len);
+/* The record, of version 2 for kind 0 and of 3 for kind 1, of a shape as it is given, four zeros too, a row length and the other fields, which are not
+ * tested but for their lengths. Refusals 1, 2, 3. */
+RACHNOEL_MUST_USE size_t rachnoel_write_record(size_t tau, size_t k, size_t w, size_t t, size_t level, size_t kind, size_t row_bits,
+    const uint8_t *iv, size_t iv_len, const uint8_t *challenge, size_t challenge_len, const uint8_t *corrections, size_t corrections_len,
+    const uint8_t *opening, size_t opening_len, const uint8_t *commitment, size_t commitment_len, uint8_t *record, size_t record_len);
 
 /* ---- slices, for the inline calls */
 
