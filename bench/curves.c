@@ -27,7 +27,7 @@ static uint8_t root[16] = {1, 2, 3}, iv[16] = {4, 5, 6};
 static double milliseconds(int side, size_t tau, size_t k, size_t row_bits)
 {
     const size_t w = 128 - tau * k, shape[4] = {tau, k, w, 128}, b = row_bits / 8;
-    const rachnoel_lengths n = rachnoel_lengths_of(tau, k, w, 128, 128, 0, b);
+    const rachnoel_sizes n = rachnoel_lengths_of(tau, k, w, 128, 128, 0, b);
     uint8_t count[RACHNOEL_COUNT];
     struct timespec from, to;
     clock_gettime(CLOCK_PROCESS_CPUTIME_ID, &from);

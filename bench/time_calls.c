@@ -26,7 +26,7 @@ static struct {
 static uint8_t stretch_u[ROW / 10], stretch_v[128 * (ROW / 10)], stretch_corrections[(VECTORS - 1) * (ROW / 10)];
 
 static const size_t *shape;
-static rachnoel_lengths n;
+static rachnoel_sizes n;
 static uint8_t count[RACHNOEL_COUNT];
 #define SHAPE shape[0], shape[1], shape[2], shape[3], 128, 0
 

@@ -8,13 +8,8 @@
 #include <time.h>
 
 enum { RUNS = 9 };
-static const struct {
-    const char *name;
-    shape s;
-    size_t row_bits;
-} sets[] = {{"FAEST-128f", FAEST_128F, 1680}, {"FAEST-128s", FAEST_128S, 1680}, {"FAEST-192f", FAEST_192F, 3088}, {"FAEST-192s", FAEST_192S, 3088},
-            {"FAEST-256f", FAEST_256F, 3888}, {"FAEST-EM-128f", FAEST_EM_128F, 1360}, {"FAEST-EM-128s", FAEST_EM_128S, 1360}, {"FAEST-EM-192f", FAEST_EM_192F, 2320},
-            {"FAEST-EM-256f", FAEST_EM_256F, 3472}, {"FAEST-256s", FAEST_256S, 3888}};
+static const rachnoel_set *const sets[] = {&RACHNOEL_FAEST_128F, &RACHNOEL_FAEST_128S, &RACHNOEL_FAEST_192F, &RACHNOEL_FAEST_192S, &RACHNOEL_FAEST_256F, &RACHNOEL_FAEST_EM_128F,
+    &RACHNOEL_FAEST_EM_128S, &RACHNOEL_FAEST_EM_192F, &RACHNOEL_FAEST_EM_256F, &RACHNOEL_FAEST_256S};
 enum { SETS = sizeof sets / sizeof sets[0] };
 
 static uint8_t root[RACHNOEL_NODE_MOST], iv[RACHNOEL_IV], challenge[RACHNOEL_NODE_MOST], count[RACHNOEL_COUNT];
@@ -24,7 +19,7 @@ static uint8_t *tree, *lcs, *u, *v, *corrections, *opening;
 /* the blocks of a commit times their rounds: of each node's children, of each stretched leaf, of each row */
 static double work(shape s, size_t row_bytes)
 {
-    const rachnoel_lengths n = rachnoel_lengths_of(NUMBERS(s), row_bytes);
+    const rachnoel_sizes n = rachnoel_lengths_of(NUMBERS(s), row_bytes);
     const size_t leaf = (s.kind == 0 ? 4 : 2) * n.node;
     const size_t blocks = (n.leaves - 1) * ((2 * n.node + 15) / 16) + n.leaves * ((leaf + 15) / 16 + (row_bytes + 15) / 16);
     return (double)blocks * (double)(s.level / 32 + 6);
@@ -40,7 +35,7 @@ static double milliseconds(struct timespec from)
 /* the times of both calls; 0 where all is as it must be */
 static int run(shape s, size_t row_bits, double times[2])
 {
-    const rachnoel_lengths n = rachnoel_lengths_of(NUMBERS(s), row_bits / 8);
+    const rachnoel_sizes n = rachnoel_lengths_of(NUMBERS(s), row_bits / 8);
     struct timespec from;
     size_t wrong, number, draw = 0;
     clock_gettime(CLOCK_PROCESS_CPUTIME_ID, &from);
@@ -54,7 +49,7 @@ static int run(shape s, size_t row_bits, double times[2])
             challenge[bit / 8] &= (uint8_t)~(1u << bit % 8);
         number = rachnoel_open(NUMBERS(s), challenge, n.node, tree, n.tree, lcs, n.leaf_commitments, opening, n.opening, count, sizeof count);
         draw++;
-    } while (number == RACHNOEL_NODES);
+    } while (number == RACHNOEL_REFUSED_NODES);
     clock_gettime(CLOCK_PROCESS_CPUTIME_ID, &from);
     number += rachnoel_reconstruct(NUMBERS(s), row_bits, iv, sizeof iv, challenge, n.node, corrections, n.corrections, opening, n.opening, again, n.commitment, tree, n.tree, lcs,
                                    n.leaf_commitments, v, n.matrix, count, sizeof count);
@@ -67,7 +62,7 @@ int main(void)
     double best[SETS][2];
     int wrong = 0;
     /* room for the largest of the sets */
-    const rachnoel_lengths most = rachnoel_lengths_of(NUMBERS(sets[SETS - 1].s), 486);
+    const rachnoel_sizes most = rachnoel_lengths_of(NUMBERS(sets[SETS - 1]->shape), 486);
     tree = malloc(most.tree), lcs = malloc(most.leaf_commitments), u = malloc(most.u), v = malloc(most.matrix), corrections = malloc(32 * most.u), opening = malloc(32 * 1024);
     if (!tree || !lcs || !u || !v || !corrections || !opening)
         return 1;
@@ -78,16 +73,16 @@ int main(void)
     for (int r = 0; r < RUNS; r++)
         for (int i = 0; i < SETS; i++) {
             double times[2];
-            if (run(sets[i].s, sets[i].row_bits, times))
-                wrong = printf("%s: WRONG\n", sets[i].name);
+            if (run(sets[i]->shape, sets[i]->row_bits, times))
+                wrong = printf("%s: WRONG\n", sets[i]->name);
             for (int c = 0; c < 2; c++)
                 if (r == 0 || times[c] < best[i][c])
                     best[i][c] = times[c];
         }
-    const double unit = best[0][0] / work(sets[0].s, sets[0].row_bits / 8);
+    const double unit = best[0][0] / work(sets[0]->shape, sets[0]->row_bits / 8);
     for (int i = 0; i < SETS; i++) {
-        const double predicted = unit * work(sets[i].s, sets[i].row_bits / 8);
-        printf("%-13s commit %7.2f ms, predicted %7.2f ms, ratio %.2f; reconstruct %7.2f ms\n", sets[i].name, best[i][0], predicted, best[i][0] / predicted, best[i][1]);
+        const double predicted = unit * work(sets[i]->shape, sets[i]->row_bits / 8);
+        printf("%-13s commit %7.2f ms, predicted %7.2f ms, ratio %.2f; reconstruct %7.2f ms\n", sets[i]->name, best[i][0], predicted, best[i][0] / predicted, best[i][1]);
     }
     return wrong != 0;
 }

@@ -24,7 +24,7 @@ static struct {
 } made[SIDES];
 
 static const size_t *shape;
-static rachnoel_lengths_v1 n;
+static rachnoel_sizes_v1 n;
 static uint8_t count[RACHNOEL_COUNT];
 static size_t refused;
 #define SHAPE shape[0], shape[1], shape[2], shape[3], 128, 0

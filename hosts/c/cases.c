@@ -146,13 +146,13 @@ static call with_lengths(call c)
 {
     const size_t b = c.width < ROW_MOST ? c.width : ROW_MOST;
     if (c.version == 1) {
-        const rachnoel_lengths_v1 n = rachnoel_lengths_of_v1(NUMBERS(c.s), b);
+        const rachnoel_sizes_v1 n = rachnoel_lengths_of_v1(NUMBERS(c.s), b);
         c.node = n.leaves > 0 ? n.node : 16;
         c.commitment = n.commitment, c.tree = n.trees, c.leaf_commitments = n.leaf_commitments, c.u = n.u;
         c.matrix = n.matrix, c.corrections = n.corrections, c.opening = n.opening;
         return c;
     }
-    const rachnoel_lengths n = rachnoel_lengths_of(NUMBERS(c.s), b);
+    const rachnoel_sizes n = rachnoel_lengths_of(NUMBERS(c.s), b);
     c.node = n.leaves > 0 ? n.node : 16;
     c.commitment = n.commitment, c.tree = n.tree, c.leaf_commitments = n.leaf_commitments, c.u = n.u;
     c.matrix = n.matrix, c.corrections = n.corrections, c.opening = n.opening;
@@ -282,7 +282,7 @@ static int calls_case(words *w, int of_stretch, int flipped)
 /* how many numbers the list has */
 static size_t list_count(call c, int decoded)
 {
-    const rachnoel_lengths n = rachnoel_lengths_of(NUMBERS(c.s), 0);
+    const rachnoel_sizes n = rachnoel_lengths_of(NUMBERS(c.s), 0);
     return (decoded ? n.indices : n.nodes) / 4;
 }
 
@@ -420,7 +420,7 @@ typedef struct work {
 
 static work work_of(buffer record)
 {
-    uint8_t n[RACHNOEL_WORK_LENGTHS] = {0};
+    uint8_t n[RACHNOEL_WORK_LENGTHS_SLICE] = {0};
     if (rachnoel_work_lengths(SLICE(record), n, sizeof n) != 0)
         return (work){0, 0, 0};
     return (work){rachnoel_number(n), rachnoel_number(n + 4), rachnoel_number(n + 8)};

@@ -68,9 +68,9 @@ static inline void must(size_t number, const char *call)
 static inline shape random_shape(void)
 {
     if (below(16) == 0)
-        return (shape)DEFAULT;
+        return RACHNOEL_DEFAULT.shape;
     if (below(16) == 0)
-        return (shape)FAEST_128F;
+        return RACHNOEL_FAEST_128F.shape;
     size_t k = 1 + below(4), tau = 1 + below(6), deeper = below(2) ? 0 : below(tau), level = 128;
     if (below(6) == 0) {
         level = below(2) ? 192 : 256;
@@ -83,7 +83,7 @@ static inline shape random_shape(void)
 }
 
 /* at level 128 with kind 0 one in three becomes version 1, whose first field has no level; then the places of the fields are known */
-static inline void choose_version(struct base *base, shape s, const rachnoel_lengths *n)
+static inline void choose_version(struct base *base, shape s, const rachnoel_sizes *n)
 {
     const int first = s.level == 128 && s.kind == 0 && below(3) == 0;
     if (first) {
@@ -102,10 +102,10 @@ static inline void choose_version(struct base *base, shape s, const rachnoel_len
 
 static inline void make_base(struct base *base)
 {
-    uint8_t root[RACHNOEL_NODE_MOST], iv[RACHNOEL_IV], challenge[RACHNOEL_NODE_MOST], commitment[RACHNOEL_COMMITMENT_MOST], count[RACHNOEL_COUNT], length[RACHNOEL_RECORD_LENGTH];
+    uint8_t root[RACHNOEL_NODE_MOST], iv[RACHNOEL_IV], challenge[RACHNOEL_NODE_MOST], commitment[RACHNOEL_COMMITMENT_MOST], count[RACHNOEL_COUNT], length[RACHNOEL_LENGTH_SLICE];
     const shape s = random_shape();
     const size_t row_bits = s.t == 110 && s.tau == 16 ? 1680 : 8 * (1 + below(4)); /* FAEST-128f has its own */
-    const rachnoel_lengths n = rachnoel_lengths_of(NUMBERS(s), row_bits / 8);
+    const rachnoel_sizes n = rachnoel_lengths_of(NUMBERS(s), row_bits / 8);
     uint8_t *const tree = room(n.tree), *const lcs = room(n.leaf_commitments), *const u = room(n.u), *const v = room(n.matrix), *const corrections = room(n.corrections),
                   *const opening = room(n.opening);
     random_bytes(root, sizeof root);

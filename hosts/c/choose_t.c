@@ -35,7 +35,7 @@ static const char help[] =
 
 typedef struct plan {
     shape shape; /* T is the one to be marked, 0 where none is given */
-    const named_set *set;
+    const rachnoel_set *set;
     size_t asked[ASKED_MOST], many, draws, seed;
     int all;
     const char *svg;

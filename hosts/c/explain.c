@@ -12,7 +12,7 @@ typedef struct layout {
     size_t fields;
     size_t at[FIELDS];
     front front;
-    rachnoel_lengths lengths;
+    rachnoel_sizes lengths;
 } layout;
 
 /* ---- what stands where */
@@ -39,7 +39,7 @@ static int put_front(FILE *out, const uint8_t *record, layout *l, size_t require
     l->front = front_of(record);
     const shape s = l->front.shape;
     const size_t row = l->front.row_bits;
-    const rachnoel_lengths n = rachnoel_lengths_of(NUMBERS(s), row / 8);
+    const rachnoel_sizes n = rachnoel_lengths_of(NUMBERS(s), row / 8);
     const int row_fits = row % 8 == 0 && row >= 8 && row <= 65536;
     const int no_shape = n.leaves == 0 || (record[0] == 3 && s.kind != 1);
     fprintf(out, "        tau %zu, k %zu, w %zu, T %zu, level %zu, kind %zu%s\n", NUMBERS(s), no_shape ? ": no shape" : is_default(s) ? ": FAEST-128f, 16 7 8 110" : "");
@@ -122,7 +122,7 @@ static void put_hex(FILE *out, const char *what, const uint8_t *bytes, size_t n)
 static void put_commitments(FILE *out, const uint8_t *record, const layout *l)
 {
     const shape s = l->front.shape;
-    const rachnoel_lengths *const n = &l->lengths;
+    const rachnoel_sizes *const n = &l->lengths;
     uint8_t made[RACHNOEL_COMMITMENT_MOST], count[RACHNOEL_COUNT];
     uint8_t *const tree = malloc(n->tree), *const lcs = malloc(n->leaf_commitments), *const q = malloc(n->matrix);
     const int room = tree != NULL && lcs != NULL && q != NULL;
@@ -141,8 +141,7 @@ static void put_commitments(FILE *out, const uint8_t *record, const layout *l)
 /* the nearest set and each number that differs; four zeros mean FAEST-128f, which is then the nearest */
 static void put_nearest(FILE *out, const front *f)
 {
-    static const shape meant = FAEST_128F;
-    const named_set *const near = nearest_set(is_default(f->shape) ? meant : f->shape, f->row_bits);
+    const rachnoel_set *const near = nearest_set(is_default(f->shape) ? RACHNOEL_FAEST_128F.shape : f->shape, f->row_bits);
     size_t found[SET_NUMBERS], right[SET_NUMBERS];
     set_numbers(f->shape, f->row_bits, found);
     set_numbers(near->shape, near->row_bits, right);
@@ -160,14 +159,14 @@ void explain(FILE *out, const uint8_t *record, size_t length, const verdict *v)
     const int whole = l.fields == FIELDS;
     if (v->number == 0)
         fprintf(out, "    set: %s\n", v->set != NULL ? v->set->name : "no named set");
-    else if (v->number == RACHNOEL_GRINDING && whole)
+    else if (v->number == RACHNOEL_REFUSED_GRINDING && whole)
         put_grinding(out, record, &l);
-    else if (v->number == RACHNOEL_NODES)
+    else if (v->number == RACHNOEL_REFUSED_NODES)
         fprintf(out, "    nodes: the challenge needs %zu nodes, and T is %zu\n", v->count, v->allowed);
-    else if (v->number == RACHNOEL_SLOTS && whole)
+    else if (v->number == RACHNOEL_REFUSED_SLOTS && whole)
         put_slots(out, record, &l, v);
-    else if (v->number == RACHNOEL_MISMATCH && whole)
+    else if (v->number == RACHNOEL_REFUSED_MISMATCH && whole)
         put_commitments(out, record, &l);
-    else if (v->number == RACHNOEL_NOT_NAMED && l.fields > 0)
+    else if (v->number == RACHNOEL_REFUSED_NOT_NAMED && l.fields > 0)
         put_nearest(out, &l.front);
 }

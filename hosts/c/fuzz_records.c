@@ -76,7 +76,7 @@ int main(int argc, char **argv)
         make_base(&bases[i]);
     for (unsigned long i = 0; i < checks; i++) {
         const struct base *const base = &bases[below(BASES)];
-        uint8_t bytes[MOST + 16], lengths[RACHNOEL_WORK_LENGTHS];
+        uint8_t bytes[MOST + 16], lengths[RACHNOEL_WORK_LENGTHS_SLICE];
         size_t length = base->length;
         memcpy(bytes, base->bytes, length);
         for (size_t n = below(4); n > 0; n--)

@@ -55,8 +55,8 @@ static void test_reason(const char *text, size_t number)
     static const struct {
         size_t number;
         const char *words;
-    } reasons[] = {{0, "\n    set: "}, {RACHNOEL_GRINDING, "\n    grinding: bits "}, {RACHNOEL_NODES, "\n    nodes: the challenge needs "},
-        {RACHNOEL_SLOTS, "\n    slots: the opening uses "}, {RACHNOEL_MISMATCH, "\n    commitment that the opening gives: "}, {RACHNOEL_NOT_NAMED, "\n    not named: the nearest set is "}};
+    } reasons[] = {{0, "\n    set: "}, {RACHNOEL_REFUSED_GRINDING, "\n    grinding: bits "}, {RACHNOEL_REFUSED_NODES, "\n    nodes: the challenge needs "},
+        {RACHNOEL_REFUSED_SLOTS, "\n    slots: the opening uses "}, {RACHNOEL_REFUSED_MISMATCH, "\n    commitment that the opening gives: "}, {RACHNOEL_REFUSED_NOT_NAMED, "\n    not named: the nearest set is "}};
     for (size_t i = 0; i < sizeof reasons / sizeof reasons[0]; i++)
         if (reasons[i].number == number && strstr(text, reasons[i].words) == NULL)
             fail("no reason", text);

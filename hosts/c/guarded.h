@@ -11,7 +11,7 @@ struct guarded {
     size_t size;
 };
 
-static size_t page_size(void)
+static inline size_t page_size(void)
 {
     static size_t page;
     if (page == 0)
@@ -19,7 +19,7 @@ static size_t page_size(void)
     return page;
 }
 
-static struct guarded guard(size_t n, int flush_with_the_end, int fill)
+static inline struct guarded guard(size_t n, int flush_with_the_end, int fill)
 {
     const size_t page = page_size(), inner = (n + page - 1) / page * page;
     struct guarded g;
@@ -35,7 +35,7 @@ static struct guarded guard(size_t n, int flush_with_the_end, int fill)
 }
 
 /* from here on the buffer may only be read */
-static void shut(struct guarded g)
+static inline void shut(struct guarded g)
 {
     const size_t page = page_size();
     if (g.size > 2 * page && mprotect(g.map + page, g.size - 2 * page, PROT_READ) != 0) {

@@ -60,14 +60,14 @@ static int to_numbers(const char *text, shape *s)
 
 static int to_shape(const char *text, shape *s, size_t *row_bits)
 {
-    const named_set *const set = set_named(text);
+    const rachnoel_set *const set = set_named(text);
     if (set != NULL) {
         *s = set->shape;
         *row_bits = set->row_bits;
         return 1;
     }
     if (strcmp(text, "zeros") == 0) {
-        *s = (shape)DEFAULT;
+        *s = RACHNOEL_DEFAULT.shape;
         return 1;
     }
     return to_numbers(text, s);
@@ -119,7 +119,7 @@ typedef struct buffers {
 } buffers;
 
 /* opens for the challenge, or for the first of the fixed list that needs at most T nodes; gives the number */
-static size_t open_for(shape s, const rachnoel_lengths *n, buffers *b, uint8_t *challenge, int drawn)
+static size_t open_for(shape s, const rachnoel_sizes *n, buffers *b, uint8_t *challenge, int drawn)
 {
     uint8_t count[RACHNOEL_COUNT];
     uint64_t state = 1;
@@ -127,7 +127,7 @@ static size_t open_for(shape s, const rachnoel_lengths *n, buffers *b, uint8_t *
         if (drawn)
             next_challenge(&state, s, challenge);
         const size_t number = rachnoel_open(NUMBERS(s), challenge, n->node, b->tree, n->tree, b->lcs, n->leaf_commitments, b->opening, n->opening, count, sizeof count);
-        if (number != RACHNOEL_NODES || !drawn || tries == 100000)
+        if (number != RACHNOEL_REFUSED_NODES || !drawn || tries == 100000)
             return number;
     }
 }
@@ -135,7 +135,7 @@ static size_t open_for(shape s, const rachnoel_lengths *n, buffers *b, uint8_t *
 /* commits, opens and writes the record; gives the number */
 static size_t fill(shape s, size_t row_bits, const uint8_t *root, const uint8_t *iv, uint8_t *challenge, int drawn, buffers *b, size_t bytes)
 {
-    const rachnoel_lengths n = rachnoel_lengths_of(NUMBERS(s), row_bits / 8);
+    const rachnoel_sizes n = rachnoel_lengths_of(NUMBERS(s), row_bits / 8);
     uint8_t count[RACHNOEL_COUNT];
     size_t number = rachnoel_commit(NUMBERS(s), row_bits, root, n.node, iv, RACHNOEL_IV, b->commitment, n.commitment, b->tree, n.tree, b->lcs, n.leaf_commitments, b->u, n.u,
         b->v, n.matrix, b->corrections, n.corrections, count, sizeof count);
@@ -149,11 +149,11 @@ static size_t fill(shape s, size_t row_bits, const uint8_t *root, const uint8_t 
 
 static int make(shape s, size_t row_bits, const uint8_t *root, const uint8_t *iv, uint8_t *challenge, int drawn)
 {
-    uint8_t length[RACHNOEL_RECORD_LENGTH];
+    uint8_t length[RACHNOEL_LENGTH_SLICE];
     size_t number = rachnoel_record_length(NUMBERS(s), row_bits, length, sizeof length);
     if (number != 0)
         return refused(number);
-    const rachnoel_lengths n = rachnoel_lengths_of(NUMBERS(s), row_bits / 8);
+    const rachnoel_sizes n = rachnoel_lengths_of(NUMBERS(s), row_bits / 8);
     const size_t bytes = rachnoel_number(length);
     /* + 1: malloc(0) may be NULL */
     buffers b = {malloc(n.tree), malloc(n.leaf_commitments), malloc(n.u), malloc(n.matrix), malloc(n.corrections + 1), malloc(n.opening), malloc(bytes), {0}};

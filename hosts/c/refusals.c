@@ -76,9 +76,9 @@ static size_t right_length(enum call call, enum buffer b, const struct given *g)
 {
     const size_t row = calls[call].stretch ? g->width : g->bits / 8;
     shape s = right_shape(call, g->s.kind > 1 ? 0 : g->s.kind);
-    const rachnoel_lengths_v1 m = rachnoel_lengths_of_v1(NUMBERS(s), row);
+    const rachnoel_sizes_v1 m = rachnoel_lengths_of_v1(NUMBERS(s), row);
     s.t = call >= V1_COMMIT ? 1 : g->s.t;
-    const rachnoel_lengths n = rachnoel_lengths_of(NUMBERS(s), row);
+    const rachnoel_sizes n = rachnoel_lengths_of(NUMBERS(s), row);
     switch (b) {
     case TREE: return call >= V1_COMMIT ? m.trees : n.tree;
     case LCS: return call >= V1_COMMIT ? m.leaf_commitments : n.leaf_commitments;
@@ -100,7 +100,7 @@ static void run(enum call call, const struct given *g, size_t number, uint8_t co
 {
     const int fill = at_the_end ? 0xa5 : 0x5a;
     const size_t slices = calls[call].slices, last = slices - 1;
-    const int count_given = number == 0 || number == RACHNOEL_NODES || number == RACHNOEL_SLOTS;
+    const int count_given = number == 0 || number == RACHNOEL_REFUSED_NODES || number == RACHNOEL_REFUSED_SLOTS;
     struct guarded made[9];
     uint8_t *p[9];
     size_t n[9], wrong = 0;
@@ -277,8 +277,8 @@ static void try(enum call call, size_t kind)
 /* shapes of version 2 that are none of version 1, also before 2 and 3; and a challenge of ones, of which version 1 refuses none */
 static void try_version_1(enum call call)
 {
-    static const shape others[] = {{31, 4, 4, 1, 128, 0}, {32, 3, 32, 1, 128, 0}, {32, 4, 0, 2, 128, 0}, {32, 4, 0, 512, 128, 0}, {32, 4, 0, 1, 128, 1}, FAEST_128S, FAEST_128F, FAEST_192F,
-        FAEST_EM_128F, DEFAULT};
+    const shape others[] = {{31, 4, 4, 1, 128, 0}, {32, 3, 32, 1, 128, 0}, {32, 4, 0, 2, 128, 0}, {32, 4, 0, 512, 128, 0}, {32, 4, 0, 1, 128, 1}, RACHNOEL_FAEST_128S.shape, RACHNOEL_FAEST_128F.shape, RACHNOEL_FAEST_192F.shape,
+        RACHNOEL_FAEST_EM_128F.shape, RACHNOEL_DEFAULT.shape};
     for (size_t i = 0; i < sizeof others / sizeof others[0]; i++) {
         struct given g = {others[i], 32, 1, 2, NONE, 0, 0x0c, 0, 0};
         expect(call, g, 1, 0);

@@ -2,8 +2,6 @@
  * for each, and exit status 1 where something does not come out as it must. The challenges come from a fixed sequence; a signer takes its own. */
 #include <rachnoel.h>
 
-#include "shape.h"
-
 #include <stdio.h>
 #include <stdlib.h>
 #include <string.h>
@@ -53,88 +51,136 @@ static int is_cut(size_t row, size_t n, size_t first, size_t width, const uint8_
     return 1;
 }
 
-static int run(const char *name, shape s, size_t row_bits)
+/* what the signing half writes, what the checking half writes, and what both have */
+struct halves {
+    rachnoel_commit_buffers commit;
+    rachnoel_open_buffers open;
+    rachnoel_reconstruct_buffers check;
+    uint8_t root[RACHNOEL_NODE_MOST], iv[RACHNOEL_IV], challenge[RACHNOEL_NODE_MOST];
+};
+
+static void give_outputs(rachnoel_commit_buffers *c)
 {
-    const size_t row = row_bits / 8;
-    const rachnoel_lengths n = rachnoel_lengths_of(NUMBERS(s), row);
-    uint8_t root[RACHNOEL_NODE_MOST], iv[RACHNOEL_IV], challenge[RACHNOEL_NODE_MOST], count[RACHNOEL_COUNT];
-    uint8_t commitment[RACHNOEL_COMMITMENT_MOST], again[RACHNOEL_COMMITMENT_MOST];
-    /* what the signing half writes, and what the checking half writes */
-    uint8_t *const tree = room(n.tree), *const lcs = room(n.leaf_commitments), *const u = room(n.u), *const v = room(n.matrix);
-    uint8_t *const corrections = room(n.corrections), *const opening = room(n.opening);
-    uint8_t *const their_tree = room(n.tree), *const their_lcs = room(n.leaf_commitments), *const q = room(n.matrix);
+    rachnoel_bytes *const all[] = {&c->commitment, &c->tree, &c->leaf_commitments, &c->u, &c->v, &c->corrections};
+    for (size_t i = 0; i < sizeof all / sizeof all[0]; i++)
+        all[i]->at = room(all[i]->length);
+}
+
+static void take_outputs(const rachnoel_commit_buffers *c)
+{
+    free(c->commitment.at), free(c->tree.at), free(c->leaf_commitments.at), free(c->u.at), free(c->v.at), free(c->corrections.at);
+}
+
+/* all buffers at their lengths; the inputs of one call are the outputs of another */
+static void give_buffers(struct halves *h, const rachnoel_set *set)
+{
+    h->commit = rachnoel_commit_sized(set->shape, set->row_bits);
+    h->commit.root.at = h->root, h->commit.iv.at = h->iv;
+    give_outputs(&h->commit);
+
+    h->open = rachnoel_open_sized(set->shape);
+    h->open.challenge.at = h->challenge;
+    h->open.tree = rachnoel_read(h->commit.tree), h->open.leaf_commitments = rachnoel_read(h->commit.leaf_commitments);
+    h->open.opening.at = room(h->open.opening.length);
+
+    h->check = rachnoel_reconstruct_sized(set->shape, set->row_bits);
+    h->check.iv.at = h->iv, h->check.challenge.at = h->challenge;
+    h->check.corrections = rachnoel_read(h->commit.corrections), h->check.opening = rachnoel_read(h->open.opening);
+    h->check.commitment.at = room(h->check.commitment.length), h->check.tree.at = room(h->check.tree.length);
+    h->check.leaf_commitments.at = room(h->check.leaf_commitments.length), h->check.q.at = room(h->check.q.length);
+}
+
+static void take_buffers(const struct halves *h)
+{
+    take_outputs(&h->commit);
+    free(h->open.opening.at), free(h->check.commitment.at), free(h->check.tree.at), free(h->check.leaf_commitments.at), free(h->check.q.at);
+}
+
+/* draws challenges until one has its last w bits clear and needs at most t nodes */
+static void open_one(struct halves *h)
+{
     uint64_t state = 1;
-    size_t number, attempts[7] = {0}, wrong = 0;
-
-    for (size_t i = 0; i < n.node; i++)
-        root[i] = (uint8_t)i;
-    for (size_t i = 0; i < sizeof iv; i++)
-        iv[i] = (uint8_t)(16 + i);
-
-    /* the signer commits */
-    number = rachnoel_commit(NUMBERS(s), row_bits, root, n.node, iv, sizeof iv, commitment, n.commitment, tree, n.tree, lcs, n.leaf_commitments, u, n.u, v,
-        n.matrix, corrections, n.corrections, count, sizeof count);
-    printf("%s: commit %zu", name, number);
-    wrong += number != 0;
-
-    /* it draws challenges until one has its last w bits clear and needs at most t nodes */
+    size_t number, attempts[7] = {0};
     do {
-        draw(&state, challenge, n.node);
-        number = rachnoel_open(NUMBERS(s), challenge, n.node, tree, n.tree, lcs, n.leaf_commitments, opening, n.opening, count, sizeof count);
-        if (number != 0 && number != RACHNOEL_GRINDING && number != RACHNOEL_NODES) {
-            printf(", open %zu\n", number);
+        draw(&state, h->challenge, h->open.challenge.length);
+        number = rachnoel_open_in(&h->open);
+        if (number != 0 && number != RACHNOEL_REFUSED_GRINDING && number != RACHNOEL_REFUSED_NODES) {
+            const char *const which = rachnoel_open_wrong(&h->open);
+            printf(", open %zu, %s %s\n", number, rachnoel_refusal_text(number), which != NULL ? which : "");
             exit(1);
         }
         attempts[number]++;
     } while (number != 0);
-    printf(", open 0 with %u nodes after %zu refusals with 4 and %zu with 5", (unsigned)rachnoel_number(count), attempts[RACHNOEL_GRINDING], attempts[RACHNOEL_NODES]);
+    printf(", open 0 with %zu nodes after %zu refusals with 4 and %zu with 5", h->open.count, attempts[RACHNOEL_REFUSED_GRINDING], attempts[RACHNOEL_REFUSED_NODES]);
+}
+
+static int same_bytes(rachnoel_bytes a, rachnoel_bytes b)
+{
+    return a.length == b.length && memcmp(a.at, b.at, a.length) == 0;
+}
+
+/* whether a stretch of the rows, committed and reconstructed, is that of the whole rows */
+static int stretch_as_whole(const struct halves *h, const rachnoel_set *set, size_t first, size_t width)
+{
+    const size_t row = set->row_bits / 8, level = set->shape.level;
+    rachnoel_commit_buffers c = rachnoel_commit_stretch_sized(set->shape, set->row_bits, first, width);
+    rachnoel_reconstruct_buffers r = rachnoel_reconstruct_stretch_sized(set->shape, set->row_bits, first, width);
+    c.root.at = h->root, c.iv.at = h->iv;
+    give_outputs(&c);
+    int same = rachnoel_commit_stretch_in(&c) == 0 && same_bytes(h->commit.commitment, c.commitment) && same_bytes(h->commit.tree, c.tree)
+        && same_bytes(h->commit.leaf_commitments, c.leaf_commitments);
+    same = same && is_cut(row, 1, first, width, h->commit.u.at, c.u.at) && is_cut(row, level, first, width, h->commit.v.at, c.v.at);
+    same = same && is_cut(row, c.corrections.length / width, first, width, h->commit.corrections.at, c.corrections.at);
+
+    r.iv.at = h->iv, r.challenge.at = h->challenge, r.corrections = rachnoel_read(c.corrections), r.opening = rachnoel_read(h->open.opening);
+    r.commitment = c.commitment, r.tree = c.tree, r.leaf_commitments = c.leaf_commitments;
+    r.q.at = room(r.q.length);
+    same = same && rachnoel_reconstruct_stretch_in(&r) == 0 && same_bytes(h->commit.commitment, r.commitment);
+    same = same && is_cut(row, level, first, width, h->check.q.at, r.q.at) && agreeing(level, h->challenge, c.u.at, c.v.at, r.q.at, width) == level;
+    free(r.q.at);
+    take_outputs(&c);
+    return same;
+}
+
+static int run(const char *name, const rachnoel_set *set)
+{
+    const size_t row = set->row_bits / 8, level = set->shape.level;
+    struct halves h;
+    give_buffers(&h, set);
+    for (size_t i = 0; i < sizeof h.root; i++)
+        h.root[i] = (uint8_t)i;
+    for (size_t i = 0; i < sizeof h.iv; i++)
+        h.iv[i] = (uint8_t)(16 + i);
+
+    /* the signer commits, and opens for a challenge */
+    size_t number = rachnoel_commit_in(&h.commit), wrong = number != 0;
+    printf("%s: commit %zu", name, number);
+    open_one(&h);
 
     /* the checker has iv, challenge, corrections, opening and commitment */
-    number = rachnoel_reconstruct(NUMBERS(s), row_bits, iv, sizeof iv, challenge, n.node, corrections, n.corrections, opening, n.opening, again, n.commitment,
-        their_tree, n.tree, their_lcs, n.leaf_commitments, q, n.matrix, count, sizeof count);
-    wrong += number != 0 || memcmp(commitment, again, n.commitment) != 0;
-    printf(", reconstruct %zu with %u nodes, commitments %s", number, (unsigned)rachnoel_number(count), memcmp(commitment, again, n.commitment) == 0 ? "equal" : "differ");
-    wrong += agreeing(s.level, challenge, u, v, q, row) != s.level;
-    printf(", %zu columns agree\n", agreeing(s.level, challenge, u, v, q, row));
+    number = rachnoel_reconstruct_in(&h.check);
+    const int equal = same_bytes(h.commit.commitment, h.check.commitment);
+    const size_t agree = agreeing(level, h.challenge, h.commit.u.at, h.commit.v.at, h.check.q.at, row);
+    wrong += number != 0 || !equal || agree != level;
+    printf(", reconstruct %zu with %zu nodes, commitments %s, %zu columns agree\n", number, h.check.count, equal ? "equal" : "differ", agree);
 
     /* the same with no more than STRETCH bytes of a row at a time */
-    size_t pieces = 0, equal = 0;
+    size_t pieces = 0, as_whole = 0;
     for (size_t first = 0; first < row; first += STRETCH) {
-        const size_t width = row - first < STRETCH ? row - first : STRETCH;
-        const rachnoel_lengths m = rachnoel_lengths_of(NUMBERS(s), width);
-        uint8_t *const u2 = room(m.u), *const v2 = room(m.matrix), *const corrections2 = room(m.corrections), *const q2 = room(m.matrix);
-        number = rachnoel_commit_stretch(NUMBERS(s), row_bits, first, width, root, n.node, iv, sizeof iv, again, n.commitment, their_tree, m.tree, their_lcs,
-            m.leaf_commitments, u2, m.u, v2, m.matrix, corrections2, m.corrections, count, sizeof count);
-        int same = number == 0 && memcmp(commitment, again, n.commitment) == 0 && memcmp(tree, their_tree, m.tree) == 0 && memcmp(lcs, their_lcs, m.leaf_commitments) == 0;
-        same = same && is_cut(row, 1, first, width, u, u2) && is_cut(row, s.level, first, width, v, v2) && is_cut(row, m.corrections / width, first, width, corrections, corrections2);
-        number = rachnoel_reconstruct_stretch(NUMBERS(s), row_bits, first, width, iv, sizeof iv, challenge, n.node, corrections2, m.corrections, opening,
-            m.opening, again, n.commitment, their_tree, m.tree, their_lcs, m.leaf_commitments, q2, m.matrix, count, sizeof count);
-        same = same && number == 0 && memcmp(commitment, again, n.commitment) == 0 && is_cut(row, s.level, first, width, q, q2);
-        same = same && agreeing(s.level, challenge, u2, v2, q2, width) == s.level;
         pieces++;
-        if (same)
-            equal++;
-        free(u2), free(v2), free(corrections2), free(q2);
+        as_whole += (size_t)stretch_as_whole(&h, set, first, row - first < STRETCH ? row - first : STRETCH);
     }
-    wrong += equal != pieces;
-    printf("%s: %zu stretches, %zu as in the whole\n", name, pieces, equal);
-    free(tree), free(lcs), free(u), free(v), free(corrections), free(opening), free(their_tree), free(their_lcs), free(q);
-    return wrong != 0;
+    printf("%s: %zu stretches, %zu as in the whole\n", name, pieces, as_whole);
+    take_buffers(&h);
+    rachnoel_wipe_stack();
+    return wrong != 0 || as_whole != pieces;
 }
 
 int main(void)
 {
-    int wrong = run("FAEST-128f", (shape)DEFAULT, 1680);
-    wrong |= run("FAEST-128s", (shape)FAEST_128S, 1680);
-    wrong |= run("FAEST-192s", (shape)FAEST_192S, 3088);
-    wrong |= run("FAEST-192f", (shape)FAEST_192F, 3088);
-    wrong |= run("FAEST-256s", (shape)FAEST_256S, 3888);
-    wrong |= run("FAEST-256f", (shape)FAEST_256F, 3888);
-    wrong |= run("FAEST-EM-128s", (shape)FAEST_EM_128S, 1360);
-    wrong |= run("FAEST-EM-128f", (shape)FAEST_EM_128F, 1360);
-    wrong |= run("FAEST-EM-192s", (shape)FAEST_EM_192S, 2320);
-    wrong |= run("FAEST-EM-192f", (shape)FAEST_EM_192F, 2320);
-    wrong |= run("FAEST-EM-256s", (shape)FAEST_EM_256S, 3472);
-    wrong |= run("FAEST-EM-256f", (shape)FAEST_EM_256F, 3472);
+    int wrong = run("FAEST-128f", &RACHNOEL_DEFAULT);
+    for (size_t i = 0; i < RACHNOEL_SETS; i++)
+        if (rachnoel_sets[i] != &RACHNOEL_FAEST_128F)
+            wrong |= run(rachnoel_sets[i]->name, rachnoel_sets[i]);
     return wrong;
 }

@@ -13,7 +13,7 @@ enum { SHOWN = 64, DIGEST = 32 }; /* a buffer of more bytes than SHOWN is printe
 
 static shape s;
 static size_t row_bits;
-static rachnoel_lengths_v1 n;
+static rachnoel_sizes_v1 n;
 static struct guarded made[BUFFERS];
 static size_t len[BUFFERS];
 
@@ -193,11 +193,11 @@ static int run(const char *name, shape of, size_t bits)
 
 int main(void)
 {
-    int wrong = run("FAEST-128s", (shape)V1_128S, 1680);
-    wrong |= run("FAEST-128f", (shape)V1_128F, 1680);
-    wrong |= run("FAEST-192s", (shape)V1_192S, 3088);
-    wrong |= run("FAEST-192f", (shape)V1_192F, 3088);
-    wrong |= run("FAEST-256s", (shape)V1_256S, 3888);
-    wrong |= run("FAEST-256f", (shape)V1_256F, 3888);
+    int wrong = run("FAEST-128s", RACHNOEL_V1_128S, 1680);
+    wrong |= run("FAEST-128f", RACHNOEL_V1_128F, 1680);
+    wrong |= run("FAEST-192s", RACHNOEL_V1_192S, 3088);
+    wrong |= run("FAEST-192f", RACHNOEL_V1_192F, 3088);
+    wrong |= run("FAEST-256s", RACHNOEL_V1_256S, 3888);
+    wrong |= run("FAEST-256f", RACHNOEL_V1_256F, 3888);
     return wrong;
 }

@@ -1,4 +1,4 @@
-/* The twelve named sets of FAEST version 2 (document 000, section 3.1), each with its row length. */
+/* Among the twelve named sets of FAEST version 2 (document 000, section 3.1) that the header has: the one of a name, and the nearest of a shape. */
 #ifndef SETS_H
 #define SETS_H
 
@@ -6,28 +6,14 @@
 
 #include <string.h>
 
-typedef struct named_set {
-    const char *name;
-    shape shape;
-    size_t row_bits;
-} named_set;
-
-enum { SETS = 12 };
-
-static const named_set sets[SETS] = {
-    {"FAEST-128s", FAEST_128S, 1680}, {"FAEST-128f", FAEST_128F, 1680}, {"FAEST-192s", FAEST_192S, 3088}, {"FAEST-192f", FAEST_192F, 3088},
-    {"FAEST-256s", FAEST_256S, 3888}, {"FAEST-256f", FAEST_256F, 3888}, {"FAEST-EM-128s", FAEST_EM_128S, 1360}, {"FAEST-EM-128f", FAEST_EM_128F, 1360},
-    {"FAEST-EM-192s", FAEST_EM_192S, 2320}, {"FAEST-EM-192f", FAEST_EM_192F, 2320}, {"FAEST-EM-256s", FAEST_EM_256S, 3472}, {"FAEST-EM-256f", FAEST_EM_256F, 3472},
-};
-
 /* the set of a name, which is written FAEST-EM-128s or em-128s; NULL where it is none */
-static inline const named_set *set_named(const char *text)
+static inline const rachnoel_set *set_named(const char *text)
 {
-    for (size_t i = 0; i < SETS; i++) {
-        const char *const name = sets[i].name, *const rest = name + strlen("FAEST-");
+    for (size_t i = 0; i < RACHNOEL_SETS; i++) {
+        const char *const name = rachnoel_sets[i]->name, *const rest = name + strlen("FAEST-");
         const int short_em = strncmp(text, "em-", 3) == 0 && strncmp(rest, "EM-", 3) == 0 && strcmp(text + 3, rest + 3) == 0;
         if (strcmp(text, name) == 0 || short_em || strcmp(text, rest) == 0)
-            return &sets[i];
+            return rachnoel_sets[i];
     }
     return NULL;
 }
@@ -43,7 +29,7 @@ static inline void set_numbers(shape s, size_t row_bits, size_t numbers[SET_NUMB
 }
 
 /* in how many numbers a shape and a row length differ from a set */
-static inline size_t differing(shape s, size_t row_bits, const named_set *set)
+static inline size_t differing(shape s, size_t row_bits, const rachnoel_set *set)
 {
     size_t a[SET_NUMBERS], b[SET_NUMBERS], n = 0;
     set_numbers(s, row_bits, a);
@@ -54,12 +40,12 @@ static inline size_t differing(shape s, size_t row_bits, const named_set *set)
 }
 
 /* the first of the sets that differ in the fewest numbers */
-static inline const named_set *nearest_set(shape s, size_t row_bits)
+static inline const rachnoel_set *nearest_set(shape s, size_t row_bits)
 {
-    const named_set *best = &sets[0];
-    for (size_t i = 1; i < SETS; i++)
-        if (differing(s, row_bits, &sets[i]) < differing(s, row_bits, best))
-            best = &sets[i];
+    const rachnoel_set *best = rachnoel_sets[0];
+    for (size_t i = 1; i < RACHNOEL_SETS; i++)
+        if (differing(s, row_bits, rachnoel_sets[i]) < differing(s, row_bits, best))
+            best = rachnoel_sets[i];
     return best;
 }
 

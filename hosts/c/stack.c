@@ -18,10 +18,10 @@ static size_t bits; /* of a row */
 static int named;   /* whether shape and row length are a named set's */
 #define SHAPE NUMBERS(now)
 
-static rachnoel_lengths n, m;  /* of the whole rows, and of the stretch */
-static rachnoel_lengths_v1 n1; /* of version 1 */
+static rachnoel_sizes n, m;  /* of the whole rows, and of the stretch */
+static rachnoel_sizes_v1 n1; /* of version 1 */
 static uint8_t root[RACHNOEL_NODE_MOST], iv[RACHNOEL_IV], challenge[RACHNOEL_NODE_MOST], commitment[RACHNOEL_COMMITMENT_MOST], count[RACHNOEL_COUNT];
-static uint8_t record[RACHNOEL_RECORD_MOST], length[RACHNOEL_RECORD_LENGTH], lengths[RACHNOEL_WORK_LENGTHS];
+static uint8_t record[RACHNOEL_RECORD_MOST], length[RACHNOEL_LENGTH_SLICE], lengths[RACHNOEL_WORK_LENGTHS_SLICE], all[RACHNOEL_LENGTHS_SLICE];
 static uint8_t *tree, *lcs, *u, *v, *corrections, *opening, *indices, *nodes;
 static size_t answer;
 
@@ -47,6 +47,7 @@ static void reconstruct_stretch(void)
     answer = rachnoel_reconstruct_stretch(SHAPE, bits, FIRST, WIDTH, iv, 16, challenge, n.node, corrections, m.corrections, opening, m.opening, commitment, n.commitment, tree, m.tree, lcs,
         m.leaf_commitments, v, m.matrix, count, 4);
 }
+static void all_lengths(void) { answer = rachnoel_lengths(SHAPE, bits, all, sizeof all); }
 static void record_length(void) { answer = rachnoel_record_length(SHAPE, bits, length, 4); }
 static void write_record(void)
 {
@@ -61,7 +62,7 @@ static void check_named(void)
 {
     answer = rachnoel_check_named(record, rachnoel_number(length), tree, n.tree, lcs, n.leaf_commitments, v, n.matrix, count, 4);
     if (!named)
-        answer = answer == RACHNOEL_NOT_NAMED ? 0 : RACHNOEL_NOT_NAMED;
+        answer = answer == RACHNOEL_REFUSED_NOT_NAMED ? 0 : RACHNOEL_REFUSED_NOT_NAMED;
 }
 static void v1_commit(void)
 {
@@ -81,7 +82,7 @@ static void nothing(void) {}
 static const struct {
     const char *name;
     void (*work)(void);
-} calls[] = {{"nothing", nothing}, {"decode", decode}, {"plan", plan}, {"commit", commit}, {"commit_stretch", commit_stretch}, {"open", opened}, {"reconstruct", reconstruct},
+} calls[] = {{"nothing", nothing}, {"decode", decode}, {"plan", plan}, {"lengths", all_lengths}, {"commit", commit}, {"commit_stretch", commit_stretch}, {"open", opened}, {"reconstruct", reconstruct},
     {"reconstruct_stretch", reconstruct_stretch}, {"record_length", record_length}, {"write_record", write_record}, {"work_lengths", work_lengths},
     {"check_record", check_record}, {"check_named", check_named}, {"v1_commit", v1_commit}, {"v1_open", v1_open}, {"v1_reconstruct", v1_reconstruct}};
 enum { CALLS = sizeof calls / sizeof calls[0], V1 = CALLS - 3 };
@@ -111,16 +112,16 @@ static size_t depth(void (*work)(void))
 
 int main(void)
 {
-    static const struct {
+    const struct {
         shape s;
         size_t bits;
         int named;
-    } cases[] = {{DEFAULT, 1680, 0}, {FAEST_128S, 1680, 1}, {FAEST_128F, 1680, 1}, {FAEST_192S, 3088, 1}, {FAEST_192F, 3088, 1}, {FAEST_256S, 3888, 1}, {FAEST_256F, 3888, 1},
-        {FAEST_EM_128S, 1360, 1}, {FAEST_EM_128F, 1360, 1}, {FAEST_EM_192S, 2320, 1}, {FAEST_EM_192F, 2320, 1}, {FAEST_EM_256S, 3472, 1}, {FAEST_EM_256F, 3472, 1},
+    } cases[] = {{RACHNOEL_DEFAULT.shape, 1680, 0}, {RACHNOEL_FAEST_128S.shape, 1680, 1}, {RACHNOEL_FAEST_128F.shape, 1680, 1}, {RACHNOEL_FAEST_192S.shape, 3088, 1}, {RACHNOEL_FAEST_192F.shape, 3088, 1}, {RACHNOEL_FAEST_256S.shape, 3888, 1}, {RACHNOEL_FAEST_256F.shape, 3888, 1},
+        {RACHNOEL_FAEST_EM_128S.shape, 1360, 1}, {RACHNOEL_FAEST_EM_128F.shape, 1360, 1}, {RACHNOEL_FAEST_EM_192S.shape, 2320, 1}, {RACHNOEL_FAEST_EM_192F.shape, 2320, 1}, {RACHNOEL_FAEST_EM_256S.shape, 3472, 1}, {RACHNOEL_FAEST_EM_256F.shape, 3472, 1},
         {{10, 12, 8, 512, 128, 0}, 1680, 0}, {{32, 4, 0, 512, 128, 0}, 1680, 0}, {{10, 11, 9, 512, 128, 0}, 1680, 0}, {{1, 1, 127, 1, 128, 0}, 1680, 0}, {{16, 12, 0, 512, 192, 0}, 1680, 0},
         {{32, 2, 127, 512, 192, 0}, 1680, 0}, {{21, 12, 4, 512, 256, 0}, 1680, 0}, {{32, 8, 0, 512, 256, 0}, 1680, 0}, {{21, 11, 5, 512, 256, 0}, 1680, 0},
-        {{21, 12, 4, 512, 256, 1}, 1680, 0}, {{32, 8, 0, 512, 256, 1}, 1680, 0}, {{1, 1, 127, 1, 128, 1}, 1680, 0}, {V1_128S, 1680, 0}, {V1_128F, 1680, 0}, {V1_192S, 3088, 0},
-        {V1_192F, 3088, 0}, {V1_256S, 3888, 0}, {V1_256F, 3888, 0}, {{32, 4, 0, 1, 128, 0}, 1680, 0}};
+        {{21, 12, 4, 512, 256, 1}, 1680, 0}, {{32, 8, 0, 512, 256, 1}, 1680, 0}, {{1, 1, 127, 1, 128, 1}, 1680, 0}, {RACHNOEL_V1_128S, 1680, 0}, {RACHNOEL_V1_128F, 1680, 0}, {RACHNOEL_V1_192S, 3088, 0},
+        {RACHNOEL_V1_192F, 3088, 0}, {RACHNOEL_V1_256S, 3888, 0}, {RACHNOEL_V1_256F, 3888, 0}, {{32, 4, 0, 1, 128, 0}, 1680, 0}};
     size_t deepest[CALLS] = {0}, wrong = 0;
     for (size_t i = 0; i < sizeof cases / sizeof cases[0]; i++) {
         now = cases[i].s;

@@ -2,13 +2,13 @@
 #ifndef TOOL_H
 #define TOOL_H
 
+#include <rachnoel.h>
+
 #include <errno.h>
 #include <stdint.h>
 #include <stdio.h>
 #include <stdlib.h>
 #include <string.h>
-
-#define VERSION "0.1.0" /* that of the pkg-config files */
 
 /* a decimal number, digits alone */
 static inline int to_number(const char *text, size_t *x)
@@ -37,7 +37,7 @@ static inline int asked(const char *tool, int argc, char **argv, const char *usa
     if (argc != 2)
         return -1;
     if (strcmp(argv[1], "--version") == 0)
-        printf("%s of Rachnoel " VERSION "\n", tool);
+        printf("%s of Rachnoel %s\n", tool, rachnoel_version());
     else if (strcmp(argv[1], "--help") == 0 || strcmp(argv[1], "-h") == 0)
         printf("%s\n%s", usage, help);
     else

@@ -36,7 +36,7 @@ int is_default(shape s)
 
 int check_bytes(const uint8_t *record, size_t length, int any_shape, verdict *v)
 {
-    uint8_t lengths[RACHNOEL_WORK_LENGTHS], count[RACHNOEL_COUNT] = {0};
+    uint8_t lengths[RACHNOEL_WORK_LENGTHS_SLICE], count[RACHNOEL_COUNT] = {0};
     *v = (verdict){rachnoel_work_lengths(record, length, lengths, sizeof lengths), 0, 0, NULL};
     if (v->number != 0)
         return 0;
@@ -51,7 +51,7 @@ int check_bytes(const uint8_t *record, size_t length, int any_shape, verdict *v)
     const front f = front_of(record);
     v->count = rachnoel_number(count);
     v->allowed = is_default(f.shape) ? 110 : f.shape.t;
-    const named_set *const nearest = nearest_set(f.shape, f.row_bits);
+    const rachnoel_set *const nearest = nearest_set(f.shape, f.row_bits);
     if (v->number == 0 && differing(f.shape, f.row_bits, nearest) == 0)
         v->set = nearest;
     return 0;

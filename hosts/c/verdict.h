@@ -11,7 +11,7 @@
 typedef struct verdict {
     size_t number;         /* 0 where the record is accepted */
     size_t count, allowed; /* nodes that the challenge needs, with 0, 5, 6 and 11; T as the record means it */
-    const named_set *set;  /* of an accepted record, NULL where it is no named set's */
+    const rachnoel_set *set;  /* of an accepted record, NULL where it is no named set's */
 } verdict;
 
 /* The first field of a record, whose version and length fit. */

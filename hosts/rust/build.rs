@@ -13,7 +13,11 @@ fn main() {
         let asked = Command::new("pkg-config").args(["--variable=libdir", &package]).output();
         let folder = match asked {
             Ok(output) if output.status.success() => String::from_utf8(output.stdout).expect("a path"),
-            _ => panic!("pkg-config does not find {package}: set PKG_CONFIG_PATH to lib/pkgconfig of the install"),
+            _ => {
+                let part = half.replace('_', "-");
+                println!("cargo::error=pkg-config does not find {package}: make -C hosts install-{part}, and set PKG_CONFIG_PATH to lib/pkgconfig of the install");
+                return;
+            }
         };
         let folder = folder.trim();
         println!("cargo:rerun-if-changed={folder}/librachnoel_{half}.a");

@@ -2,3 +2,4 @@
 pub mod Lent
 pub mod Decode
 pub mod Plan
+pub mod Lengths

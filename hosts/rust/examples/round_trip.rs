@@ -1,7 +1,7 @@
 //! A host of both halves, to copy from: commits, draws challenges until open answers 0, reconstructs and compares; then does the same by stretches of the rows. It prints
 //! what ../c/round_trip.c prints. The challenges come from a fixed sequence; a signer takes its own.
 
-use rachnoel::{Shape, COUNT, GRINDING, IV, NODES};
+use rachnoel::{Commit, Open, Reconstruct, Refusal, Set, IV};
 
 const STRETCH: usize = 64;
 
@@ -30,85 +30,110 @@ fn cut(whole: &[u8], row: usize, first: usize, width: usize) -> Vec<u8> {
     whole.chunks(row).flat_map(|row| &row[first..first + width]).copied().collect()
 }
 
-fn run(name: &str, shape: Shape, row_bits: usize) -> bool {
-    let row = row_bits / 8;
+/// The number of an answer, as it is printed.
+fn number<T>(answer: &Result<T, Refusal>) -> usize {
+    answer.as_ref().map_or_else(|refusal| refusal.number(), |_| 0)
+}
+
+/// What the signing half writes.
+struct Signed {
+    commitment: Vec<u8>,
+    tree: Vec<u8>,
+    leaf_commitments: Vec<u8>,
+    u: Vec<u8>,
+    v: Vec<u8>,
+    corrections: Vec<u8>,
+}
+
+impl Signed {
+    fn of(set: Set, row: usize) -> Signed {
+        let n = set.shape.lengths(row).expect("a shape");
+        let [commitment, tree, leaf_commitments, u, v, corrections] = [n.commitment, n.tree, n.leaf_commitments, n.u, n.matrix, n.corrections].map(|n| vec![0; n]);
+        Signed { commitment, tree, leaf_commitments, u, v, corrections }
+    }
+
+    fn call<'a>(&'a mut self, set: Set, root: &'a [u8], iv: &'a [u8; IV]) -> Commit<'a> {
+        let Signed { commitment, tree, leaf_commitments, u, v, corrections } = self;
+        Commit { shape: set.shape, row_bits: set.row_bits, root, iv, commitment, tree, leaf_commitments, u, v, corrections }
+    }
+}
+
+/// What the checking half writes.
+struct Checked {
+    commitment: Vec<u8>,
+    tree: Vec<u8>,
+    leaf_commitments: Vec<u8>,
+    q: Vec<u8>,
+}
+
+impl Checked {
+    fn of(set: Set, row: usize) -> Checked {
+        let n = set.shape.lengths(row).expect("a shape");
+        let [commitment, tree, leaf_commitments, q] = [n.commitment, n.tree, n.leaf_commitments, n.matrix].map(|n| vec![0; n]);
+        Checked { commitment, tree, leaf_commitments, q }
+    }
+
+    fn call<'a>(&'a mut self, set: Set, iv: &'a [u8; IV], challenge: &'a [u8], corrections: &'a [u8], opening: &'a [u8]) -> Reconstruct<'a> {
+        let Checked { commitment, tree, leaf_commitments, q } = self;
+        Reconstruct { shape: set.shape, row_bits: set.row_bits, iv, challenge, corrections, opening, commitment, tree, leaf_commitments, q }
+    }
+}
+
+fn run(name: &str, set: Set) -> bool {
+    let (shape, row) = (set.shape, set.row_bits / 8);
     let n = shape.lengths(row).expect("a shape");
     let root: Vec<u8> = (0..n.node as u8).collect();
     let iv: [u8; IV] = std::array::from_fn(|i| 16 + i as u8);
-    let mut count = [0; COUNT];
 
     // the signer commits
-    let (mut commitment, mut tree, mut lcs) = (vec![0; n.commitment], vec![0; n.tree], vec![0; n.leaf_commitments]);
-    let (mut u, mut v, mut corrections) = (vec![0; n.u], vec![0; n.matrix], vec![0; n.corrections]);
-    let committed = rachnoel::commit(
-        shape, row_bits, &root, &iv, &mut commitment, &mut tree, &mut lcs, &mut u, &mut v, &mut corrections, &mut count,
-    );
-    print!("{name}: commit {committed}");
+    let mut signed = Signed::of(set, row);
+    let committed = signed.call(set, &root, &iv).run();
+    print!("{name}: commit {}", number(&committed));
 
     // it draws challenges until one has its last w bits clear and needs at most t nodes
     let mut opening = vec![0; n.opening];
     let (mut state, mut grinding, mut nodes) = (1, 0, 0);
-    let challenge = loop {
+    let (challenge, opened) = loop {
         let challenge = draw(&mut state, n.node);
-        match rachnoel::open(shape, &challenge, &tree, &lcs, &mut opening, &mut count) {
-            0 => break challenge,
-            GRINDING => grinding += 1,
-            NODES => nodes += 1,
-            refusal => panic!("open {refusal}"),
+        match (Open { shape, challenge: &challenge, tree: &signed.tree, leaf_commitments: &signed.leaf_commitments, opening: &mut opening }).run() {
+            Ok(count) => break (challenge, count),
+            Err(Refusal::Grinding) => grinding += 1,
+            Err(Refusal::Nodes(_)) => nodes += 1,
+            Err(refusal) => panic!("open: {refusal}"),
         }
     };
-    print!(", open 0 with {} nodes after {grinding} refusals with 4 and {nodes} with 5", rachnoel::number(count));
+    print!(", open 0 with {} nodes after {grinding} refusals with 4 and {nodes} with 5", opened.0);
 
     // the checker has iv, challenge, corrections, opening and commitment
-    let (mut again, mut their_tree, mut their_lcs, mut q) = (vec![0; n.commitment], vec![0; n.tree], vec![0; n.leaf_commitments], vec![0; n.matrix]);
-    let checked = rachnoel::reconstruct(
-        shape, row_bits, &iv, &challenge, &corrections, &opening, &mut again, &mut their_tree, &mut their_lcs, &mut q, &mut count,
-    );
-    let equal = commitment == again;
-    let agree = agreeing(&challenge, &u, &v, &q);
-    print!(", reconstruct {checked} with {} nodes, commitments {}", rachnoel::number(count), if equal { "equal" } else { "differ" });
-    println!(", {agree} columns agree");
+    let mut checked = Checked::of(set, row);
+    let answer = checked.call(set, &iv, &challenge, &signed.corrections, &opening).run();
+    let equal = signed.commitment == checked.commitment;
+    let agree = agreeing(&challenge, &signed.u, &signed.v, &checked.q);
+    print!(", reconstruct {} with {} nodes", number(&answer), answer.map_or(0, |count| count.0));
+    println!(", commitments {}, {agree} columns agree", if equal { "equal" } else { "differ" });
 
     // the same with no more than STRETCH bytes of a row at a time
     let (mut pieces, mut as_whole) = (0, 0);
     for first in (0..row).step_by(STRETCH) {
         let width = STRETCH.min(row - first);
-        let m = shape.lengths(width).expect("a shape");
-        let (mut u2, mut v2, mut corrections2, mut q2) = (vec![0; m.u], vec![0; m.matrix], vec![0; m.corrections], vec![0; m.matrix]);
-        let number = rachnoel::commit_stretch(
-            shape, row_bits, first, width, &root, &iv, &mut again, &mut their_tree, &mut their_lcs, &mut u2, &mut v2, &mut corrections2, &mut count,
-        );
-        let mut same = number == 0 && again == commitment && their_tree == tree && their_lcs == lcs;
-        same &= u2 == cut(&u, row, first, width) && v2 == cut(&v, row, first, width) && corrections2 == cut(&corrections, row, first, width);
-        let number = rachnoel::reconstruct_stretch(
-            shape, row_bits, first, width, &iv, &challenge, &corrections2, &opening, &mut again, &mut their_tree, &mut their_lcs, &mut q2, &mut count,
-        );
-        same &= number == 0 && again == commitment && q2 == cut(&q, row, first, width) && agreeing(&challenge, &u2, &v2, &q2) == shape.level;
+        let (mut part, mut again) = (Signed::of(set, width), Checked::of(set, width));
+        let mut same = part.call(set, &root, &iv).stretch(first, width).is_ok();
+        same &= part.commitment == signed.commitment && part.tree == signed.tree && part.leaf_commitments == signed.leaf_commitments;
+        same &= [(&part.u, &signed.u), (&part.v, &signed.v), (&part.corrections, &signed.corrections)].iter().all(|(part, whole)| **part == cut(whole, row, first, width));
+        same &= again.call(set, &iv, &challenge, &part.corrections, &opening).stretch(first, width).is_ok();
+        same &= again.commitment == signed.commitment && again.q == cut(&checked.q, row, first, width);
+        same &= agreeing(&challenge, &part.u, &part.v, &again.q) == shape.level;
         pieces += 1;
         as_whole += usize::from(same);
     }
     println!("{name}: {pieces} stretches, {as_whole} as in the whole");
-    committed == 0 && checked == 0 && equal && agree == shape.level && as_whole == pieces
+    committed.is_ok() && answer.is_ok() && equal && agree == shape.level && as_whole == pieces
 }
 
 fn main() {
-    let sets = [
-        ("FAEST-128f", rachnoel::DEFAULT, 1680),
-        ("FAEST-128s", rachnoel::FAEST_128S, 1680),
-        ("FAEST-192s", rachnoel::FAEST_192S, 3088),
-        ("FAEST-192f", rachnoel::FAEST_192F, 3088),
-        ("FAEST-256s", rachnoel::FAEST_256S, 3888),
-        ("FAEST-256f", rachnoel::FAEST_256F, 3888),
-        ("FAEST-EM-128s", rachnoel::FAEST_EM_128S, 1360),
-        ("FAEST-EM-128f", rachnoel::FAEST_EM_128F, 1360),
-        ("FAEST-EM-192s", rachnoel::FAEST_EM_192S, 2320),
-        ("FAEST-EM-192f", rachnoel::FAEST_EM_192F, 2320),
-        ("FAEST-EM-256s", rachnoel::FAEST_EM_256S, 3472),
-        ("FAEST-EM-256f", rachnoel::FAEST_EM_256F, 3472),
-    ];
-    let mut right = true;
-    for (name, shape, row_bits) in sets {
-        right &= run(name, shape, row_bits);
+    let mut right = run("FAEST-128f", rachnoel::DEFAULT);
+    for set in rachnoel::SETS.into_iter().filter(|set| *set != rachnoel::FAEST_128F) {
+        right &= run(set.name, set);
     }
     if !right {
         std::process::exit(1);

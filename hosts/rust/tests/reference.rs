@@ -55,11 +55,11 @@ impl Dice {
         match self.below(60) {
             0 => Shape::new(tau, k, w + 1, t, 128),
             5 => Shape { kind: 2 + self.below(300), ..Shape::new(tau, k, w, t, 128) },
-            6 => Shape { kind: 1, ..rachnoel::DEFAULT },
+            6 => Shape { kind: 1, ..rachnoel::DEFAULT.shape },
             1 => Shape::new(tau, k, w, 512 * self.below(3), 128),
-            2 => rachnoel::DEFAULT,
+            2 => rachnoel::DEFAULT.shape,
             3 => Shape::new(tau, k, w, t, 64 * self.below(8)),
-            4 => Shape { level: 64 * self.below(5), ..rachnoel::DEFAULT },
+            4 => Shape { level: 64 * self.below(5), ..rachnoel::DEFAULT.shape },
             _ => Shape { kind, ..Shape::new(tau, k, w, t, 128) },
         }
     }
@@ -78,7 +78,7 @@ impl Dice {
     /// A challenge whose grinding bits are mostly clear.
     fn challenge(&mut self, shape: Shape) -> Vec<u8> {
         let mut challenge = self.bytes(node(shape));
-        let w = if shape == rachnoel::DEFAULT { 8 } else { shape.w };
+        let w = if shape == rachnoel::DEFAULT.shape { 8 } else { shape.w };
         let bits = 8 * challenge.len();
         if !self.one_in(12) {
             for n in bits - w.min(bits)..bits {
@@ -169,10 +169,15 @@ fn lengths() {
                     let ours = shape.lengths(7);
                     let theirs = theirs(shape).resolve();
                     assert_eq!(ours.is_some(), theirs.is_some(), "{shape:?}");
+                    let mut proved = fresh(44);
+                    let number = rachnoel::flat::lengths(shape, 56, &mut proved);
+                    assert_eq!((number, number != 0), (usize::from(ours.is_none()), proved == fresh(44)), "{shape:?}");
                     let (Some(n), Some(s)) = (ours, theirs) else { continue };
                     assert_eq!((n.node, n.commitment), (s.node_bytes(), s.commitment_bytes()));
                     assert_eq!((n.tree, n.leaf_commitments, n.opening), (s.tree_bytes(), s.leaf_commitments_bytes(), s.opening_bytes()));
                     assert_eq!((n.indices, n.nodes, n.u, n.matrix, n.corrections), (4 * s.tau, 4 * s.t, 7, 7 * s.level, 7 * s.tau - 7));
+                    let all = [n.node, n.commitment, n.indices, n.nodes, n.tree, n.leaf_commitments, n.u, n.matrix, n.corrections, n.opening];
+                    assert_eq!(proved[4..], all.iter().flat_map(|&n| (n as u32).to_le_bytes()).collect::<Vec<_>>(), "{shape:?}");
                     shapes += 1;
                 }
             }
@@ -210,8 +215,8 @@ fn list_call(
 
 #[test]
 fn decode_and_plan() {
-    list_call(rachnoel::decode, calls::decode, |s| s.tau, 1).all(&[0, 1, 3, 4], 20);
-    list_call(rachnoel::plan, calls::plan, |s| s.t, 2).all(&[0, 1, 3, 4, 5], 20);
+    list_call(rachnoel::flat::decode, calls::decode, |s| s.tau, 1).all(&[0, 1, 3, 4], 20);
+    list_call(rachnoel::flat::plan, calls::plan, |s| s.t, 2).all(&[0, 1, 3, 4, 5], 20);
 }
 
 // ---- the halves
@@ -225,7 +230,7 @@ fn halves() {
         let shape = dice.shape();
         let challenge = dice.challenge(shape);
         let bits = dice.row_bits();
-        let m = shape.lengths(bits / 8).unwrap_or(Shape::new(2, 2, 124, 4, 128).lengths(bits / 8).unwrap());
+        let m = shape.lengths((bits / 8).min(8192)).unwrap_or(Shape::new(2, 2, 124, 4, 128).lengths((bits / 8).min(8192)).unwrap());
         let root = { let n = dice.length(m.node); dice.bytes(n) };
         let iv = { let n = dice.length(16); dice.bytes(n) };
 
@@ -233,7 +238,7 @@ fn halves() {
         let lens = [m.commitment, m.tree, m.leaf_commitments, m.u, m.matrix, m.corrections].map(|right| dice.length(right));
         let (mut x, mut y, mut count) = (lens.map(fresh), lens.map(fresh), fresh(n));
         let [a0, a1, a2, a3, a4, a5] = &mut x;
-        let number = rachnoel::commit(shape, bits, &root, &iv, a0, a1, a2, a3, a4, a5, &mut count);
+        let number = rachnoel::flat::commit(shape, bits, &root, &iv, a0, a1, a2, a3, a4, a5, &mut count);
         let [a0, a1, a2, a3, a4, a5] = &mut y;
         let answer = calls::commit(theirs(shape), bits, &spoiled(&root, n), &iv, a0, a1, a2, a3, a4, a5);
         assert_eq!((number, &count), (answer.number as usize, &counted(answer, n)), "commit {shape:?} {bits} {lens:?} {n}");
@@ -243,7 +248,7 @@ fn halves() {
         let n = dice.length(4);
         let opening_len = dice.length(m.opening);
         let (mut opening, mut expected, mut count) = (fresh(opening_len), fresh(opening_len), fresh(n));
-        let number = rachnoel::open(shape, &challenge, &x[1], &x[2], &mut opening, &mut count);
+        let number = rachnoel::flat::open(shape, &challenge, &x[1], &x[2], &mut opening, &mut count);
         let answer = calls::open(theirs(shape), &spoiled(&challenge, n), &x[1], &x[2], &mut expected);
         assert_eq!((number, &count), (answer.number as usize, &counted(answer, n)), "open {shape:?} {opening_len} {n}");
         assert_eq!(opening, expected, "open {shape:?}");
@@ -256,7 +261,7 @@ fn halves() {
         let lens = [m.commitment, m.tree, m.leaf_commitments, m.matrix].map(|right| dice.length(right));
         let (mut y, mut z, mut count) = (lens.map(fresh), lens.map(fresh), fresh(n));
         let [a0, a1, a2, a3] = &mut y;
-        let number = rachnoel::reconstruct(shape, bits, &iv, &challenge, &x[5], &opening, a0, a1, a2, a3, &mut count);
+        let number = rachnoel::flat::reconstruct(shape, bits, &iv, &challenge, &x[5], &opening, a0, a1, a2, a3, &mut count);
         let [a0, a1, a2, a3] = &mut z;
         let answer = calls::reconstruct(theirs(shape), bits, &spoiled(&iv, n), &challenge, &x[5], &opening, a0, a1, a2, a3);
         assert_eq!((number, &count), (answer.number as usize, &counted(answer, n)), "reconstruct {shape:?} {bits} {lens:?} {n}");
@@ -286,7 +291,7 @@ fn stretches() {
         let shape = dice.shape();
         let challenge = dice.challenge(shape);
         let bits = dice.row_bits();
-        let b = bits / 8;
+        let b = (bits / 8).min(8192);
         let (first, width) = dice.stretch(b);
         let refusal = stretch_refusal(shape, bits, first, width);
         let some = Shape::new(2, 2, 124, 4, 128);
@@ -300,7 +305,7 @@ fn stretches() {
         let lens = rights.map(|right| dice.length(right));
         let (mut x, mut count) = (lens.map(fresh), fresh(n));
         let [a0, a1, a2, a3, a4, a5] = &mut x;
-        let number = rachnoel::commit_stretch(shape, bits, first, width, &root, &iv, a0, a1, a2, a3, a4, a5, &mut count);
+        let number = rachnoel::flat::commit_stretch(shape, bits, first, width, &root, &iv, a0, a1, a2, a3, a4, a5, &mut count);
         let mut y = [whole.commitment, whole.tree, whole.leaf_commitments, whole.u, whole.matrix, whole.corrections].map(fresh);
         let mut answer = Answer { number: refusal.unwrap_or(0), count: 0 };
         if refusal.is_none() {
@@ -332,7 +337,7 @@ fn stretches() {
         let lens = rights.map(|right| dice.length(right));
         let (mut x, mut count) = (lens.map(fresh), fresh(n));
         let [a0, a1, a2, a3] = &mut x;
-        let number = rachnoel::reconstruct_stretch(shape, bits, first, width, &iv, &challenge, &cut_corrections, &opening, a0, a1, a2, a3, &mut count);
+        let number = rachnoel::flat::reconstruct_stretch(shape, bits, first, width, &iv, &challenge, &cut_corrections, &opening, a0, a1, a2, a3, &mut count);
         let mut z = [whole.commitment, whole.tree, whole.leaf_commitments, whole.matrix].map(fresh);
         let mut answer = Answer { number: refusal.unwrap_or(0), count: 0 };
         if refusal.is_none() {
@@ -358,26 +363,26 @@ fn stretches() {
 fn all_sets() {
     let mut dice = Dice(5);
     let sets = [
-        (rachnoel::DEFAULT, 1680),
-        (rachnoel::FAEST_128S, 1680),
-        (rachnoel::FAEST_192S, 3088),
-        (rachnoel::FAEST_192F, 3088),
-        (rachnoel::FAEST_256S, 3888),
-        (rachnoel::FAEST_256F, 3888),
-        (rachnoel::FAEST_EM_128S, 1360),
-        (rachnoel::FAEST_EM_128F, 1360),
-        (rachnoel::FAEST_EM_192S, 2320),
-        (rachnoel::FAEST_EM_192F, 2320),
-        (rachnoel::FAEST_EM_256S, 3472),
-        (rachnoel::FAEST_EM_256F, 3472),
+        (rachnoel::DEFAULT.shape, 1680),
+        (rachnoel::FAEST_128S.shape, 1680),
+        (rachnoel::FAEST_192S.shape, 3088),
+        (rachnoel::FAEST_192F.shape, 3088),
+        (rachnoel::FAEST_256S.shape, 3888),
+        (rachnoel::FAEST_256F.shape, 3888),
+        (rachnoel::FAEST_EM_128S.shape, 1360),
+        (rachnoel::FAEST_EM_128F.shape, 1360),
+        (rachnoel::FAEST_EM_192S.shape, 2320),
+        (rachnoel::FAEST_EM_192F.shape, 2320),
+        (rachnoel::FAEST_EM_256S.shape, 3472),
+        (rachnoel::FAEST_EM_256F.shape, 3472),
     ];
     for (shape, bits) in sets {
-        let m = shape.lengths(bits / 8).unwrap();
+        let m = shape.lengths((bits / 8).min(8192)).unwrap();
         let (root, iv) = (dice.bytes(m.node), dice.bytes(16));
         let lens = [m.commitment, m.tree, m.leaf_commitments, m.u, m.matrix, m.corrections];
         let (mut x, mut y, mut count) = (lens.map(fresh), lens.map(fresh), fresh(4));
         let [a0, a1, a2, a3, a4, a5] = &mut x;
-        assert_eq!(rachnoel::commit(shape, bits, &root, &iv, a0, a1, a2, a3, a4, a5, &mut count), 0);
+        assert_eq!(rachnoel::flat::commit(shape, bits, &root, &iv, a0, a1, a2, a3, a4, a5, &mut count), 0);
         let [a0, a1, a2, a3, a4, a5] = &mut y;
         assert_eq!(calls::commit(theirs(shape), bits, &root, &iv, a0, a1, a2, a3, a4, a5).number, 0);
         assert!(x == y, "commit {shape:?}");
@@ -386,7 +391,7 @@ fn all_sets() {
             let mut challenge = dice.bytes(m.node);
             let last = if shape.tau == 16 && shape.level == 192 { 2 } else { 1 };
             challenge[m.node - last..].fill(0);
-            if rachnoel::open(shape, &challenge, &x[1], &x[2], &mut opening, &mut count) == 0 {
+            if rachnoel::flat::open(shape, &challenge, &x[1], &x[2], &mut opening, &mut count) == 0 {
                 break challenge;
             }
         };
@@ -396,7 +401,7 @@ fn all_sets() {
         let lens = [m.commitment, m.tree, m.leaf_commitments, m.matrix];
         let (mut y, mut z) = (lens.map(fresh), lens.map(fresh));
         let [a0, a1, a2, a3] = &mut y;
-        assert_eq!(rachnoel::reconstruct(shape, bits, &iv, &challenge, &x[5], &opening, a0, a1, a2, a3, &mut count), 0);
+        assert_eq!(rachnoel::flat::reconstruct(shape, bits, &iv, &challenge, &x[5], &opening, a0, a1, a2, a3, &mut count), 0);
         let [a0, a1, a2, a3] = &mut z;
         assert_eq!(calls::reconstruct(theirs(shape), bits, &iv, &challenge, &x[5], &opening, a0, a1, a2, a3).number, 0);
         assert!(y == z, "reconstruct {shape:?}");

@@ -1,7 +1,7 @@
 //! The archives of version 1 beside the second implementation, byte by byte: the six sets, and shapes, challenges and lengths from a fixed sequence, wrong ones
 //! among them. Every buffer that a call may write is filled with 0xa5 before.
 
-use rachnoel::{v1, Shape};
+use rachnoel::{flat, v1, Shape};
 use reference::calls::Answer;
 use reference::v1 as second;
 
@@ -44,7 +44,7 @@ impl Dice {
             1 => Shape { t: 2 * self.below(4), ..right },
             2 => Shape { kind: 1 + self.below(3), ..right },
             3 => Shape { level: 64 * self.below(5), ..right },
-            4 => rachnoel::DEFAULT,
+            4 => rachnoel::DEFAULT.shape,
             5 => Shape::new(31, 4, 4, 1, 128),
             _ => right,
         }
@@ -85,7 +85,7 @@ fn same(what: &str, shape: Shape, number: usize, answer: Answer, count: &[u8]) {
 fn commit(shape: Shape, bits: usize, root: &[u8], iv: &[u8], lens: [usize; 6], n: usize) -> ([Vec<u8>; 6], usize) {
     let (mut x, mut y, mut count) = (lens.map(fresh), lens.map(fresh), fresh(n));
     let [a0, a1, a2, a3, a4, a5] = &mut x;
-    let number = v1::commit(shape, bits, root, iv, a0, a1, a2, a3, a4, a5, &mut count);
+    let number = flat::v1_commit(shape, bits, root, iv, a0, a1, a2, a3, a4, a5, &mut count);
     let [a0, a1, a2, a3, a4, a5] = &mut y;
     let answer = second::commit(theirs(shape), bits, &spoiled(root, n), iv, a0, a1, a2, a3, a4, a5);
     same("commit", shape, number, answer, &count);
@@ -95,7 +95,7 @@ fn commit(shape: Shape, bits: usize, root: &[u8], iv: &[u8], lens: [usize; 6], n
 
 fn open(shape: Shape, challenge: &[u8], trees: &[u8], lcs: &[u8], len: usize, n: usize) -> (Vec<u8>, usize) {
     let (mut x, mut y, mut count) = (fresh(len), fresh(len), fresh(n));
-    let number = v1::open(shape, challenge, trees, lcs, &mut x, &mut count);
+    let number = flat::v1_open(shape, challenge, trees, lcs, &mut x, &mut count);
     let answer = second::open(theirs(shape), &spoiled(challenge, n), trees, lcs, &mut y);
     same("open", shape, number, answer, &count);
     assert!(x == y, "open {shape:?}");
@@ -106,7 +106,7 @@ fn reconstruct(shape: Shape, bits: usize, read: [&[u8]; 4], lens: [usize; 4], n:
     let [iv, challenge, corrections, opening] = read;
     let (mut x, mut y, mut count) = (lens.map(fresh), lens.map(fresh), fresh(n));
     let [a0, a1, a2, a3] = &mut x;
-    let number = v1::reconstruct(shape, bits, iv, challenge, corrections, opening, a0, a1, a2, a3, &mut count);
+    let number = flat::v1_reconstruct(shape, bits, iv, challenge, corrections, opening, a0, a1, a2, a3, &mut count);
     let [a0, a1, a2, a3] = &mut y;
     let answer = second::reconstruct(theirs(shape), bits, &spoiled(iv, n), challenge, corrections, opening, a0, a1, a2, a3);
     same("reconstruct", shape, number, answer, &count);
@@ -142,7 +142,7 @@ fn halves() {
     let mut seen = [[0; 4]; 3];
     for _ in 0..400 {
         let (shape, bits) = (dice.shape(), dice.row_bits());
-        let m = v1::lengths(shape, bits / 8).unwrap_or(v1::lengths(v1::shape(32, 4, 128), bits / 8).unwrap());
+        let m = v1::lengths(shape, (bits / 8).min(8192)).unwrap_or(v1::lengths(v1::shape(32, 4, 128), (bits / 8).min(8192)).unwrap());
         let [root, iv, challenge] = [m.node, 16, m.node].map(|right| { let n = dice.length(right); dice.bytes(n) });
 
         let lens = [m.commitment, m.trees, m.leaf_commitments, m.u, m.matrix, m.corrections].map(|right| dice.length(right));
