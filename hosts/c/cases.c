@@ -559,7 +559,7 @@ static void run_record(call c, const buffer given[3], int form)
     free(record.bytes);
 }
 
-/* the version is that of the record: 1, or that in which the shape is written */
+/* the version is that of the record: 1, which there is at level 128 with ordinary leaves alone, or that in which the shape is written */
 static int record_case(words *w, int form)
 {
     call c = next_shape(w);
@@ -570,7 +570,8 @@ static int record_case(words *w, int form)
     buffer given[3];
     for (size_t i = 0; i < 3; i++)
         given[i] = next_bytes(w);
-    const int ok = ended(w) && (version == 1 || version == (c.s.kind == 1 ? 3 : 2));
+    const int first = version == 1 && c.s.level == 128 && c.s.kind == 0;
+    const int ok = ended(w) && (first || version == (c.s.kind == 1 ? 3 : 2));
     if (ok)
         run_record(c, given, form);
     free_all(given, 3);
@@ -612,8 +613,9 @@ int main(void)
             line[--n] = '\0';
         if (n == 0 || line[0] == '#')
             continue;
+        const int whole = memchr(line, '\0', (size_t)n) == NULL;
         words w = split(line);
-        if (strlen(line) > (size_t)n || !w.ok || !run_line(&w)) {
+        if (!whole || !w.ok || !run_line(&w)) {
             printf("line %zu cannot be read\n", place);
             return 1;
         }
