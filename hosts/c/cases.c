@@ -607,7 +607,8 @@ int main(void)
     char *line = NULL;
     size_t room = 0, place = 0;
     ssize_t n;
-    while ((n = getline(&line, &room, stdin)) >= 0) {
+    int ok = 1;
+    while (ok && (n = getline(&line, &room, stdin)) >= 0) {
         place++;
         if (n > 0 && line[n - 1] == '\n')
             line[--n] = '\0';
@@ -615,11 +616,10 @@ int main(void)
             continue;
         const int whole = memchr(line, '\0', (size_t)n) == NULL;
         words w = split(line);
-        if (!whole || !w.ok || !run_line(&w)) {
+        ok = whole && w.ok && run_line(&w);
+        if (!ok)
             printf("line %zu cannot be read\n", place);
-            return 1;
-        }
     }
     free(line);
-    return fflush(stdout) == 0 ? 0 : 1;
+    return fflush(stdout) == 0 && ok ? 0 : 1;
 }

@@ -1,5 +1,4 @@
-// The numbers of decode and plan, and the answer to a challenge that plan, open and reconstruct share, each by its list of tests. The list of nodes that
-// some are lent is the call's own.
+// The numbers of decode and plan, and the answer to a challenge that plan, open and reconstruct share, each by its list of tests. Nothing here can write what a call is lent.
 ghost use mathlib.Core.Path.{_≡_};
 ghost use mathlib.Core.Bool.{true};
 ghost use mathlib.Core.List.{[], _∷_};

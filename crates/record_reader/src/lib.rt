@@ -1,5 +1,5 @@
-// A reader over a record: it holds the caller's slice and how far it has come, and hands out fields as parts of that slice. The first functions are thin:
-// they make a reader or take it apart. Those with plain parameters go over a record with one.
+// A reader over a record: it holds the caller's slice and how far it has come, and hands out fields as parts of that slice. Each function over it is thin:
+// it takes the reader apart and calls a function of record_fields.
 ghost use mathlib.Core.Path.{_≡_};
 ghost use mathlib.Core.Bool.{_&&_};
 ghost use Prim.Native.Nat.{_+_, _^_, _<_, _≤_};
