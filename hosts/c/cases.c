@@ -559,7 +559,7 @@ static void run_record(call c, const buffer given[3], int form)
     free(record.bytes);
 }
 
-/* the version is that of the record: 1, or that in which the shape is written */
+/* the version is that of the record: 1, which there is at level 128 with ordinary leaves alone, or that in which the shape is written */
 static int record_case(words *w, int form)
 {
     call c = next_shape(w);
@@ -570,7 +570,8 @@ static int record_case(words *w, int form)
     buffer given[3];
     for (size_t i = 0; i < 3; i++)
         given[i] = next_bytes(w);
-    const int ok = ended(w) && (version == 1 || version == (c.s.kind == 1 ? 3 : 2));
+    const int first = version == 1 && c.s.level == 128 && c.s.kind == 0;
+    const int ok = ended(w) && (first || version == (c.s.kind == 1 ? 3 : 2));
     if (ok)
         run_record(c, given, form);
     free_all(given, 3);
@@ -606,18 +607,19 @@ int main(void)
     char *line = NULL;
     size_t room = 0, place = 0;
     ssize_t n;
-    while ((n = getline(&line, &room, stdin)) >= 0) {
+    int ok = 1;
+    while (ok && (n = getline(&line, &room, stdin)) >= 0) {
         place++;
         if (n > 0 && line[n - 1] == '\n')
             line[--n] = '\0';
         if (n == 0 || line[0] == '#')
             continue;
+        const int whole = memchr(line, '\0', (size_t)n) == NULL;
         words w = split(line);
-        if (strlen(line) > (size_t)n || !w.ok || !run_line(&w)) {
+        ok = whole && w.ok && run_line(&w);
+        if (!ok)
             printf("line %zu cannot be read\n", place);
-            return 1;
-        }
     }
     free(line);
-    return fflush(stdout) == 0 ? 0 : 1;
+    return fflush(stdout) == 0 && ok ? 0 : 1;
 }

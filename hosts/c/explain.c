@@ -41,7 +41,7 @@ static int put_front(FILE *out, const uint8_t *record, layout *l, size_t require
     const size_t row = l->front.row_bits;
     const rachnoel_sizes n = rachnoel_lengths_of(NUMBERS(s), row / 8);
     const int row_fits = row % 8 == 0 && row >= 8 && row <= 65536;
-    const int no_shape = n.leaves == 0 || (record[0] == 3 && s.kind != 1);
+    const int no_shape = rachnoel_lengths_of(NUMBERS(s), 0).leaves == 0 || (record[0] == 3 && s.kind != 1);
     fprintf(out, "        tau %zu, k %zu, w %zu, T %zu, level %zu, kind %zu%s\n", NUMBERS(s), no_shape ? ": no shape" : is_default(s) ? ": FAEST-128f, 16 7 8 110" : "");
     fprintf(out, "        rows of %zu bits%s\n", row, row_fits ? "" : ": no row length");
     required[CHALLENGE] = n.node;

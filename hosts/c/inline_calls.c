@@ -39,10 +39,10 @@ static size_t run_named(void) { return rachnoel_check_named_in(&of_named); }
 static const char *wrong_decode(void) { return rachnoel_decode_wrong(&decode); }
 static const char *wrong_plan(void) { return rachnoel_plan_wrong(&plan); }
 static const char *wrong_commit(void) { return rachnoel_commit_wrong(&commit); }
-static const char *wrong_commit_part(void) { return rachnoel_commit_wrong(&commit_part); }
+static const char *wrong_commit_part(void) { return rachnoel_commit_stretch_wrong(&commit_part); }
 static const char *wrong_open(void) { return rachnoel_open_wrong(&opened); }
 static const char *wrong_check(void) { return rachnoel_reconstruct_wrong(&check); }
-static const char *wrong_check_part(void) { return rachnoel_reconstruct_wrong(&check_part); }
+static const char *wrong_check_part(void) { return rachnoel_reconstruct_stretch_wrong(&check_part); }
 static const char *wrong_v1_commit(void) { return rachnoel_v1_commit_wrong(&v1_commit); }
 static const char *wrong_v1_open(void) { return rachnoel_v1_open_wrong(&v1_open); }
 static const char *wrong_v1_check(void) { return rachnoel_v1_reconstruct_wrong(&v1_check); }

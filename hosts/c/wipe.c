@@ -19,7 +19,7 @@ static uint8_t secrets[SECRETS][KEY];
 static uint8_t *stack;
 static rachnoel_commit_buffers b;
 static size_t answer;
-static int planting, wiping;
+static int planting, wiping, large;
 
 /* a frame as deep as any call's, with the secrets here and there */
 __attribute__((noinline)) static void plant(void)
@@ -31,8 +31,24 @@ __attribute__((noinline)) static void plant(void)
     }
 }
 
+/* a host with buffers in its own frame, whose last statement is the wipe: were it a jump, the frame would be gone, and its own bytes cleared in place of those below */
+__attribute__((noinline)) static void work_in_large_frame(void)
+{
+    volatile uint8_t own[2 * RACHNOEL_STACK];
+    own[0] = own[sizeof own - 1] = 0;
+    answer = rachnoel_commit_in(&b);
+#ifndef NO_WIPE
+    if (wiping)
+        rachnoel_wipe_stack();
+#endif
+}
+
 static void work(void)
 {
+    if (large) {
+        work_in_large_frame();
+        return;
+    }
     if (planting)
         plant();
     else
@@ -123,6 +139,13 @@ int main(void)
     wiping = 1;
     expect("bytes of the stack that the root decides behind commit", before, differing());
     wrong |= answer != 0;
+
+    large = 1;
+    wiping = 0;
+    before = differing();
+    wiping = 1;
+    expect("the same below a large frame", before, differing());
+    large = 0;
 
     planting = 1;
     memcpy(secrets[0], root, KEY);

@@ -31,10 +31,14 @@
 #define RACHNOEL_MUST_USE __attribute__((warn_unused_result))
 #define RACHNOEL_UNUSED __attribute__((unused))
 #define RACHNOEL_APART __attribute__((noinline, unused))
+#define RACHNOEL_WITHIN __attribute__((always_inline, unused))
+#define RACHNOEL_NOT_LAST_ __asm__ volatile("" ::: "memory")
 #else
 #define RACHNOEL_MUST_USE
 #define RACHNOEL_UNUSED
 #define RACHNOEL_APART
+#define RACHNOEL_WITHIN
+#define RACHNOEL_NOT_LAST_ ((void)0)
 #endif
 
 #ifdef __cplusplus
@@ -147,7 +151,7 @@ enum {
     RACHNOEL_RECORD_MOST = 273555     /* no record has more bytes */
 };
 
-/* stack in bytes, for any call at any shape; the deepest that was measured, 15,224 of reconstruct_stretch, is at most seven eighths of it */
+/* stack in bytes, for any call at any shape; the deepest that was measured, 14,952 of v1_commit, is at most seven eighths of it */
 enum { RACHNOEL_STACK = 20 * 1024 };
 
 typedef struct rachnoel_sizes {
@@ -511,10 +515,8 @@ RACHNOEL_MUST_USE static inline size_t rachnoel_commit_stretch_in(rachnoel_commi
         count, &b->count);
 }
 
-/* of both */
-static inline const char *rachnoel_commit_wrong(const rachnoel_commit_buffers *b)
+static inline const char *rachnoel_commit_unlike_(const rachnoel_commit_buffers *b, const rachnoel_commit_buffers right)
 {
-    const rachnoel_commit_buffers right = rachnoel_commit_stretch_sized(b->shape, b->row_bits, b->first, b->width);
     RACHNOEL_TEST_(root)
     RACHNOEL_TEST_(iv)
     RACHNOEL_TEST_(commitment)
@@ -524,6 +526,16 @@ static inline const char *rachnoel_commit_wrong(const rachnoel_commit_buffers *b
     RACHNOEL_TEST_(v)
     RACHNOEL_TEST_(corrections)
     return NULL;
+}
+
+static inline const char *rachnoel_commit_wrong(const rachnoel_commit_buffers *b)
+{
+    return rachnoel_commit_unlike_(b, rachnoel_commit_sized(b->shape, b->row_bits));
+}
+
+static inline const char *rachnoel_commit_stretch_wrong(const rachnoel_commit_buffers *b)
+{
+    return rachnoel_commit_unlike_(b, rachnoel_commit_stretch_sized(b->shape, b->row_bits, b->first, b->width));
 }
 
 /* open */
@@ -616,10 +628,8 @@ RACHNOEL_MUST_USE static inline size_t rachnoel_reconstruct_stretch_in(rachnoel_
         count, &b->count);
 }
 
-/* of both */
-static inline const char *rachnoel_reconstruct_wrong(const rachnoel_reconstruct_buffers *b)
+static inline const char *rachnoel_reconstruct_unlike_(const rachnoel_reconstruct_buffers *b, const rachnoel_reconstruct_buffers right)
 {
-    const rachnoel_reconstruct_buffers right = rachnoel_reconstruct_stretch_sized(b->shape, b->row_bits, b->first, b->width);
     RACHNOEL_TEST_(iv)
     RACHNOEL_TEST_(challenge)
     RACHNOEL_TEST_(corrections)
@@ -629,6 +639,16 @@ static inline const char *rachnoel_reconstruct_wrong(const rachnoel_reconstruct_
     RACHNOEL_TEST_(leaf_commitments)
     RACHNOEL_TEST_(q)
     return NULL;
+}
+
+static inline const char *rachnoel_reconstruct_wrong(const rachnoel_reconstruct_buffers *b)
+{
+    return rachnoel_reconstruct_unlike_(b, rachnoel_reconstruct_sized(b->shape, b->row_bits));
+}
+
+static inline const char *rachnoel_reconstruct_stretch_wrong(const rachnoel_reconstruct_buffers *b)
+{
+    return rachnoel_reconstruct_unlike_(b, rachnoel_reconstruct_stretch_sized(b->shape, b->row_bits, b->first, b->width));
 }
 
 /* commit of version 1 */
@@ -866,14 +886,21 @@ static inline const char *rachnoel_write_wrong(const rachnoel_write_buffers *b)
 
 /* ---- the stack */
 
-/* Clears RACHNOEL_STACK bytes below the caller's frame: where key schedules and seeds stay behind commit and open. So it is called from the function that made
- * that call. Registers, the host's own copies, and what a signal handler or a debugger saved are not reached. */
-RACHNOEL_APART static void rachnoel_wipe_stack(void)
+RACHNOEL_APART static void rachnoel_clear_below_(void)
 {
     RACHNOEL_UNUSED volatile uint64_t below[RACHNOEL_STACK / 8];
     size_t i;
     for (i = 0; i < RACHNOEL_STACK / 8; i++)
         below[i] = 0;
+}
+
+/* Clears RACHNOEL_STACK bytes below the caller's frame: where what is made of keys and seeds stays behind commit and open. So it is called from the function
+ * that made that call, also as its last statement: the frame stays while the stack below it is cleared. It takes a few bytes more than it clears. Registers, the
+ * host's own copies, and what a signal handler or a debugger saved are not reached. */
+RACHNOEL_WITHIN static inline void rachnoel_wipe_stack(void)
+{
+    rachnoel_clear_below_();
+    RACHNOEL_NOT_LAST_;
 }
 
 #ifdef __cplusplus

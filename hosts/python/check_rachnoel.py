@@ -3,6 +3,7 @@
 
     check_rachnoel.py PREFIX REFERENCE      an install, and the program of reference/
 """
+import array
 import hashlib
 import os
 import random
@@ -163,6 +164,14 @@ def bad_input():
     for challenge in b'', b'\0' * 15, b'\0' * 17:
         expect(answered(rachnoel.plan, shape, challenge), (3, None), 'a challenge')
     expect((answered(rachnoel.check_record, b''), answered(rachnoel.check_named, bytearray())), ((9, None), (9, None)), 'no record')
+    for what in 0, True, (4096, 99), 'text', None:
+        for call in rachnoel.check_record, rachnoel.check_named, lambda x: rachnoel.plan(shape, x):
+            try:
+                call(what)
+            except TypeError:
+                continue
+            expect(what, TypeError, 'what has no bytes')
+    expect(answered(rachnoel.check_record, array.array('I', [1, 0])), (10, None), 'a record of wider items, by its bytes')
     expect(str(rachnoel.Refused(4)), 'refused 4 grinding: a grinding bit of the challenge is 1', 'the text')
     expect(set(rachnoel.lengths(rachnoel.FAEST_128F.shape, 8193)), {0}, 'a row that is none')
 

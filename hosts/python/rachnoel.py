@@ -90,6 +90,11 @@ def _library(half):
     return _loaded[half]
 
 
+def _read(x):
+    """The bytes of what is lent for reading; TypeError where it has none, as a number."""
+    return memoryview(x).tobytes()
+
+
 def call(half, name, *arguments):
     """A flat call: numbers, and for a slice bytes, a bytearray, or a pair of an address and a length. Its number."""
     flat, kept = [], []
@@ -100,8 +105,10 @@ def call(half, name, *arguments):
         if isinstance(x, tuple):
             address, length = x
         else:
-            buffer = (ctypes.c_char * max(len(x), 1))
-            buffer = buffer.from_buffer(x) if isinstance(x, bytearray) and len(x) else buffer.from_buffer_copy(bytes(x) or b'\0')
+            written = isinstance(x, bytearray) and len(x) > 0
+            x = x if written else _read(x)
+            buffer = ctypes.c_char * max(len(x), 1)
+            buffer = buffer.from_buffer(x) if written else buffer.from_buffer_copy(x or b'\0')
             kept.append(buffer)
             address, length = ctypes.addressof(buffer), len(x)
         flat += [ctypes.c_void_p(address), ctypes.c_size_t(length)]
@@ -120,7 +127,9 @@ def _answer(number, count):
 
 def _numbers(shape):
     numbers = [int(x) for x in shape]
-    if any(not 0 <= x < 2**64 for x in numbers) or len(numbers) != 6:
+    if len(numbers) != 6:
+        raise ValueError(f'a shape has six numbers, not {len(numbers)}')
+    if any(not 0 <= x < 2**64 for x in numbers):
         raise Refused(1)
     return numbers
 
@@ -133,8 +142,9 @@ def _row(row_bits):
 
 def plan(shape, challenge):
     """The nodes that an opening reveals, in revealing order. Refusals 1, 3, 4, 5."""
+    numbers, challenge = _numbers(shape), _read(challenge)
     nodes, count = bytearray(lengths(shape, 0).nodes), bytearray(4)
-    n = _answer(call('planning', 'rachnoel_plan', *_numbers(shape), challenge, nodes, count), count)
+    n = _answer(call('planning', 'rachnoel_plan', *numbers, challenge, nodes, count), count)
     return [int.from_bytes(nodes[4 * i:4 * i + 4], 'little') for i in range(n)]
 
 
@@ -143,15 +153,16 @@ Reconstructed = namedtuple('Reconstructed', 'commitment tree leaf_commitments q 
 
 def reconstruct(shape, row_bits, iv, challenge, corrections, opening):
     """Commitment, tree, leaf commitments, Q and node count from an opening. The caller compares the commitment with the one that it was given. Refusals 1 to 6."""
+    numbers, inputs = _numbers(shape), map(_read, (iv, challenge, corrections, opening))
     n = lengths(shape, _row(row_bits) // 8)
     outputs = [bytearray(length) for length in (n.commitment, n.tree, n.leaf_commitments, n.matrix)]
     count = bytearray(4)
-    number = call('verifier', 'rachnoel_reconstruct', *_numbers(shape), _row(row_bits), iv, challenge, corrections, opening, *outputs, count)
+    number = call('verifier', 'rachnoel_reconstruct', *numbers, _row(row_bits), *inputs, *outputs, count)
     return Reconstructed(*map(bytes, outputs), _answer(number, count))
 
 
 def _check(name, record):
-    work = bytearray(12)
+    record, work = _read(record), bytearray(12)
     if call('broker', 'rachnoel_work_lengths', record, work):
         work = bytearray(12)
     outputs = [bytearray(int.from_bytes(work[4 * i:4 * i + 4], 'little')) for i in range(3)]

@@ -49,31 +49,32 @@ fn commands(form: &str, words: &[&str]) -> Option<Vec<Vec<String>>> {
     if words.len() != *count {
         return None;
     }
-    let (version, rest) = (words[0], &words[1..]);
+    let (version, rest) = (words[0].parse::<usize>().ok()?, &words[1..]);
     match (form, version) {
-        ("calls" | "flipped", "2") => Some(three_calls(["commit", "open", "reconstruct"], rest, 9)),
-        ("calls" | "flipped", "1") => {
+        ("calls" | "flipped", 2) => Some(three_calls(["commit", "open", "reconstruct"], rest, 9)),
+        ("calls" | "flipped", 1) => {
             let names = ["v1_commit", "v1_open", "v1_reconstruct"];
             Some(three_calls(names, rest, 9))
         }
-        ("stretch", "2") => {
+        ("stretch", 2) => {
             let names = ["commit_stretch", "open_stretch", "reconstruct_stretch"];
             Some(three_calls(names, rest, 11))
         }
-        ("probe_commit" | "probe_open" | "probe_reconstruct", "1") => {
+        ("probe_commit" | "probe_open" | "probe_reconstruct", 1) => {
             let name = form.replacen("probe_", "probe_v1_", 1);
             Some(vec![command(&name, rest)])
         }
-        ("record" | "named" | "prefixes" | "flips" | "pairs", "1") => {
+        ("record" | "named" | "prefixes" | "flips" | "pairs", 1) => {
             Some(vec![command(&format!("{form}_version_1"), rest)])
         }
         // a record of Even-Mansour leaves has version 3, any other version 2
-        ("record" | "named" | "prefixes" | "flips" | "pairs", "2" | "3") => {
-            let written = if rest[5] == "1" { "3" } else { "2" };
+        ("record" | "named" | "prefixes" | "flips" | "pairs", 2 | 3) => {
+            let kind = rest[5].parse::<usize>().ok()?;
+            let written = if kind == 1 { 3 } else { 2 };
             (version == written).then(|| vec![command(form, rest)])
         }
-        ("decode" | "plan", "2") => Some(vec![command(form, rest)]),
-        (_, "2") if form.starts_with("probe_") => Some(vec![command(form, rest)]),
+        ("decode" | "plan", 2) => Some(vec![command(form, rest)]),
+        (_, 2) if form.starts_with("probe_") => Some(vec![command(form, rest)]),
         _ => None,
     }
 }
@@ -105,7 +106,7 @@ pub fn cases_command(rest: Arguments, input: &mut impl Read) -> Option<Outcome> 
     let mut file = String::new();
     input.read_to_string(&mut file).ok()?;
     let mut text = Vec::new();
-    for (place, line) in file.lines().enumerate() {
+    for (place, line) in file.split('\n').enumerate() {
         if line.is_empty() || line.starts_with('#') {
             continue;
         }

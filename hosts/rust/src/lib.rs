@@ -364,7 +364,6 @@ impl Plan<'_> {
 /// ```
 #[cfg(feature = "signer")]
 #[must_use]
-#[derive(Debug)]
 pub struct Commit<'a> {
     pub shape: Shape,
     pub row_bits: usize,
@@ -376,6 +375,14 @@ pub struct Commit<'a> {
     pub u: &'a mut [u8],
     pub v: &'a mut [u8],
     pub corrections: &'a mut [u8],
+}
+
+/// Without the buffers: some of them are secret.
+#[cfg(feature = "signer")]
+impl std::fmt::Debug for Commit<'_> {
+    fn fmt(&self, f: &mut std::fmt::Formatter<'_>) -> std::fmt::Result {
+        f.debug_struct("Commit").field("shape", &self.shape).finish_non_exhaustive()
+    }
 }
 
 #[cfg(feature = "signer")]
@@ -411,13 +418,20 @@ impl Commit<'_> {
 /// The opening of a challenge, from the tree and the leaf commitments that commit wrote. Open a tree for one challenge only. The example is at the head of this crate.
 #[cfg(feature = "signer")]
 #[must_use]
-#[derive(Debug)]
 pub struct Open<'a> {
     pub shape: Shape,
     pub challenge: &'a [u8],
     pub tree: &'a [u8],
     pub leaf_commitments: &'a [u8],
     pub opening: &'a mut [u8],
+}
+
+/// Without the buffers: some of them are secret.
+#[cfg(feature = "signer")]
+impl std::fmt::Debug for Open<'_> {
+    fn fmt(&self, f: &mut std::fmt::Formatter<'_>) -> std::fmt::Result {
+        f.debug_struct("Open").field("shape", &self.shape).finish_non_exhaustive()
+    }
 }
 
 #[cfg(feature = "signer")]

@@ -75,7 +75,6 @@ pub fn lengths(shape: Shape, row_bytes: usize) -> Option<Lengths> {
 /// The commitment to the trees that grow from a root. Root, trees, u and v are secret. The example is at the head of this module.
 #[cfg(feature = "v1_signer")]
 #[must_use]
-#[derive(Debug)]
 pub struct Commit<'a> {
     pub shape: Shape,
     pub row_bits: usize,
@@ -87,6 +86,14 @@ pub struct Commit<'a> {
     pub u: &'a mut [u8],
     pub v: &'a mut [u8],
     pub corrections: &'a mut [u8],
+}
+
+/// Without the buffers: some of them are secret.
+#[cfg(feature = "v1_signer")]
+impl std::fmt::Debug for Commit<'_> {
+    fn fmt(&self, f: &mut std::fmt::Formatter<'_>) -> std::fmt::Result {
+        f.debug_struct("Commit").field("shape", &self.shape).finish_non_exhaustive()
+    }
 }
 
 #[cfg(feature = "v1_signer")]
@@ -102,13 +109,20 @@ impl Commit<'_> {
 /// The opening of a challenge, from the trees and the leaf commitments that commit wrote. Open the trees for one challenge only.
 #[cfg(feature = "v1_signer")]
 #[must_use]
-#[derive(Debug)]
 pub struct Open<'a> {
     pub shape: Shape,
     pub challenge: &'a [u8],
     pub trees: &'a [u8],
     pub leaf_commitments: &'a [u8],
     pub opening: &'a mut [u8],
+}
+
+/// Without the buffers: some of them are secret.
+#[cfg(feature = "v1_signer")]
+impl std::fmt::Debug for Open<'_> {
+    fn fmt(&self, f: &mut std::fmt::Formatter<'_>) -> std::fmt::Result {
+        f.debug_struct("Open").field("shape", &self.shape).finish_non_exhaustive()
+    }
 }
 
 #[cfg(feature = "v1_signer")]

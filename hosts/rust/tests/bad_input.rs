@@ -157,3 +157,24 @@ fn refusals() {
         assert!(refusal.to_string().starts_with(&format!("refused {number} ")) && refusal.to_string().contains(": "));
     }
 }
+
+/// What is printed of a call that holds secrets has none of their bytes.
+#[test]
+fn secrets_are_not_printed() {
+    let (mut commitment, mut tree, mut lcs, mut u, mut v, mut corrections) = (fresh(32), fresh(240), fresh(384), fresh(1), fresh(128), fresh(1));
+    let root = [0x5b; 16];
+    let call = Commit {
+        shape: SHAPE,
+        row_bits: 8,
+        root: &root,
+        iv: &[7; 16],
+        commitment: &mut commitment,
+        tree: &mut tree,
+        leaf_commitments: &mut lcs,
+        u: &mut u,
+        v: &mut v,
+        corrections: &mut corrections,
+    };
+    let text = format!("{call:?}");
+    assert!(text.starts_with("Commit { shape: ") && !text.contains("91, 91") && !text.contains("165"), "{text}");
+}
