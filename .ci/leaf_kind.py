@@ -2,8 +2,8 @@
 """Document 02, E8: tree, plan and matrices are shared by the leaf kinds, and their proofs do not mention the kind.
 
 A file of crates/*/{src,specs,proofs} mentions the kind if one of the names or words of it stands in the file or in its path: `kind` and what is made with it
-(`.kind`, `kindFits`, `kind-max`), `ordinary` (`is_ordinary`, `ordinary-seed`), Even-Mansour, `em_leaf`, `em-seed`, FAEST-EM. A file also mentions it that
-unfolds a definition of spec that looks at it, as `leafCommitmentBytes`. The module planning_laws/proofs/LeafKindFacts.antt has what others cite instead, and
+(`.kind`, `kind_fits`, `kind-max`), `ordinary` (`is_ordinary`, `ordinary-seed`), Even-Mansour, `em_leaf`, `em-seed`, FAEST-EM. A file also mentions it that
+unfolds a definition of spec that looks at it, as `leaf_commitment_bytes`. The module planning_laws/proofs/LeafKindFacts.antt has what others cite instead, and
 its name alone is no mention: a proof may cite a fact from it whose name does not mention the kind.
 
 Version 1 has leaves of its own. Inside, its shapes have the kind whose leaf commitments are as long and take no hash key; that the kind fits the version is a
@@ -119,10 +119,10 @@ MORE = [
     ('planning/proofs/walk/Proof.antt', 'use Rattle·planning_laws.proofs.LeafKindFacts.{kind-max}', 'kind-max'),
     ('verifier_tree/src/lib.rt', '    if rules::is_ordinary(s) {', 'is_ordinary'),
     ('columns/proofs/ByKind.antt', '', 'ByKind'),
-    ('signer_vectors/proofs/Steps.antt', 'unfolding leafCommitmentBytes\n', 'leafCommitmentBytes'),
-    ('vector/proofs/add_half/Proof.antt', '    unfolding level shapeOk\n', 'shapeOk'),
+    ('signer_vectors/proofs/Steps.antt', 'unfolding leaf_commitment_bytes\n', 'leafCommitmentBytes'),
+    ('vector/proofs/add_half/Proof.antt', '    unfolding level shape_ok\n', 'shapeOk'),
     ('vector/proofs/add_leaf/Proof.antt', 'is-one = start .args .g .shape .kind', '.kind'),
-    ('verifier_vectors/proofs/HiddenPlaces.antt', 'unfolding shape1Ok\n', 'shape1Ok'),
+    ('verifier_vectors/proofs/HiddenPlaces.antt', 'unfolding shape1_ok\n', 'shape1Ok'),
     ('verifier_vectors/proofs/Steps.antt', 'use Rattle·job.specs.Versions.{KindFits}', 'KindFits'),
     ('theorems/proofs/Reconstruction.antt', 'cited = em-seed faest s', 'em-seed'),
     ('verifier_vectors/specs/Vectors.antt', '-- as in FAEST-EM', '-EM'),
@@ -130,7 +130,7 @@ MORE = [
 FINE = [
     ('vector/proofs/add_half/Proof.antt', 'use Rattle·planning_laws.proofs.LeafKindFacts.{commitment-length}'),
     ('rows/proofs/add_row/Proof.antt', 'nearer b at from el em ee = omega arith'),
-    ('signer_vectors/proofs/Steps.antt', 'unfolding entriesOf\n'),
+    ('signer_vectors/proofs/Steps.antt', 'unfolding entries_of\n'),
 ]
 
 

@@ -1,8 +1,10 @@
 // AES, FIPS 197, over the steps of crate aes_steps, of which it re-exports `table`, `pack` and `unpack`, and the round keys of aes_keys. A state or a round key is its
 // four columns of four bytes, by value.
+#![tactic(auto)]
+
 ghost use Rattle.std.specs.Prelude.{◌≡◌, List, ℕ, ◌+◌, ◌-◌, ◌%◌, ◌≤◌, length};
 ghost use Rattle.spec.specs.Gf256.{SboxTable};
-ghost use Rattle.spec.specs.Aes.{state_of, bytesOf, addRoundKey, roundOf, lastRound, cipher, keyExpansion};
+ghost use Rattle.spec.specs.Aes.{state_of, bytes_of, add_round_key, round_of, last_round, cipher, key_expansion};
 ghost use Rattle.aes_keys.specs.RoundKeys.{Keyed};
 ghost use Rattle.aes.specs.Rounded.{Rounded};
 
@@ -27,7 +29,7 @@ pub fn load_state(b: &[u8]) -> [[u8; 4]; 4]
 
 // The 16 bytes of a state.
 pub fn bytes_of(s: [[u8; 4]; 4]) -> [u8; 16]
-    ensures { result ≡ bytesOf s }
+    ensures { result ≡ bytes_of s }
 {
     [
         s[0][0], s[0][1], s[0][2], s[0][3], s[1][0], s[1][1], s[1][2], s[1][3], s[2][0], s[2][1],
@@ -36,7 +38,7 @@ pub fn bytes_of(s: [[u8; 4]; 4]) -> [u8; 16]
 }
 
 pub fn add_round_key(s: [[u8; 4]; 4], k: [[u8; 4]; 4]) -> [[u8; 4]; 4]
-    ensures { result ≡ addRoundKey s k }
+    ensures { result ≡ add_round_key s k }
 {
     [
         xor_word(s[0], k[0]),
@@ -53,7 +55,7 @@ const FEWEST: usize = 10;
 
 pub fn last_round(t: &[u8; 256], s: [[u8; 4]; 4], k: [[u8; 4]; 4]) -> [[u8; 4]; 4]
     requires { SboxTable t.now }
-    ensures { result ≡ lastRound s k }
+    ensures { result ≡ last_round s k }
 {
     add_round_key(shift_rows(sub_bytes(t, s)), k)
 }
@@ -61,7 +63,7 @@ pub fn last_round(t: &[u8; 256], s: [[u8; 4]; 4], k: [[u8; 4]; 4]) -> [[u8; 4]; 
 // Two rounds, with the keys k and l.
 fn two_rounds(t: &[u8; 256], s: [[u8; 4]; 4], k: [[u8; 4]; 4], l: [[u8; 4]; 4]) -> [[u8; 4]; 4]
     requires { SboxTable t.now }
-    ensures { result ≡ roundOf (roundOf s k) l }
+    ensures { result ≡ round_of (round_of s k) l }
 {
     let x = add_round_key(mix_columns(shift_rows(sub_bytes(t, s))), k);
     add_round_key(mix_columns(shift_rows(sub_bytes(t, x))), l)
@@ -72,7 +74,7 @@ fn two_rounds(t: &[u8; 256], s: [[u8; 4]; 4], k: [[u8; 4]; 4], l: [[u8; 4]; 4]) 
 pub fn encrypt(t: &[u8; 256], keys: &[[[u8; 4]; 4]; 15], n: usize, s: [[u8; 4]; 4]) -> [[u8; 4]; 4]
     requires sbox_table { SboxTable t.now }
     requires le_n { (10 ≤ n) × (n ≤ 14) × (n % 2 ≡ 0) }
-    ensures { (nk : ℕ) (key : List ℕ) → n ≡ nk + 6 → Keyed nk key keys.now → result ≡ cipher (nk + 6) (keyExpansion nk key) s }
+    ensures { (nk : ℕ) (key : List ℕ) → n ≡ nk + 6 → Keyed nk key keys.now → result ≡ cipher (nk + 6) (key_expansion nk key) s }
 {
     let mut x = add_round_key(s, keys[0]);
     let mut i = 1;
@@ -106,7 +108,7 @@ fn later_rounds(t: &[u8; 256], keys: &[[[u8; 4]; 4]; 15], n: usize, s: [[u8; 4];
 }
 
 // Two blocks of 16 bytes, each in an array of its own.
-#[derive(Drop)]
+#[derive(Clone, Copy)]
 pub struct Blocks {
     pub first: [u8; 16],
     pub second: [u8; 16],
@@ -126,7 +128,7 @@ pub fn encrypt_pair(
     requires sbox_table { SboxTable t.now }
     requires le_n { (10 ≤ n) × (n ≤ 14) × (n % 2 ≡ 0) }
     ensures { (nk : ℕ) (key : List ℕ) → n ≡ nk + 6 → Keyed nk key keys.now
-        → (result.first ≡ bytesOf (cipher (nk + 6) (keyExpansion nk key) a)) × (result.second ≡ bytesOf (cipher (nk + 6) (keyExpansion nk key) b)) }
+        → (result.first ≡ bytes_of (cipher (nk + 6) (key_expansion nk key) a)) × (result.second ≡ bytes_of (cipher (nk + 6) (key_expansion nk key) b)) }
 {
     let mut x = add_round_key(a, keys[0]);
     let mut y = add_round_key(b, keys[0]);

@@ -1,10 +1,12 @@
 // The key schedules of AES for keys of 128, 192 and 256 bits, FIPS 197, section 5.2. A word is four bytes, a round key four words. There is room for 15 round keys; the
 // unused ones behind those of a shorter key are zeros.
+#![tactic(auto)]
+
 ghost use Rattle.std.specs.Prelude.{◌≡◌, List, ℕ, ◌+◌, ◌*◌, ◌/◌, ◌%◌, ◌≤◌, length};
 ghost use Rattle.spec.specs.Bytes.{tabulate};
 ghost use Rattle.spec.specs.Gf256.{SboxTable};
-ghost use Rattle.spec.specs.Aes.{state, word_at, roundKey, keyExpansion};
-ghost use Rattle.aes_keys.specs.RoundKeys.{Keyed, chained, nextRoundKey, oddRoundKey, sixOf, sixWords, lowerFour, upperFour, nextSix, threeKeys};
+ghost use Rattle.spec.specs.Aes.{state, word_at, round_key, key_expansion};
+ghost use Rattle.aes_keys.specs.RoundKeys.{Keyed, chained, next_round_key, odd_round_key, six_of, six_words, lower_four, upper_four, next_six, three_keys};
 
 use aes_steps::{rot_word, sub_word, xor_word};
 
@@ -37,7 +39,7 @@ fn chain(k: [[u8; 4]; 4], a: [u8; 4]) -> [[u8; 4]; 4]
 // constant's first byte.
 fn next_key(t: &[u8; 256], k: [[u8; 4]; 4], p: [[u8; 4]; 4], rc: u8) -> [[u8; 4]; 4]
     requires { SboxTable t.now }
-    ensures { result ≡ nextRoundKey k p rc }
+    ensures { result ≡ next_round_key k p rc }
 {
     let s = sub_word(t, rot_word(p[3]));
     chain(k, xor_word(k[0], xor_word(s, [rc, 0, 0, 0])))
@@ -71,7 +73,7 @@ pub fn schedule_128(t: &[u8; 256], key: &[u8]) -> [[[u8; 4]; 4]; 15]
 // The six words of a key.
 fn six_words(b: &[u8]) -> [[u8; 4]; 6]
     requires { length b.now ≡ 24 }
-    ensures { result ≡ sixOf (word_at b.now) }
+    ensures { result ≡ six_of (word_at b.now) }
 {
     [
         word(b, 0),
@@ -85,13 +87,13 @@ fn six_words(b: &[u8]) -> [[u8; 4]; 6]
 
 // The first and the last four words of a block.
 fn lower_four(k: [[u8; 4]; 6]) -> [[u8; 4]; 4]
-    ensures { result ≡ lowerFour k }
+    ensures { result ≡ lower_four k }
 {
     [k[0], k[1], k[2], k[3]]
 }
 
 fn upper_four(k: [[u8; 4]; 6]) -> [[u8; 4]; 4]
-    ensures { result ≡ upperFour k }
+    ensures { result ≡ upper_four k }
 {
     [k[2], k[3], k[4], k[5]]
 }
@@ -99,7 +101,7 @@ fn upper_four(k: [[u8; 4]; 6]) -> [[u8; 4]; 4]
 // The block after k.
 fn next_six(t: &[u8; 256], k: [[u8; 4]; 6], rc: u8) -> [[u8; 4]; 6]
     requires { SboxTable t.now }
-    ensures { result ≡ nextSix k rc }
+    ensures { result ≡ next_six k rc }
 {
     let a = next_key(t, lower_four(k), upper_four(k), rc);
     let e = xor_word(k[4], a[3]);
@@ -111,7 +113,7 @@ fn next_six(t: &[u8; 256], k: [[u8; 4]; 6], rc: u8) -> [[u8; 4]; 6]
 fn blocks_192(t: &[u8; 256], key: &[u8]) -> [[[u8; 4]; 6]; 8]
     requires sbox_table { SboxTable t.now }
     requires key_len { length key.now ≡ 24 }
-    ensures { result ≡ tabulate 8 (sixWords (keyExpansion 6 key.now)) }
+    ensures { result ≡ tabulate 8 (six_words (key_expansion 6 key.now)) }
 {
     let b0 = six_words(key);
     let b1 = next_six(t, b0, 1);
@@ -126,7 +128,7 @@ fn blocks_192(t: &[u8; 256], key: &[u8]) -> [[[u8; 4]; 6]; 8]
 
 // The three round keys of two blocks.
 fn three_keys(a: [[u8; 4]; 6], b: [[u8; 4]; 6]) -> [[[u8; 4]; 4]; 3]
-    ensures { result ≡ threeKeys a b }
+    ensures { result ≡ three_keys a b }
 {
     [lower_four(a), [a[4], a[5], b[0], b[1]], upper_four(b)]
 }
@@ -154,7 +156,7 @@ pub fn schedule_192(t: &[u8; 256], key: &[u8]) -> [[[u8; 4]; 4]; 15]
 // The round key with an odd number after p; k is the one before p.
 fn odd_key(t: &[u8; 256], k: [[u8; 4]; 4], p: [[u8; 4]; 4]) -> [[u8; 4]; 4]
     requires { SboxTable t.now }
-    ensures { result ≡ oddRoundKey k p }
+    ensures { result ≡ odd_round_key k p }
 {
     let s = sub_word(t, p[3]);
     chain(k, xor_word(k[0], s))
@@ -164,7 +166,7 @@ fn odd_key(t: &[u8; 256], k: [[u8; 4]; 4], p: [[u8; 4]; 4]) -> [[u8; 4]; 4]
 fn first_keys(t: &[u8; 256], key: &[u8]) -> [[[u8; 4]; 4]; 8]
     requires sbox_table { SboxTable t.now }
     requires key_len { length key.now ≡ 32 }
-    ensures { result ≡ tabulate 8 (roundKey (keyExpansion 8 key.now)) }
+    ensures { result ≡ tabulate 8 (round_key (key_expansion 8 key.now)) }
 {
     let k0 = four_words(key, 0);
     let k1 = four_words(key, 4);
@@ -180,8 +182,8 @@ fn first_keys(t: &[u8; 256], key: &[u8]) -> [[[u8; 4]; 4]; 8]
 // Round keys 8 to 14, from the two before them.
 fn later_keys(t: &[u8; 256], k6: [[u8; 4]; 4], k7: [[u8; 4]; 4]) -> [[[u8; 4]; 4]; 7]
     requires { SboxTable t.now }
-    ensures { (key : List ℕ) → k6 ≡ roundKey (keyExpansion 8 key) 6 → k7 ≡ roundKey (keyExpansion 8 key) 7
-        → result ≡ tabulate 7 (λ i. roundKey (keyExpansion 8 key) (8 + i)) }
+    ensures { (key : List ℕ) → k6 ≡ round_key (key_expansion 8 key) 6 → k7 ≡ round_key (key_expansion 8 key) 7
+        → result ≡ tabulate 7 (λ i. round_key (key_expansion 8 key) (8 + i)) }
 {
     let k8 = next_key(t, k6, k7, 8);
     let k9 = odd_key(t, k7, k8);

@@ -10,8 +10,8 @@ use lib.Dec.{eqb, eqb→eq}
 use lib.ListN.{length, get_or}
 use Rattle.spec.specs.Bytes.{tabulate, number, digits}
 use Rattle.spec.specs.Gf256.{mul}
-use Rattle.spec.specs.Aes.{xorWord, rotWord}
-use Rattle.aes_steps.specs.PackedWords.{xtimesWord}
+use Rattle.spec.specs.Aes.{xor_word, rot_word}
+use Rattle.aes_steps.specs.PackedWords.{xtimes_word}
 use Rattle.laws.proofs.Digits.{digits_number, number_digits, digits-xor}
 use Rattle.laws.proofs.Lists.{length-tabulate}
 use Rattle.laws.proofs.Numbers.{Digits}
@@ -33,8 +33,8 @@ number_word (x ∷ y ∷ z ∷ t ∷ u ∷ us) h = absurd (omega arith)
 pub packed-word : (a : List ℕ) (w : ℕ) → length a ≡ 4 → Digits 8 a → w ≡ number 8 a → digits 8 4 w ≡ a
 packed-word a w e h ew = ap (digits 8 4) ew ∙ ap (λ (n : ℕ). digits 8 n (number 8 a)) (sym e) ∙ digits_number 8 a h
 
-pub packed-xor : (x y : ℕ) → digits 8 4 (bit_xor x y) ≡ xorWord (digits 8 4 x) (digits 8 4 y)
-unfolding tabulate digits xorWord
+pub packed-xor : (x y : ℕ) → digits 8 4 (bit_xor x y) ≡ xor_word (digits 8 4 x) (digits 8 4 y)
+unfolding tabulate digits xor_word
 packed-xor x y = digits-xor 8 4 x y
 
 -- ---- a step on the number as a step on its bytes
@@ -122,7 +122,7 @@ module _ (w : ℕ) (h : w < 2 ^ 32) where
   unfolding digits byte
   from_bytes = sym (number_digits 8 4 w h) ∙ number_word (digits 8 4 w) (length-tabulate 4 (λ i. w / 2 ^ (8 * i) % 2 ^ 8))
 
-  pub packed-xtimes : digits 8 4 (bit_xor (bit_and w 0x7f7f7f7f * 2 % 4294967296) (bit_and w 0x80808080 / 128 * 27)) ≡ xtimesWord (digits 8 4 w)
+  pub packed-xtimes : digits 8 4 (bit_xor (bit_and w 0x7f7f7f7f * 2 % 4294967296) (bit_and w 0x80808080 / 128 * 27)) ≡ xtimes_word (digits 8 4 w)
   unfolding byte
   packed-xtimes =
       ap (λ (x : ℕ). digits 8 4 (bit_xor (bit_and x 0x7f7f7f7f * 2 % 4294967296) (bit_and x 0x80808080 / 128 * 27))) from_bytes
@@ -130,7 +130,7 @@ module _ (w : ℕ) (h : w < 2 ^ 32) where
       ∙ digits-packed (mul 2 (byte 0)) (mul 2 (byte 1)) (mul 2 (byte 2)) (mul 2 (byte 3)) (double-lt (byte 0) (byte-lt 0)) (double-lt (byte 1) (byte-lt 1))
       (double-lt (byte 2) (byte-lt 2)) (double-lt (byte 3) (byte-lt 3))
 
-  pub packed-rot : digits 8 4 (bit_or (w / 256) (w * 16777216 % 4294967296)) ≡ rotWord (digits 8 4 w)
+  pub packed-rot : digits 8 4 (bit_or (w / 256) (w * 16777216 % 4294967296)) ≡ rot_word (digits 8 4 w)
   unfolding byte
   packed-rot =
       ap (λ (x : ℕ). digits 8 4 (bit_or (x / 256) (x * 16777216 % 4294967296))) from_bytes

@@ -6,8 +6,8 @@ use Prim.Native.Nat.{ℕ, ◌<◌}
 use lib.Dec.{eqb, eqb→eq, T}
 use lib.ListN.{get_or}
 use Rattle.spec.specs.Bytes.{tabulate, number}
-use Rattle.spec.specs.Polynomials.{product, remainder, fieldProduct}
-use Rattle.spec.specs.Gf256.{mul, squares, inverse, affineBit, affine, sbox}
+use Rattle.spec.specs.Polynomials.{product, remainder, field_product}
+use Rattle.spec.specs.Gf256.{mul, squares, inverse, affine_bit, affine, sbox}
 use Rattle.laws.proofs.Tables.{at_entry}
 
 -- the constant of the source
@@ -18,7 +18,7 @@ substituted : ℕ → ℕ → Bool
 substituted k x = eqb x (sbox k)
 
 tested : (k : ℕ) → k < 256 → T (substituted k (get_or entries k 0))
-unfolding substituted tabulate number product remainder fieldProduct mul squares inverse affineBit affine sbox
+unfolding substituted tabulate number product remainder field_product mul squares inverse affine_bit affine sbox
 tested k h = at_entry substituted entries tt k h
 
 pub entry-is : (k : ℕ) → k < 256 → get_or entries k 0 ≡ sbox k

@@ -6,7 +6,7 @@ use native.Mathlib.Nat.{add-zero}
 use native.Mathlib.Omega.{arith}
 use lib.Bits.{bit_xor, xor_block, xor_lt, xor_shr, xor_mod}
 use lib.Dec.{eqb, eqb→eq, ltb, leb→le}
-use Rattle.spec.specs.Polynomials.{product, remainder, fieldProduct}
+use Rattle.spec.specs.Polynomials.{product, remainder, field_product}
 use Rattle.spec.specs.Gf256.{mul}
 use Rattle.laws.proofs.Tables.{at-below}
 use Rattle.laws.proofs.Xor.{digit-cases, xor-swap}
@@ -16,21 +16,21 @@ doubles k = eqb (mul 2 k) (bit_xor (k % 128 * 2) (k / 128 * 27))
 
 -- seven bits go up by one place, and the eighth brings in {1b}
 pub double-is : (k : ℕ) → k < 256 → mul 2 k ≡ bit_xor (k % 128 * 2) (k / 128 * 27)
-unfolding doubles product remainder fieldProduct mul
+unfolding doubles product remainder field_product mul
 double-is k h = eqb→eq (mul 2 k) (bit_xor (k % 128 * 2) (k / 128 * 27)) (at-below doubles 256 tt k h)
 
 triples : ℕ → Bool
 triples k = eqb (mul 3 k) (bit_xor (mul 2 k) k)
 
 pub triple-is : (k : ℕ) → k < 256 → mul 3 k ≡ bit_xor (mul 2 k) k
-unfolding triples product remainder fieldProduct mul
+unfolding triples product remainder field_product mul
 triple-is k h = eqb→eq (mul 3 k) (bit_xor (mul 2 k) k) (at-below triples 256 tt k h)
 
 fits : ℕ → Bool
 fits k = ltb (mul 2 k) 256
 
 pub double-lt : (k : ℕ) → k < 256 → mul 2 k < 256
-unfolding fits product remainder fieldProduct mul
+unfolding fits product remainder field_product mul
 double-lt k h = leb→le (suc (mul 2 k)) 256 (at-below fits 256 tt k h)
 
 -- a multiple of a xor of two digits

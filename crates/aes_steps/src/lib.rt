@@ -1,10 +1,12 @@
 // The S-box, words and the state's steps of AES, FIPS 197, that take no key. A state is its four columns of four bytes, by value. The table of the S-box is
 // made once, by `table`, and lent to every step, since each mention of a constant array builds it anew.
+#![tactic(auto)]
+
 ghost use Rattle.std.specs.Prelude.{◌≡◌, ◌<◌};
 ghost use Rattle.spec.specs.Bytes.{number, digits};
 ghost use Rattle.spec.specs.Gf256.{sbox, SboxTable};
-ghost use Rattle.spec.specs.Aes.{xorWord, rotWord, subWord, subBytes, shiftRows, mixColumn, mixColumns};
-ghost use Rattle.aes_steps.specs.PackedWords.{xtimesWord};
+ghost use Rattle.spec.specs.Aes.{xor_word, rot_word, sub_word, sub_bytes, shift_rows, mix_column, mix_columns};
+ghost use Rattle.aes_steps.specs.PackedWords.{xtimes_word};
 
 // Section 5.1.1: the values at 0 to 255.
 const SBOX: [u8; 256] = *b"\x63\x7c\x77\x7b\xf2\x6b\x6f\xc5\x30\x01\x67\x2b\xfe\xd7\xab\x76\
@@ -42,7 +44,7 @@ pub fn sub_byte(t: &[u8; 256], x: u8) -> u8
 
 pub fn sub_word(t: &[u8; 256], a: [u8; 4]) -> [u8; 4]
     requires { SboxTable t.now }
-    ensures { result ≡ subWord a }
+    ensures { result ≡ sub_word a }
 {
     [
         sub_byte(t, a[0]),
@@ -53,13 +55,13 @@ pub fn sub_word(t: &[u8; 256], a: [u8; 4]) -> [u8; 4]
 }
 
 pub fn rot_word(a: [u8; 4]) -> [u8; 4]
-    ensures { result ≡ rotWord a }
+    ensures { result ≡ rot_word a }
 {
     [a[1], a[2], a[3], a[0]]
 }
 
 pub fn xor_word(a: [u8; 4], b: [u8; 4]) -> [u8; 4]
-    ensures { result ≡ xorWord a b }
+    ensures { result ≡ xor_word a b }
 {
     [a[0] ^ b[0], a[1] ^ b[1], a[2] ^ b[2], a[3] ^ b[3]]
 }
@@ -91,7 +93,7 @@ pub fn unpack(x: u32) -> [u8; 4]
 
 // Each byte times {02}: seven bits go up by one place, and the eighth brings in the polynomial's {1b}.
 fn packed_xtimes(w: u32) -> u32
-    ensures { digits 8 4 result ≡ xtimesWord (digits 8 4 w) }
+    ensures { digits 8 4 result ≡ xtimes_word (digits 8 4 w) }
 {
     let high = (w & 0x80808080) >> 7;
     ((w & 0x7f7f7f7f) << 1) ^ (high * 27)
@@ -99,14 +101,14 @@ fn packed_xtimes(w: u32) -> u32
 
 // Each byte one place down, the first to the top.
 fn packed_rot(w: u32) -> u32
-    ensures { digits 8 4 result ≡ rotWord (digits 8 4 w) }
+    ensures { digits 8 4 result ≡ rot_word (digits 8 4 w) }
 {
     (w >> 8) | (w << 24)
 }
 
 // MIXCOLUMNS makes of a byte a, with b, c and d after it, {02} • a + {03} • b + c + d, which is {02} • (a + b) + b + (c + d).
 pub fn mix_column(a: [u8; 4]) -> [u8; 4]
-    ensures { result ≡ mixColumn a }
+    ensures { result ≡ mix_column a }
 {
     let w = pack(a);
     let u = w ^ packed_rot(w);
@@ -117,7 +119,7 @@ pub fn mix_column(a: [u8; 4]) -> [u8; 4]
 
 pub fn sub_bytes(t: &[u8; 256], s: [[u8; 4]; 4]) -> [[u8; 4]; 4]
     requires { SboxTable t.now }
-    ensures { result ≡ subBytes s }
+    ensures { result ≡ sub_bytes s }
 {
     [
         sub_word(t, s[0]),
@@ -128,7 +130,7 @@ pub fn sub_bytes(t: &[u8; 256], s: [[u8; 4]; 4]) -> [[u8; 4]; 4]
 }
 
 pub fn shift_rows(s: [[u8; 4]; 4]) -> [[u8; 4]; 4]
-    ensures { result ≡ shiftRows s }
+    ensures { result ≡ shift_rows s }
 {
     [
         [s[0][0], s[1][1], s[2][2], s[3][3]],
@@ -139,7 +141,7 @@ pub fn shift_rows(s: [[u8; 4]; 4]) -> [[u8; 4]; 4]
 }
 
 pub fn mix_columns(s: [[u8; 4]; 4]) -> [[u8; 4]; 4]
-    ensures { result ≡ mixColumns s }
+    ensures { result ≡ mix_columns s }
 {
     [
         mix_column(s[0]),

@@ -1,17 +1,19 @@
 // The primitives, the tree and plan as C calls them, for bench/ alone, each with the promise of what it calls. The host lends the table that
 // `rattle_table` wrote.
+#![tactic(auto)]
+
 ghost use Rattle.std.specs.Prelude.{◌≡◌, true, List, ℕ, ◌+◌, ◌*◌, ◌^◌, ◌≤◌, ◌<◌, length, take, drop};
 ghost use Rattle.spec.specs.declared.Answer.{Answer};
 ghost use Rattle.spec.specs.Bytes.{tabulate, number};
 ghost use Rattle.spec.specs.Gf256.{SboxTable};
 ghost use Rattle.spec.specs.Aes.{encrypt};
-ghost use Rattle.spec.specs.Keccak.{keccakF};
-ghost use Rattle.spec.specs.Generator.{generatorByte};
+ghost use Rattle.spec.specs.Keccak.{keccak_f};
+ghost use Rattle.spec.specs.Generator.{generator_byte};
 ghost use Rattle.spec.specs.Hashes.{hash0, hash1};
-ghost use Rattle.spec.specs.LeafHash.{leafHashByte};
-ghost use Rattle.spec.specs.Shapes.{nodeBytes, shapeOk, treeBytes};
+ghost use Rattle.spec.specs.LeafHash.{leaf_hash_byte};
+ghost use Rattle.spec.specs.Shapes.{node_bytes, shape_ok, tree_bytes};
 ghost use Rattle.spec.specs.Primitives.{faest};
-ghost use Rattle.spec.specs.Signer.{signerTree};
+ghost use Rattle.spec.specs.Signer.{signer_tree};
 ghost use Rattle.spec.specs.Calls.{Plan};
 ghost use Rattle.field_limbs.specs.Multiples.{Multiples};
 ghost use Rattle.field_384.specs.Field.{p384};
@@ -43,7 +45,7 @@ pub extern "C" fn rattle_schedule_and_block(t: &[u8; 256], key: &[u8; 16], out: 
 #[unsafe(no_mangle)]
 pub extern "C" fn rattle_node(t: &[u8; 256], key: &[u8; 16], iv: &[u8; 16], out: &mut [u8; 32])
     requires { SboxTable t.now }
-    ensures { out.new ≡ tabulate (length out.old) (λ p. generatorByte 4 key.now iv.now 5 (0 + p)) }
+    ensures { out.new ≡ tabulate (length out.old) (λ p. generator_byte 4 key.now iv.now 5 (0 + p)) }
 {
     let x = *iv;
     let y = Nonce {
@@ -58,7 +60,7 @@ pub extern "C" fn rattle_node(t: &[u8; 256], key: &[u8; 16], iv: &[u8; 16], out:
 #[unsafe(no_mangle)]
 pub extern "C" fn rattle_row(t: &[u8; 256], key: &[u8; 16], iv: &[u8; 16], out: &mut [u8; 224])
     requires { SboxTable t.now }
-    ensures { out.new ≡ tabulate (length out.old) (λ p. generatorByte 4 key.now iv.now 5 (0 + p)) }
+    ensures { out.new ≡ tabulate (length out.old) (λ p. generator_byte 4 key.now iv.now 5 (0 + p)) }
 {
     let x = *iv;
     let y = Nonce {
@@ -71,7 +73,7 @@ pub extern "C" fn rattle_row(t: &[u8; 256], key: &[u8; 16], iv: &[u8; 16], out: 
 
 #[unsafe(no_mangle)]
 pub extern "C" fn rattle_keccak(a: &mut [u64; 25])
-    ensures { a.new ≡ keccakF a.old }
+    ensures { a.new ≡ keccak_f a.old }
 {
     let s = *a;
     let r = keccak::keccak_f(s);
@@ -102,7 +104,7 @@ pub extern "C" fn rattle_multiples(key: &[u8; 48], m: &mut [[u64; 12]; 16])
 
 #[unsafe(no_mangle)]
 pub extern "C" fn rattle_leaf_hash(m: &[[u64; 12]; 16], stretched: &[u8; 64], out: &mut [u8; 48])
-    ensures { (u : List ℕ) → Multiples 384 p384 (number 8 u) m.now → out.new ≡ tabulate 48 (leafHashByte 384 p384 u (take 16 stretched.now) (drop 16 stretched.now)) }
+    ensures { (u : List ℕ) → Multiples 384 p384 (number 8 u) m.now → out.new ≡ tabulate 48 (leaf_hash_byte 384 p384 u (take 16 stretched.now) (drop 16 stretched.now)) }
 {
     field_384::leaf_hash(m, stretched, out);
 }
@@ -120,8 +122,8 @@ pub extern "C" fn rattle_grow(
     tree: &mut [u8],
 )
     requires sbox_table { SboxTable t.now }
-    requires kind_value { (shapeOk (record { tau = tau; k = k; w = w; t = most; level = 128; kind = 0 }) ≡ true) × (length root.now ≡ nodeBytes (record { tau = tau; k = k; w = w; t = most; level = 128; kind = 0 })) × (length tree.old ≡ treeBytes (record { tau = tau; k = k; w = w; t = most; level = 128; kind = 0 })) }
-    ensures { tree.new ≡ signerTree faest (record { tau = tau; k = k; w = w; t = most; level = 128; kind = 0 }) root.now iv.now }
+    requires kind_value { (shape_ok (record { tau = tau; k = k; w = w; t = most; level = 128; kind = 0 }) ≡ true) × (length root.now ≡ node_bytes (record { tau = tau; k = k; w = w; t = most; level = 128; kind = 0 })) × (length tree.old ≡ tree_bytes (record { tau = tau; k = k; w = w; t = most; level = 128; kind = 0 })) }
+    ensures { tree.new ≡ signer_tree faest (record { tau = tau; k = k; w = w; t = most; level = 128; kind = 0 }) root.now iv.now }
 {
     let s = Shape {
         tau,
@@ -145,7 +147,7 @@ pub extern "C" fn rattle_add_row(
 )
     requires sbox_table { SboxTable t.now }
     requires seed_len { (length seed.now ≡ 16) × (length sum.old ≤ 8192) }
-    ensures { Xored 0 (length sum.old) (λ p. generatorByte 4 seed.now iv.now tweak (0 + p)) sum.old sum.new }
+    ensures { Xored 0 (length sum.old) (λ p. generator_byte 4 seed.now iv.now tweak (0 + p)) sum.old sum.new }
 {
     let x = *iv;
     let y = Nonce {

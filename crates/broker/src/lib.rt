@@ -1,4 +1,6 @@
 // The broker's public calls on a signing record: check_record, and the lengths of the work buffers that it asks for. Nothing here depends on the signing half.
+#![tactic(auto)]
+
 ghost use Rattle.spec.specs.Primitives.{faest};
 ghost use Rattle.record.specs.RecordCalls.{WorkLengths, CheckRecord};
 
@@ -35,8 +37,8 @@ pub fn check_record(
     q: &mut [u8],
 ) -> Answer
     ensures { CheckRecord faest «record».now
-        (record { tree = tree.entry.now; leafCommitments = leaf_commitments.old; q = q.old })
-        (record { tree = tree.exit.now; leafCommitments = leaf_commitments.new; q = q.new })
+        (record { tree = tree.entry.now; leaf_commitments = leaf_commitments.old; q = q.old })
+        (record { tree = tree.exit.now; leaf_commitments = leaf_commitments.new; q = q.new })
         result }
 {
     let f = record_reading::front_of(record);

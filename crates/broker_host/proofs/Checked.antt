@@ -11,46 +11,46 @@ use lib.Seq.{take-length}
 use borrow.Author.Tests.{eqb-true, eqb-false, ne_eqb}
 use Rattle.spec.specs.declared.Shape.{Shape}
 use Rattle.spec.specs.declared.Answer.{Answer}
-use Rattle.spec.specs.Shapes.{resolved, nodeBytes, leaves, shapeOk, treeBytes}
+use Rattle.spec.specs.Shapes.{resolved, node_bytes, leaves, shape_ok, tree_bytes}
 use Rattle.spec.specs.Primitives.{faest}
-use Rattle.spec.specs.Calls.{countGiven, written}
-use Rattle.spec.specs.HostCalls.{countSlice, withCount}
+use Rattle.spec.specs.Calls.{count_given, written}
+use Rattle.spec.specs.HostCalls.{count_slice, with_count}
 use Rattle.laws.proofs.Concat.{mul-limit}
 use Rattle.laws.proofs.Conjunctions.{contrary}
 use Rattle.laws.proofs.Words.{count-slice}
 use Rattle.planning_laws.proofs.ShapeFacts.{shape-facts, widths, leaves-pos}
-use Rattle.record.specs.Record.{contentsOf, readNumber}
-use Rattle.record.specs.RecordCalls.{Work, workLengths, workOf, made, recordNumber, answered, CheckRecord}
+use Rattle.record.specs.Record.{contents_of, read_number}
+use Rattle.record.specs.RecordCalls.{Work, work_lengths, work_of, made, record_number, answered, CheckRecord}
 use Rattle.record.specs.HostRecordCalls.{HostCheckRecord}
 use Rattle.record.proofs.Reading.{front-shape, read-front}
 use Rattle.record.proofs.Reconstructing.{number-refused, number-three}
 use Rattle.record_check.proofs.Answers.{read-quiet}
 
 -- no tree has no bytes
-tree-some : (s : Shape) → shapeOk s ≡ true → eqb 0 (treeBytes s) ≡ false
-unfolding treeBytes
+tree-some : (s : Shape) → shape_ok s ≡ true → eqb 0 (tree_bytes s) ≡ false
+unfolding tree_bytes
 tree-some s ok =
     let f = shape-facts s ok in
     let l = leaves-pos s f in
-    let m : 16 * 1 ≤ nodeBytes s * (2 * leaves s - 1) = mul-limit 16 1 (nodeBytes s) (2 * leaves s - 1) (widths s f).node-min (omega arith) in
-    ne_eqb 0 (treeBytes s) (λ z. omega arith)
+    let m : 16 * 1 ≤ node_bytes s * (2 * leaves s - 1) = mul-limit 16 1 (node_bytes s) (2 * leaves s - 1) (widths s f).node-min (omega arith) in
+    ne_eqb 0 (tree_bytes s) (λ z. omega arith)
 
 module _ (rec : List ℕ) (x : Work) (count : List ℕ) (m : ℕ) (e : m ≡ cond (eqb (length count) 4) (length x.tree) 0) (y : Work) (r : Answer)
-    (o : CheckRecord faest rec (record { tree = take m x.tree; leafCommitments = x.leafCommitments; q = x.q }) y r) where
+    (o : CheckRecord faest rec (record { tree = take m x.tree; leaf_commitments = x.leaf_commitments; q = x.q }) y r) where
   abbrev lengths : Work → List (ℕ × ℕ)
-  lengths w = workLengths (resolved (contentsOf rec).shape) ((contentsOf rec).row / 8) w
+  lengths w = work_lengths (resolved (contents_of rec).shape) ((contents_of rec).row / 8) w
 
   -- the work buffers with another tree
   abbrev with-tree : List ℕ → Work
-  with-tree t = record { tree = t; leafCommitments = x.leafCommitments; q = x.q }
+  with-tree t = record { tree = t; leaf_commitments = x.leaf_commitments; q = x.q }
 
   abbrev new : Work
-  new = workOf (made faest (contentsOf rec))
+  new = work_of (made faest (contents_of rec))
 
   abbrev Left : Type 0
   Left =
-      (r.number ≡ recordNumber faest rec (withCount count (workLengths (resolved (contentsOf rec).shape) ((contentsOf rec).row / 8) x)))
-      × (◌≡◌ {A = Work} (record { tree = y.tree ++ drop m x.tree; leafCommitments = y.leafCommitments; q = y.q }) (written (answered r.number) (workOf (made faest (contentsOf rec))) x))
+      (r.number ≡ record_number faest rec (with_count count (work_lengths (resolved (contents_of rec).shape) ((contents_of rec).row / 8) x)))
+      × (◌≡◌ {A = Work} (record { tree = y.tree ++ drop m x.tree; leaf_commitments = y.leaf_commitments; q = y.q }) (written (answered r.number) (work_of (made faest (contents_of rec))) x))
 
   -- ---- the count slice has four bytes
 
@@ -65,11 +65,11 @@ module _ (rec : List ℕ) (x : Work) (count : List ℕ) (m : ℕ) (e : m ≡ con
     none_left = drop_of_length-le x.tree {i = m} (omega (arith, long))
 
     full : Left
-    unfolding recordNumber
+    unfolding record_number
     full = (
-      o.number ∙ ap (λ (l : List ℕ). recordNumber faest rec (lengths (with-tree l))) all ∙ sym (rw t refl),
-      ap (λ (l : List ℕ). record { tree = y.tree ++ l; leafCommitments = y.leafCommitments; q = y.q }) none_left
-          ∙ ap (λ (l : List ℕ). record { tree = l; leafCommitments = y.leafCommitments; q = y.q }) (append-nil y.tree)
+      o.number ∙ ap (λ (l : List ℕ). record_number faest rec (lengths (with-tree l))) all ∙ sym (rw t refl),
+      ap (λ (l : List ℕ). record { tree = y.tree ++ l; leaf_commitments = y.leaf_commitments; q = y.q }) none_left
+          ∙ ap (λ (l : List ℕ). record { tree = l; leaf_commitments = y.leaf_commitments; q = y.q }) (append-nil y.tree)
           ∙ o.buffers
           ∙ ap (λ (l : List ℕ). written (answered r.number) new (with-tree l)) all,
     )
@@ -80,23 +80,23 @@ module _ (rec : List ℕ) (x : Work) (count : List ℕ) (m : ℕ) (e : m ≡ con
     none : m ≡ 0
     none = e ∙ rw t refl
 
-    lent : r.number ≡ recordNumber faest rec (lengths (with-tree []))
+    lent : r.number ≡ record_number faest rec (lengths (with-tree []))
     lent = o.number ∙ rw none refl
 
-    refused : (r.number ≡ recordNumber faest rec (withCount count (lengths x))) × (eqb (answered r.number) 0 ≡ false) × (countGiven (answered r.number) ≡ false)
-    refused = go (eqb (readNumber rec) 0) refl
+    refused : (r.number ≡ record_number faest rec (with_count count (lengths x))) × (eqb (answered r.number) 0 ≡ false) × (count_given (answered r.number) ≡ false)
+    refused = go (eqb (read_number rec) 0) refl
       where
-        go : (b : Bool) → eqb (readNumber rec) 0 ≡ b
-            → (r.number ≡ recordNumber faest rec (withCount count (lengths x))) × (eqb (answered r.number) 0 ≡ false) × (countGiven (answered r.number) ≡ false)
+        go : (b : Bool) → eqb (read_number rec) 0 ≡ b
+            → (r.number ≡ record_number faest rec (with_count count (lengths x))) × (eqb (answered r.number) 0 ≡ false) × (count_given (answered r.number) ≡ false)
         go true z =
-            let ok = eqb-true (readNumber rec) 0 z in
-            let n : r.number ≡ 3 = lent ∙ number-three faest rec (lengths (with-tree [])) ok (rw (tree-some (resolved (contentsOf rec).shape) (front-shape rec (read-front rec ok))) refl) in
-            (n ∙ sym (number-three faest rec (withCount count (lengths x)) ok (rw t refl)), rw n refl, rw n refl)
+            let ok = eqb-true (read_number rec) 0 z in
+            let n : r.number ≡ 3 = lent ∙ number-three faest rec (lengths (with-tree [])) ok (rw (tree-some (resolved (contents_of rec).shape) (front-shape rec (read-front rec ok))) refl) in
+            (n ∙ sym (number-three faest rec (with_count count (lengths x)) ok (rw t refl)), rw n refl, rw n refl)
         go false z =
-            let bad = eqb-false (readNumber rec) 0 z in
-            let n : r.number ≡ readNumber rec = lent ∙ number-refused faest rec (lengths (with-tree [])) bad in
+            let bad = eqb-false (read_number rec) 0 z in
+            let n : r.number ≡ read_number rec = lent ∙ number-refused faest rec (lengths (with-tree [])) bad in
             let quiet = read-quiet rec bad in
-            (n ∙ sym (number-refused faest rec (withCount count (lengths x)) bad), rw n quiet.0, rw n quiet.1)
+            (n ∙ sym (number-refused faest rec (with_count count (lengths x)) bad), rw n quiet.0, rw n quiet.1)
 
     kept : Left
     kept =
@@ -116,10 +116,10 @@ module _ (rec : List ℕ) (x : Work) (count : List ℕ) (m : ℕ) (e : m ≡ con
   left : Left
   left = cases full kept
 
-  pub checked-sized : countGiven (answered r.number) ≡ true → length count ≡ 4
+  pub checked-sized : count_given (answered r.number) ≡ true → length count ≡ 4
   checked-sized h = cases (λ t. eqb-true (length count) 4 t) (λ t. contrary h (refused t).2)
 
-  pub checked-host : (count' : List ℕ) → count' ≡ countSlice (answered r.number) r.count count
-      → HostCheckRecord faest rec x (record { tree = y.tree ++ drop m x.tree; leafCommitments = y.leafCommitments; q = y.q }) count count' r.number
+  pub checked-host : (count' : List ℕ) → count' ≡ count_slice (answered r.number) r.count count
+      → HostCheckRecord faest rec x (record { tree = y.tree ++ drop m x.tree; leaf_commitments = y.leaf_commitments; q = y.q }) count count' r.number
   checked-host count' d =
-      record { number = left.0; buffers = left.1; counted = d ∙ ap (λ (k : ℕ). countSlice (answered r.number) k count) o.count ∙ count-slice (answered r.number) _ count }
+      record { number = left.0; buffers = left.1; counted = d ∙ ap (λ (k : ℕ). count_slice (answered r.number) k count) o.count ∙ count-slice (answered r.number) _ count }

@@ -1,4 +1,6 @@
 // The broker's calls for a C host: check_record, the same for named sets alone, and the lengths of its work buffers. Nothing here depends on the signing half.
+#![tactic(auto)]
+
 ghost use Rattle.std.specs.Prelude.{◌≡◌};
 ghost use Rattle.spec.specs.Primitives.{faest};
 ghost use Rattle.record.specs.RecordCalls.{answered};
@@ -25,8 +27,8 @@ pub extern "C" fn rachnoel_check_record(
     count: &mut [u8],
 ) -> usize
     ensures { HostCheckRecord faest «record».now
-        (record { tree = tree.entry.now; leafCommitments = leaf_commitments.old; q = q.old })
-        (record { tree = tree.exit.now; leafCommitments = leaf_commitments.new; q = q.new })
+        (record { tree = tree.entry.now; leaf_commitments = leaf_commitments.old; q = q.old })
+        (record { tree = tree.exit.now; leaf_commitments = leaf_commitments.new; q = q.new })
         count.old count.new result }
 {
     let n = host_words::passed_on(tree.len(), count.len());
@@ -46,8 +48,8 @@ pub extern "C" fn rachnoel_check_named(
     count: &mut [u8],
 ) -> usize
     ensures { HostCheckNamed faest «record».now
-        (record { tree = tree.entry.now; leafCommitments = leaf_commitments.old; q = q.old })
-        (record { tree = tree.exit.now; leafCommitments = leaf_commitments.new; q = q.new })
+        (record { tree = tree.entry.now; leaf_commitments = leaf_commitments.old; q = q.old })
+        (record { tree = tree.exit.now; leaf_commitments = leaf_commitments.new; q = q.new })
         count.old count.new result }
 {
     let number = named_broker::front_number(record);

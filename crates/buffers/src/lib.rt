@@ -1,6 +1,8 @@
 // Parts of lent buffers: copied from one to another, filled with zeros, and tested for zeros.
+#![tactic(auto)]
+
 ghost use Rattle.std.specs.Prelude.{◌≡◌, ◌++◌, ◌+◌, ◌-◌, ◌≤◌, length, take, drop};
-ghost use Rattle.spec.specs.Bytes.{part, zeros, allZero};
+ghost use Rattle.spec.specs.Bytes.{part, zeros, all_zero};
 
 // Copies n bytes of src from byte `from` on to dst from byte `at` on.
 pub fn copy_part(src: &[u8], from: usize, n: usize, dst: &mut [u8], at: usize)
@@ -25,7 +27,7 @@ pub fn clear_from(out: &mut [u8], at: usize)
 // Whether each byte from byte `at` on is 0.
 pub fn is_clear_from(xs: &[u8], at: usize) -> bool
     requires { at ≤ length xs.now }
-    ensures { result ≡ allZero (drop at xs.now) }
+    ensures { result ≡ all_zero (drop at xs.now) }
 {
     let mut p = at;
     while p < xs.len() {

@@ -1,11 +1,13 @@
 // A line of a file of cases, taken apart: words between single spaces, each read as a number or as bytes. What cannot be read is remembered in `ok`, so that a
 // reader asks once, at the end of the line.
+#![tactic(auto)]
+
 ghost use Rattle.std.specs.Prelude.{◌≤◌};
 
 use spec::Shape;
 
 // What is left of a line: the bytes of the text from `at` to `end`; whether a word is left, and whether everything before it could be read.
-#[derive(Drop)]
+#[derive(Clone, Copy)]
 pub struct Line {
     pub at: usize,
     pub end: usize,
@@ -14,21 +16,21 @@ pub struct Line {
 }
 
 // A number, and what is left behind it.
-#[derive(Drop)]
+#[derive(Clone, Copy)]
 pub struct Number {
     pub value: usize,
     pub rest: Line,
 }
 
 // The first numbers of a line, and what is left behind them.
-#[derive(Drop)]
+#[derive(Clone, Copy)]
 pub struct Numbers {
     pub values: [usize; 14],
     pub rest: Line,
 }
 
 // At most 32 bytes, and what is left behind them.
-#[derive(Drop)]
+#[derive(Clone, Copy)]
 pub struct Bytes {
     pub bytes: [u8; 32],
     pub length: usize,
@@ -103,7 +105,7 @@ fn digit(b: u8) -> u8 {
 }
 
 // What a number is with a digit more, and whether it fits 64 bits.
-#[derive(Drop)]
+#[derive(Clone, Copy)]
 struct Grown {
     value: usize,
     ok: bool,

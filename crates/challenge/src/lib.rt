@@ -1,7 +1,9 @@
 // The bits of a challenge: hidden indices, the leaves that they hide, and grinding bits.
+#![tactic(auto)]
+
 ghost use Rattle.std.specs.Prelude.{◌≡◌, true, ◌+◌, ◌*◌, ◌^◌, ◌<◌, ◌≤◌, length};
-ghost use Rattle.spec.specs.Challenge.{bit_at, index_at, clearAt};
-ghost use Rattle.spec.specs.Shapes.{challengeBytes, shapeOk, entriesOf, leaves, hiddenIndex, hiddenLeaf, hiddenIndices, grindingOk};
+ghost use Rattle.spec.specs.Challenge.{bit_at, index_at, clear_at};
+ghost use Rattle.spec.specs.Shapes.{challenge_bytes, shape_ok, entries_of, leaves, hidden_index, hidden_leaf, hidden_indices, grinding_ok};
 
 use spec::Shape;
 
@@ -30,7 +32,7 @@ fn index(ch: &[u8], at: usize, k: usize) -> usize
 // Whether n bits from bit `at` on are 0.
 fn clear(ch: &[u8], at: usize, n: usize) -> bool
     requires { (at + n ≤ 8 * length ch.now) × (length ch.now ≤ 32) }
-    ensures { result ≡ clearAt ch.now at n }
+    ensures { result ≡ clear_at ch.now at n }
 {
     let mut j = 0;
     while j < n {
@@ -44,8 +46,8 @@ fn clear(ch: &[u8], at: usize, n: usize) -> bool
 
 // Whether the grinding bits are 0.
 pub fn grinding_ok(s: Shape, ch: &[u8]) -> bool
-    requires { (shapeOk s ≡ true) × (length ch.now ≡ challengeBytes s) }
-    ensures { result ≡ grindingOk s ch.now }
+    requires { (shape_ok s ≡ true) × (length ch.now ≡ challenge_bytes s) }
+    ensures { result ≡ grinding_ok s ch.now }
 {
     let n = s.tau;
     clear(ch, rules::first_bit(s, n), s.w)
@@ -53,16 +55,16 @@ pub fn grinding_ok(s: Shape, ch: &[u8]) -> bool
 
 // The hidden index of vector i.
 pub fn hidden_index(s: Shape, ch: &[u8], i: usize) -> usize
-    requires { (shapeOk s ≡ true) × (length ch.now ≡ challengeBytes s) × (i < s.tau) }
-    ensures { (result ≡ hiddenIndex s ch.now i) × (result < entriesOf s i) × (result < 4096) }
+    requires { (shape_ok s ≡ true) × (length ch.now ≡ challenge_bytes s) × (i < s.tau) }
+    ensures { (result ≡ hidden_index s ch.now i) × (result < entries_of s i) × (result < 4096) }
 {
     index(ch, rules::first_bit(s, i), rules::depth_of(s, i))
 }
 
 // The hidden leaf of vector i.
 pub fn hidden_leaf(s: Shape, ch: &[u8], i: usize) -> usize
-    requires { (shapeOk s ≡ true) × (length ch.now ≡ challengeBytes s) × (i < s.tau) }
-    ensures { (result ≡ hiddenLeaf s ch.now i) × (result < 172032) × (result + 1 < 2 * leaves s) }
+    requires { (shape_ok s ≡ true) × (length ch.now ≡ challenge_bytes s) × (i < s.tau) }
+    ensures { (result ≡ hidden_leaf s ch.now i) × (result < 172032) × (result + 1 < 2 * leaves s) }
 {
     let j = hidden_index(s, ch, i);
     rules::leaf_of(s, i, j)
@@ -70,8 +72,8 @@ pub fn hidden_leaf(s: Shape, ch: &[u8], i: usize) -> usize
 
 // Writes the hidden indices.
 pub fn write_indices(s: Shape, ch: &[u8], out: &mut [u32])
-    requires { (shapeOk s ≡ true) × (length ch.now ≡ challengeBytes s) × (length out.old ≡ s.tau) }
-    ensures { out.new ≡ hiddenIndices s ch.now }
+    requires { (shape_ok s ≡ true) × (length ch.now ≡ challenge_bytes s) × (length out.old ≡ s.tau) }
+    ensures { out.new ≡ hidden_indices s ch.now }
 {
     let mut i = 0;
     while i < out.len() {

@@ -9,7 +9,7 @@ use native.Mathlib.Decide.{dec_lt}
 use native.Mathlib.Omega.{arith}
 use lib.Bits.{bit_xor, xor_self, xor_zero_r}
 use lib.ListN.{length, get_or}
-use Rattle.spec.specs.Bytes.{bit, part, tabulate, concat, xorBelow}
+use Rattle.spec.specs.Bytes.{bit, part, tabulate, concat, xor_below}
 use Rattle.laws.proofs.Xor.{xor_assoc, xor-cancel}
 use Rattle.laws.proofs.Lists.{get_d_part}
 use Rattle.laws.proofs.Concat.{mul-within, is-concat}
@@ -24,7 +24,7 @@ off j h n x l e = ap (λ (m : ℕ). bit j m * x) e ∙ ap (λ (d : ℕ). d * x) 
 module _ (b h : ℕ) (row : ℕ → ℕ → ℕ) where
   -- nothing of the row of number 0 is in a column
   none : (first j p : ℕ) → first ≤ 1 → marked j first (λ x. row x p) ≡ 0
-  unfolding xorBelow
+  unfolding xor_below
   none zero j p l = refl
   none (suc zero) j p l = ap (λ (d : ℕ). bit_xor 0 (d * row 0 p)) (bit-zero j) ∙ ap (bit_xor 0) (zero-mul (row 0 p))
   none (suc (suc first)) j p l = absurd (omega arith)
@@ -39,7 +39,7 @@ module _ (b h : ℕ) (row : ℕ → ℕ → ℕ) where
   running-start n old new r s same clear =
       record {
         size = s ∙ r.size;
-        last = λ p hp. clear (b * h + p) (omega arith) ∙ sym (xor_self (xorBelow n (λ x. row x p)));
+        last = λ p hp. clear (b * h + p) (omega arith) ∙ sym (xor_self (xor_below n (λ x. row x p)));
         others = λ j p hj hp.
             same (b * j + p) (omega (arith, mul-within b j h hj)) ∙ r.others j p hj hp
             ∙ sym (ap (λ (x : ℕ). bit_xor (marked j n (λ x. row x p)) (bit j n * x)) (clear (b * h + p) (omega arith))
@@ -49,14 +49,14 @@ module _ (b h : ℕ) (row : ℕ → ℕ → ℕ) where
   -- the row of number n is added to the last column, and then the last column to those whose bit changes from n to n + 1
   pub running-next : (from n : ℕ) (old mid new : List ℕ) → Running b h from n row old → Xored (b * h) (b * h + b) (λ p. row n (p - b * h)) old mid
       → Done b h (λ j p. bit j (bit_xor n (n + 1)) * get_or mid (b * h + p) 0) mid new → Running b h from (n + 1) row new
-  unfolding xorBelow
+  unfolding xor_below
   running-next from n old mid new r x d =
       record {
         size = d.first.size ∙ x.size ∙ r.size;
         last = λ p hp.
             d.rest h p (omega arith) hp ∙ sum p hp ∙ ap (λ (y : ℕ). bit_xor y (row n p)) (r.last p hp)
-            ∙ xor_assoc (xorBelow from (λ x. row x p)) (xorBelow n (λ x. row x p)) (row n p)
-            ∙ ap (λ (m : ℕ). bit_xor (xorBelow from (λ x. row x p)) (xorBelow m (λ x. row x p))) (sym (add-one n));
+            ∙ xor_assoc (xor_below from (λ x. row x p)) (xor_below n (λ x. row x p)) (row n p)
+            ∙ ap (λ (m : ℕ). bit_xor (xor_below from (λ x. row x p)) (xor_below m (λ x. row x p))) (sym (add-one n));
         others = λ j p hj hp.
             d.first.known j p hj hp
             ∙ ap₂ (λ (y z : ℕ). bit_xor y (bit j (bit_xor n (n + 1)) * z))
@@ -91,11 +91,11 @@ module _ (b h : ℕ) (row : ℕ → ℕ → ℕ) where
           let whole : n ≡ 2 ^ suc h = e ∙ ap (λ (m : ℕ). 2 ^ m) (add-one h) in
           subst (λ (i : ℕ). get_or cols (b * i + p) 0 ≡ marked i n (λ x. row x p)) same
           (r.last p hp
-          ∙ ap₂ (λ (l m : ℕ). bit_xor (xorBelow l (λ x. row x p)) (xorBelow m (λ x. row x p))) e₁ whole
+          ∙ ap₂ (λ (l m : ℕ). bit_xor (xor_below l (λ x. row x p)) (xor_below m (λ x. row x p))) e₁ whole
           ∙ sym (ap (λ (m : ℕ). marked h m (λ x. row x p)) whole ∙ marked-highest h (λ x. row x p)))
 
   -- the sums of the two halves
   pub running-total : (half n p : ℕ) (x y : List ℕ) → p < b → Running b h 0 half row x → Running b h half n row y
-      → bit_xor (get_or x (b * h + p) 0) (get_or y (b * h + p) 0) ≡ xorBelow n (λ x. row x p)
-  unfolding xorBelow
-  running-total half n p x y hp r s = ap₂ bit_xor (r.last p hp) (s.last p hp) ∙ xor-cancel (xorBelow half (λ x. row x p)) (xorBelow n (λ x. row x p))
+      → bit_xor (get_or x (b * h + p) 0) (get_or y (b * h + p) 0) ≡ xor_below n (λ x. row x p)
+  unfolding xor_below
+  running-total half n p x y hp r s = ap₂ bit_xor (r.last p hp) (s.last p hp) ∙ xor-cancel (xor_below half (λ x. row x p)) (xor_below n (λ x. row x p))

@@ -1,7 +1,7 @@
 -- What xoring into a buffer does to it, as relations between the buffer before and after that compose.
 use Rattle.std.specs.Prelude.{ℕ, ◌+◌, ◌*◌, ◌≤◌, ◌<◌, ◌≡◌, List, length, get_or}
 use Rattle.std.specs.Int.Bits.{bit_xor}
-use Rattle.spec.specs.Bytes.{bit, xorBelow}
+use Rattle.spec.specs.Bytes.{bit, xor_below}
 
 -- `new` is `old` with f p xored into each byte p from lo on and below hi
 pub record Xored (lo hi : ℕ) (f : ℕ → ℕ) (old new : List ℕ) : Type 0 where
@@ -23,11 +23,11 @@ pub record Done (b k : ℕ) (f : ℕ → ℕ → ℕ) (old new : List ℕ) : Typ
 -- has the sum of the rows from `from` on; each other has the sum of those whose number has its bit set, and on top of it the last, where n has the bit set.
 pub record Running (b h from n : ℕ) (row : ℕ → ℕ → ℕ) (cols : List ℕ) : Type 0 where
   pub size : length cols ≡ b * (h + 1)
-  pub last : (p : ℕ) → p < b → get_or cols (b * h + p) 0 ≡ bit_xor (xorBelow from (λ x. row x p)) (xorBelow n (λ x. row x p))
+  pub last : (p : ℕ) → p < b → get_or cols (b * h + p) 0 ≡ bit_xor (xor_below from (λ x. row x p)) (xor_below n (λ x. row x p))
   pub others : (j p : ℕ) → j < h → p < b
-      → get_or cols (b * j + p) 0 ≡ bit_xor (xorBelow n (λ x. bit j x * row x p)) (bit j n * get_or cols (b * h + p) 0)
+      → get_or cols (b * j + p) 0 ≡ bit_xor (xor_below n (λ x. bit j x * row x p)) (bit j n * get_or cols (b * h + p) 0)
 
 -- the same columns but the last, of which nothing is known: each has the sum of the rows below n whose number has its bit set
 pub record Marked (b h n : ℕ) (row : ℕ → ℕ → ℕ) (cols : List ℕ) : Type 0 where
   pub size : length cols ≡ b * (h + 1)
-  pub others : (j p : ℕ) → j < h → p < b → get_or cols (b * j + p) 0 ≡ xorBelow n (λ x. bit j x * row x p)
+  pub others : (j p : ℕ) → j < h → p < b → get_or cols (b * j + p) 0 ≡ xor_below n (λ x. bit j x * row x p)

@@ -1,4 +1,6 @@
 // Blocks of a row, and whole strings, xored straight into the columns of a vector that is lent. No row is ever held.
+#![tactic(auto)]
+
 ghost use Rattle.std.specs.Prelude.{◌≡◌, ◌+◌, ◌-◌, ◌*◌, ◌≤◌, ◌<◌, length, get_or};
 ghost use Rattle.spec.specs.Bytes.{bit, tabulate};
 ghost use Rattle.columns.specs.Columns.{Xored, Added, Done};

@@ -11,23 +11,23 @@ use lib.ListN.{length, take}
 use lib.Seq.{take_all, length-take-le}
 use borrow.Author.Tests.{leb-true}
 use Rattle.spec.specs.declared.Shape.{Shape}
-use Rattle.spec.specs.Shapes.{level, shapeOk}
-use Rattle.spec.specs.Calls.{firstRefusal}
+use Rattle.spec.specs.Shapes.{level, shape_ok}
+use Rattle.spec.specs.Calls.{first_refusal}
 use Rattle.laws.proofs.Conjunctions.{refuted}
 use Rattle.planning_laws.proofs.ShapeFacts.{shape-facts, by_level}
-use Rattle.listing_line.specs.Line.{shapeLineOk}
+use Rattle.listing_line.specs.Line.{shape_line_ok}
 use Rattle.listing_line.proofs.Lines.{shape-line-length}
-use Rattle.enumeration_text.specs.Listed.{openBits}
+use Rattle.enumeration_text.specs.Listed.{open_bits}
 use Rattle.enumeration.specs.declared.Reading.{Reading}
-use Rattle.enumeration.specs.Enumeration.{shapeIn, enumerationNumber}
+use Rattle.enumeration.specs.Enumeration.{shape_in, enumeration_number}
 use Rattle.enumeration.specs.Pieces.{Reads, Readable}
 
-pub open_is : (s : Shape) → openBits s ≡ s.level - s.w
-unfolding openBits level
+pub open_is : (s : Shape) → open_bits s ≡ s.level - s.w
+unfolding open_bits level
 open_is s = refl
 
 -- with at most 16 open bits, and grinding bits of at most 127, the level is 128
-pub level-128 : (s : Shape) → shapeOk s ≡ true → openBits s ≤ 16 → level s ≡ 128
+pub level-128 : (s : Shape) → shape_ok s ≡ true → open_bits s ≤ 16 → level s ≡ 128
 unfolding level
 level-128 s ok h =
     let f = shape-facts s ok in
@@ -38,35 +38,35 @@ level-128 s ok h =
 -- ---- the number
 
 -- the tests of a shape
-abbrev pub shapeNumber : Shape → ℕ
-shapeNumber s = firstRefusal ((shapeOk s, 1) ∷ (leb (openBits s) 16, 12) ∷ [])
+abbrev pub shape_number : Shape → ℕ
+shape_number s = first_refusal ((shape_ok s, 1) ∷ (leb (open_bits s) 16, 12) ∷ [])
 
-pub number-of-shape : (s : Shape) → (shapeNumber s ≤ 12) × (shapeNumber s ≡ 0 → (shapeOk s ≡ true) × (openBits s ≤ 16))
-number-of-shape s = go (shapeOk s) (leb (openBits s) 16) refl
+pub number-of-shape : (s : Shape) → (shape_number s ≤ 12) × (shape_number s ≡ 0 → (shape_ok s ≡ true) × (open_bits s ≤ 16))
+number-of-shape s = go (shape_ok s) (leb (open_bits s) 16) refl
   where
-    go : (a b : Bool) → leb (openBits s) 16 ≡ b
-        → (firstRefusal ((a, 1) ∷ (b, 12) ∷ []) ≤ 12) × (firstRefusal ((a, 1) ∷ (b, 12) ∷ []) ≡ 0 → (a ≡ true) × (openBits s ≤ 16))
+    go : (a b : Bool) → leb (open_bits s) 16 ≡ b
+        → (first_refusal ((a, 1) ∷ (b, 12) ∷ []) ≤ 12) × (first_refusal ((a, 1) ∷ (b, 12) ∷ []) ≡ 0 → (a ≡ true) × (open_bits s ≤ 16))
     go false b e = (omega arith, λ z. absurd (omega arith))
     go true false e = (omega arith, λ z. absurd (omega arith))
     go true true e = (omega arith, λ z. (refl, leb-true _ _ e))
 
-pub unreadable : (input : List ℕ) → shapeLineOk input ≡ false → enumerationNumber input ≡ 7
-unfolding enumerationNumber
+pub unreadable : (input : List ℕ) → shape_line_ok input ≡ false → enumeration_number input ≡ 7
+unfolding enumeration_number
 unreadable input e = rw e refl
 
-pub read_number : (input : List ℕ) → shapeLineOk input ≡ true → enumerationNumber input ≡ shapeNumber (shapeIn input)
-unfolding enumerationNumber
+pub read_number : (input : List ℕ) → shape_line_ok input ≡ true → enumeration_number input ≡ shape_number (shape_in input)
+unfolding enumeration_number
 read_number input e = rw e refl
 
-pub readable : (r : Reading) → r.number ≡ shapeNumber r.shape → Readable r
+pub readable : (r : Reading) → r.number ≡ shape_number r.shape → Readable r
 readable r e =
     let q = number-of-shape r.shape in
     record { small = rw e q.0; shape = λ z. q.1 (sym e ∙ z) }
 
 -- ---- the first 64 bytes
 
-too_long : (input : List ℕ) → 24 < length input → enumerationNumber input ≡ 7
-too_long input h = unreadable input (sym (refuted (shapeLineOk input) (λ e. omega (arith, shape-line-length input e))))
+too_long : (input : List ℕ) → 24 < length input → enumeration_number input ≡ 7
+too_long input h = unreadable input (sym (refuted (shape_line_ok input) (λ e. omega (arith, shape-line-length input e))))
 
 -- an input and its first 64 bytes are the same input, or both are too long
 pub first-64 : (input : List ℕ) (r : Reading) → Reads (take 64 input) r → Reads input r

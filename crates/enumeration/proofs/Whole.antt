@@ -9,14 +9,14 @@ use native.Mathlib.Numerals.{add-one}
 use borrow.Author.Tests.{lt-ltb, le-ltb, ne_eqb}
 use Rattle.spec.specs.declared.Shape.{Shape}
 use Rattle.spec.specs.Bytes.{concat}
-use Rattle.listing_text.specs.Text.{refusedText}
+use Rattle.listing_text.specs.Text.{refused_text}
 use Rattle.laws.proofs.Concat.{concat-same, concat-append}
-use Rattle.enumeration_text.specs.Listed.{openBits, listed_at, listed}
-use Rattle.enumeration_text.specs.Text.{lineText, listText}
+use Rattle.enumeration_text.specs.Listed.{open_bits, listed_at, listed}
+use Rattle.enumeration_text.specs.Text.{line_text, list_text}
 use Rattle.enumeration_text.proofs.Lines.{lines-text}
 use Rattle.enumeration.specs.declared.Reading.{Reading}
-use Rattle.enumeration.specs.Enumeration.{shapeIn, enumerationNumber, enumeration}
-use Rattle.enumeration.specs.Pieces.{linePieces, listPiece, pieceCount, pieceText, Whole}
+use Rattle.enumeration.specs.Enumeration.{shape_in, enumeration_number, enumeration}
+use Rattle.enumeration.specs.Pieces.{line_pieces, list_piece, piece_count, piece_text, Whole}
 
 -- ---- pieces of w texts each, of n texts in all
 
@@ -48,27 +48,27 @@ module _ (f : ℕ → List ℕ) (n : ℕ) where
 
 -- ---- the output of a shape
 
-whole-list : (s : Shape) → concat (linePieces s + 1) (listPiece s) ≡ listText s.t (listed s)
-unfolding concat listText listed
+whole-list : (s : Shape) → concat (line_pieces s + 1) (list_piece s) ≡ list_text s.t (listed s)
+unfolding concat list_text listed
 whole-list s =
-    let n = 2 ^ openBits s in
-    ap (λ (m : ℕ). concat m (listPiece s)) (add-one (linePieces s))
+    let n = 2 ^ open_bits s in
+    ap (λ (m : ℕ). concat m (list_piece s)) (add-one (line_pieces s))
     ∙ ap₂ (λ (a b : List ℕ). a ++ b)
-    (concat-same (listPiece s) (part (λ x. lineText (listed_at s x)) n) (linePieces s) (λ i h. rw (lt-ltb i (linePieces s) h) refl)
-    ∙ all-parts (λ x. lineText (listed_at s x)) n
+    (concat-same (list_piece s) (part (λ x. line_text (listed_at s x)) n) (line_pieces s) (λ i h. rw (lt-ltb i (line_pieces s) h) refl)
+    ∙ all-parts (λ x. line_text (listed_at s x)) n
     ∙ sym (lines-text n (listed_at s)))
-    (rw (le-ltb (linePieces s) (linePieces s) (omega arith)) refl)
+    (rw (le-ltb (line_pieces s) (line_pieces s) (omega arith)) refl)
 
-refused-piece : (r : Reading) → (r.number ≡ 0 → ⊥) → pieceText r 0 ≡ refusedText r.number
-unfolding pieceText
+refused-piece : (r : Reading) → (r.number ≡ 0 → ⊥) → piece_text r 0 ≡ refused_text r.number
+unfolding piece_text
 refused-piece r e = rw (ne_eqb r.number 0 e) refl
 
 pub whole : Whole
-unfolding pieceCount pieceText enumeration concat
+unfolding piece_count piece_text enumeration concat
 whole input r q = go (ℕ_discrete r.number 0)
   where
-    go : Dec (r.number ≡ 0) → concat (pieceCount r) (pieceText r) ≡ enumeration input
+    go : Dec (r.number ≡ 0) → concat (piece_count r) (piece_text r) ≡ enumeration input
     go (yes e) =
-        let n : enumerationNumber input ≡ 0 = sym q.number ∙ e in
-        rw (n, e, q.shape e) (whole-list (shapeIn input))
+        let n : enumeration_number input ≡ 0 = sym q.number ∙ e in
+        rw (n, e, q.shape e) (whole-list (shape_in input))
     go (no e) = rw (← q.number, ne_eqb r.number 0 e) (refused-piece r e)

@@ -2,22 +2,22 @@
 -- enumeration_text/specs.
 use Rattle.std.specs.Prelude.{ℕ, cond, List, [], ◌∷◌, leb, eqb}
 use Rattle.spec.specs.declared.Shape.{Shape}
-use Rattle.spec.specs.Shapes.{resolved, shapeOk}
-use Rattle.spec.specs.Calls.{firstRefusal}
-use Rattle.listing_line.specs.Line.{shapeLineOk, shape_of}
-use Rattle.listing_text.specs.Text.{refusedText}
-use Rattle.enumeration_text.specs.Listed.{openBits, listed}
-use Rattle.enumeration_text.specs.Text.{listText}
+use Rattle.spec.specs.Shapes.{resolved, shape_ok}
+use Rattle.spec.specs.Calls.{first_refusal}
+use Rattle.listing_line.specs.Line.{shape_line_ok, shape_of}
+use Rattle.listing_text.specs.Text.{refused_text}
+use Rattle.enumeration_text.specs.Listed.{open_bits, listed}
+use Rattle.enumeration_text.specs.Text.{list_text}
 
 -- the shape that an input gives, four zeros being the default
-abbrev pub shapeIn : List ℕ → Shape
-shapeIn input = resolved (shape_of input)
+abbrev pub shape_in : List ℕ → Shape
+shape_in input = resolved (shape_of input)
 
 -- 7: any other input than a line with four numbers; 1: not a shape; 12: more than 16 bits of a challenge are no grinding bits
-unfoldable pub enumerationNumber : List ℕ → ℕ
-enumerationNumber input = firstRefusal ((shapeLineOk input, 7) ∷ (shapeOk (shapeIn input), 1) ∷ (leb (openBits (shapeIn input)) 16, 12) ∷ [])
+unfoldable pub enumeration_number : List ℕ → ℕ
+enumeration_number input = first_refusal ((shape_line_ok input, 7) ∷ (shape_ok (shape_in input), 1) ∷ (leb (open_bits (shape_in input)) 16, 12) ∷ [])
 
 unfoldable pub enumeration : List ℕ → List ℕ
 enumeration input =
-    let s = shapeIn input in
-    cond (eqb (enumerationNumber input) 0) (listText s.t (listed s)) (refusedText (enumerationNumber input))
+    let s = shape_in input in
+    cond (eqb (enumeration_number input) 0) (list_text s.t (listed s)) (refused_text (enumeration_number input))

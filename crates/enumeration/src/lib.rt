@@ -1,24 +1,26 @@
 // The program that lists all challenges of a small shape (document 02, E10), from the bytes of its input to the bytes of its output, piece after piece.
+#![tactic(auto)]
+
 ghost use Rattle.std.specs.Prelude.{◌≡◌, true, cond, List, [], ◌∷◌, ℕ, ◌+◌, ◌*◌, ◌^◌, ◌<◌, ◌≤◌, leb, length, take, drop};
-ghost use Rattle.spec.specs.Calls.{firstRefusal};
+ghost use Rattle.spec.specs.Calls.{first_refusal};
 ghost use Rattle.spec.specs.declared.Shape.{Shape};
-ghost use Rattle.spec.specs.Shapes.{level, shapeOk, plannedCount};
+ghost use Rattle.spec.specs.Shapes.{level, shape_ok, planned_count};
 ghost use Rattle.listing_text.specs.Put.{Put};
-ghost use Rattle.enumeration_text.specs.Listed.{openBits, challengeAt, listed_at, listed, within, total};
-ghost use Rattle.enumeration_text.specs.Text.{lineText};
-ghost use Rattle.enumeration.specs.Pieces.{Reads, Readable, lines_from, totalsText, linePieces, listPiece, pieceCount, pieceText};
+ghost use Rattle.enumeration_text.specs.Listed.{open_bits, challenge_at, listed_at, listed, within, total};
+ghost use Rattle.enumeration_text.specs.Text.{line_text};
+ghost use Rattle.enumeration.specs.Pieces.{Reads, Readable, lines_from, totals_text, line_pieces, list_piece, piece_count, piece_text};
 
 use spec::Shape;
 
 // What an input gives: 0 or the number of its refusal, and with 0 the shape, four zeros resolved.
-#[derive(Drop)]
+#[derive(Clone, Copy)]
 pub struct Reading {
     pub number: usize,
     pub shape: Shape,
 }
 
 // How many lines need at most T nodes, and the sum of all counts.
-#[derive(Drop)]
+#[derive(Clone, Copy)]
 struct Totals {
     within: usize,
     total: usize,
@@ -26,7 +28,7 @@ struct Totals {
 
 // 0, or the number of the first of the two rules that the shape breaks.
 fn shape_number(s: Shape) -> usize
-    ensures { result ≡ firstRefusal ((shapeOk s, 1) ∷ (leb (openBits s) 16, 12) ∷ []) }
+    ensures { result ≡ first_refusal ((shape_ok s, 1) ∷ (leb (open_bits s) 16, 12) ∷ []) }
 {
     if !rules::is_shape(s) {
         return 1;
@@ -70,7 +72,7 @@ pub fn read_start(start: [u8; 64], n: usize) -> Reading
 
 // The bytes of challenge x at level 128: x, least byte first.
 fn challenge_at(x: usize) -> [u8; 16]
-    ensures { (s : Shape) → level s ≡ 128 → result ≡ challengeAt s x }
+    ensures { (s : Shape) → level s ≡ 128 → result ≡ challenge_at s x }
 {
     let mut challenge = [0u8; 16];
     let mut rest = x;
@@ -85,8 +87,8 @@ fn challenge_at(x: usize) -> [u8; 16]
 
 // The node count of a challenge. The list has room for one node, and is not read.
 fn count_of(s: Shape, challenge: [u8; 16]) -> usize
-    requires { (shapeOk s ≡ true) × (level s ≡ 128) }
-    ensures { (result ≡ plannedCount s challenge) × (result < 86016) }
+    requires { (shape_ok s ≡ true) × (level s ≡ 128) }
+    ensures { (result ≡ planned_count s challenge) × (result < 86016) }
 {
     let mut none = [0u32; 1];
     planning::revealed_nodes(s, &challenge, &mut none)
@@ -94,8 +96,8 @@ fn count_of(s: Shape, challenge: [u8; 16]) -> usize
 
 // Puts the line of challenge x.
 fn put_line(s: Shape, x: usize, out: &mut [u8], at: usize) -> usize
-    requires { (shapeOk s ≡ true) × (level s ≡ 128) × (at + 39 ≤ length out.old) }
-    ensures { (Put (lineText (listed_at s x)) at out.old out.new result) × (result ≤ at + 39) }
+    requires { (shape_ok s ≡ true) × (level s ≡ 128) × (at + 39 ≤ length out.old) }
+    ensures { (Put (line_text (listed_at s x)) at out.old out.new result) × (result ≤ at + 39) }
 {
     let challenge = challenge_at(x);
     let count = count_of(s, challenge);
@@ -104,7 +106,7 @@ fn put_line(s: Shape, x: usize, out: &mut [u8], at: usize) -> usize
 
 // Puts n lines, from line `from` on.
 fn put_lines(s: Shape, from: usize, n: usize, out: &mut [u8]) -> usize
-    requires { (shapeOk s ≡ true) × (level s ≡ 128) × (from + n ≤ 65536) × (39 * n ≤ length out.old) }
+    requires { (shape_ok s ≡ true) × (level s ≡ 128) × (from + n ≤ 65536) × (39 * n ≤ length out.old) }
     ensures { Put (lines_from s from n) 0 out.old out.new result }
 {
     let mut end = 0;
@@ -118,8 +120,8 @@ fn put_lines(s: Shape, from: usize, n: usize, out: &mut [u8]) -> usize
 
 // How many challenges are listed.
 fn line_count(s: Shape) -> usize
-    requires { (shapeOk s ≡ true) × (openBits s ≤ 16) }
-    ensures { (result ≡ 2 ^ openBits s) × (1 ≤ result) × (result ≤ 65536) }
+    requires { (shape_ok s ≡ true) × (open_bits s ≤ 16) }
+    ensures { (result ≡ 2 ^ open_bits s) × (1 ≤ result) × (result ≤ 65536) }
 {
     1usize << (s.level - s.w)
 }
@@ -133,7 +135,7 @@ fn one_within(count: usize, t: usize) -> usize
 
 // What the lines give, counted anew.
 fn count_all(s: Shape) -> Totals
-    requires { (shapeOk s ≡ true) × (openBits s ≤ 16) }
+    requires { (shape_ok s ≡ true) × (open_bits s ≤ 16) }
     ensures { (result.within ≡ within s.t (listed s)) × (result.total ≡ total (listed s)) × (result.within ≤ 65536) × (result.total ≤ 5637144576) }
 {
     let all = line_count(s);
@@ -152,8 +154,8 @@ fn count_all(s: Shape) -> Totals
 
 // Puts the last line.
 fn put_totals(s: Shape, out: &mut [u8]) -> usize
-    requires { (shapeOk s ≡ true) × (openBits s ≤ 16) × (22 ≤ length out.old) }
-    ensures { Put (totalsText s) 0 out.old out.new result }
+    requires { (shape_ok s ≡ true) × (open_bits s ≤ 16) × (22 ≤ length out.old) }
+    ensures { Put (totals_text s) 0 out.old out.new result }
 {
     let t = count_all(s);
     listing_text::put_pair(out, 0, t.within, t.total)
@@ -161,8 +163,8 @@ fn put_totals(s: Shape, out: &mut [u8]) -> usize
 
 // How many pieces the lines have.
 fn line_pieces(s: Shape) -> usize
-    requires { (shapeOk s ≡ true) × (openBits s ≤ 16) }
-    ensures { (result ≡ linePieces s) × (result ≤ 64) }
+    requires { (shape_ok s ≡ true) × (open_bits s ≤ 16) }
+    ensures { (result ≡ line_pieces s) × (result ≤ 64) }
 {
     (line_count(s) + 1023) / 1024
 }
@@ -170,7 +172,7 @@ fn line_pieces(s: Shape) -> usize
 // How many pieces the output has.
 pub fn piece_count(r: Reading) -> usize
     requires { Readable r }
-    ensures { result ≡ pieceCount r }
+    ensures { result ≡ piece_count r }
 {
     if r.number != 0 {
         return 1;
@@ -181,8 +183,8 @@ pub fn piece_count(r: Reading) -> usize
 
 // Puts piece i of the output of a shape.
 fn put_list_piece(s: Shape, i: usize, out: &mut [u8]) -> usize
-    requires { (shapeOk s ≡ true) × (openBits s ≤ 16) × (39936 ≤ length out.old) }
-    ensures { Put (listPiece s i) 0 out.old out.new result }
+    requires { (shape_ok s ≡ true) × (open_bits s ≤ 16) × (39936 ≤ length out.old) }
+    ensures { Put (list_piece s i) 0 out.old out.new result }
 {
     if i < line_pieces(s) {
         let from = 1024 * i;
@@ -195,7 +197,7 @@ fn put_list_piece(s: Shape, i: usize, out: &mut [u8]) -> usize
 // Writes piece i of the output to the front of `out`, and answers its length.
 pub fn put_piece(r: Reading, i: usize, out: &mut [u8]) -> usize
     requires { Readable r × (39936 ≤ length out.old) }
-    ensures { (result ≤ length out.new) × (take result out.new ≡ pieceText r i) × (drop result out.new ≡ drop result out.old) }
+    ensures { (result ≤ length out.new) × (take result out.new ≡ piece_text r i) × (drop result out.new ≡ drop result out.old) }
 {
     if r.number != 0 {
         return listing_text::put_refused(out, r.number);

@@ -2,15 +2,15 @@
 use Rattle.std.specs.Prelude.{ℕ, ◌+◌, ◌-◌, ◌^◌, cond, List, [], ◌∷◌, leb}
 use Rattle.spec.specs.declared.Shape.{Shape}
 use Rattle.spec.specs.Bytes.{tabulate, digits}
-use Rattle.spec.specs.Shapes.{level, challengeBytes, plannedCount}
+use Rattle.spec.specs.Shapes.{level, challenge_bytes, planned_count}
 
 -- how many bits of a challenge are no grinding bits
-unfoldable pub openBits : Shape → ℕ
-openBits s = level s - s.w
+unfoldable pub open_bits : Shape → ℕ
+open_bits s = level s - s.w
 
 -- challenge x: the bytes that write the number x, least first. The lowest bits are those of vector 0, so it varies fastest (Order.antt)
-unfoldable pub challengeAt : Shape → ℕ → List ℕ
-challengeAt s x = digits 8 (challengeBytes s) x
+unfoldable pub challenge_at : Shape → ℕ → List ℕ
+challenge_at s x = digits 8 (challenge_bytes s) x
 
 -- what a line tells: a challenge, and how many nodes its opening reveals
 pub record Listed : Type 0 where
@@ -18,11 +18,11 @@ pub record Listed : Type 0 where
   pub count : ℕ
 
 unfoldable pub listed_at : Shape → ℕ → Listed
-listed_at s x = record { challenge = challengeAt s x; count = plannedCount s (challengeAt s x) }
+listed_at s x = record { challenge = challenge_at s x; count = planned_count s (challenge_at s x) }
 
 -- all lines, in their order
 unfoldable pub listed : Shape → List Listed
-listed s = tabulate (2 ^ openBits s) (listed_at s)
+listed s = tabulate (2 ^ open_bits s) (listed_at s)
 
 -- ---- what the lines give
 

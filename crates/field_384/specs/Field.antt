@@ -5,6 +5,6 @@ use Rattle.std.specs.Prelude.{ℕ, ◌+◌, ◌^◌}
 abbrev pub low384 : ℕ
 low384 = 2 ^ 12 + 2 ^ 3 + 2 ^ 2 + 1
 
--- P384, `fieldPolynomial` of spec
+-- P384, `field_polynomial` of spec
 abbrev pub p384 : ℕ
 p384 = 2 ^ 384 + 2 ^ 12 + 2 ^ 3 + 2 ^ 2 + 1

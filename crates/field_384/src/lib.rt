@@ -1,9 +1,11 @@
 // The leaf hash in the field of 2 ^ 384 elements. An element is six limbs of 64 bits, least first.
+#![tactic(auto)]
+
 ghost use Rattle.std.specs.Prelude.{◌≡◌, List, [], ℕ, ◌+◌, ◌*◌, ◌/◌, ◌%◌, ◌^◌, ◌≤◌, ◌<◌, length, get_or, take, drop};
 ghost use Rattle.std.specs.Int.Bits.{bit_xor};
 ghost use Rattle.spec.specs.Bytes.{number, tabulate};
-ghost use Rattle.spec.specs.Polynomials.{product, remainder, fieldProduct};
-ghost use Rattle.spec.specs.LeafHash.{leafHashByte};
+ghost use Rattle.spec.specs.Polynomials.{product, remainder, field_product};
+ghost use Rattle.spec.specs.LeafHash.{leaf_hash_byte};
 ghost use Rattle.field_limbs.specs.Multiples.{Multiples};
 ghost use Rattle.field_384.specs.Field.{low384, p384};
 
@@ -92,7 +94,7 @@ fn window(t: &[[u64; 12]; 16], a: [u64; 6], d: u64) -> [u64; 6]
 
 // The product of x, given as its multiples, and the element of the bytes s, from the top byte down.
 fn multiply(t: &[[u64; 12]; 16], s: &[u8]) -> [u64; 6]
-    ensures { (x : ℕ) → Multiples 384 p384 x t.now → number 64 result ≡ fieldProduct 384 p384 (8 * length s.now) x (number 8 s.now) }
+    ensures { (x : ℕ) → Multiples 384 p384 x t.now → number 64 result ≡ field_product 384 p384 (8 * length s.now) x (number 8 s.now) }
 {
     let mut r = [0u64; 6];
     let mut j = s.len();
@@ -117,7 +119,7 @@ fn write(x: [u64; 6], y: &[u8], out: &mut [u8])
 // The leaf hash of 64 bytes: the hash key, given as its multiples, times the first 16, plus the other 48.
 pub fn leaf_hash(t: &[[u64; 12]; 16], stretched: &[u8], out: &mut [u8])
     requires { (length stretched.now ≡ 64) × (length out.old ≡ 48) }
-    ensures { (u : List ℕ) → Multiples 384 p384 (number 8 u) t.now → out.new ≡ tabulate 48 (leafHashByte 384 p384 u (take 16 stretched.now) (drop 16 stretched.now)) }
+    ensures { (u : List ℕ) → Multiples 384 p384 (number 8 u) t.now → out.new ≡ tabulate 48 (leaf_hash_byte 384 p384 u (take 16 stretched.now) (drop 16 stretched.now)) }
 {
     let product = multiply(t, &stretched[..16]);
     write(product, &stretched[16..64], out);

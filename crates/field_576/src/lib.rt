@@ -1,9 +1,11 @@
 // The leaf hash in the field of 2 ^ 576 elements. An element is nine limbs of 64 bits, least first.
+#![tactic(auto)]
+
 ghost use Rattle.std.specs.Prelude.{◌≡◌, List, [], ℕ, ◌+◌, ◌*◌, ◌/◌, ◌%◌, ◌^◌, ◌≤◌, ◌<◌, length, get_or, take, drop};
 ghost use Rattle.std.specs.Int.Bits.{bit_xor};
 ghost use Rattle.spec.specs.Bytes.{number, tabulate};
-ghost use Rattle.spec.specs.Polynomials.{product, remainder, fieldProduct};
-ghost use Rattle.spec.specs.LeafHash.{leafHashByte};
+ghost use Rattle.spec.specs.Polynomials.{product, remainder, field_product};
+ghost use Rattle.spec.specs.LeafHash.{leaf_hash_byte};
 ghost use Rattle.field_limbs.specs.Multiples.{Multiples};
 ghost use Rattle.field_576.specs.Field.{low576, p576};
 
@@ -94,7 +96,7 @@ fn window(t: &[[u64; 12]; 16], a: [u64; 9], d: u64) -> [u64; 9]
 
 // The product of x, given as its multiples, and the element of the bytes s, from the top byte down.
 fn multiply(t: &[[u64; 12]; 16], s: &[u8]) -> [u64; 9]
-    ensures { (x : ℕ) → Multiples 576 p576 x t.now → number 64 result ≡ fieldProduct 576 p576 (8 * length s.now) x (number 8 s.now) }
+    ensures { (x : ℕ) → Multiples 576 p576 x t.now → number 64 result ≡ field_product 576 p576 (8 * length s.now) x (number 8 s.now) }
 {
     let mut r = [0u64; 9];
     let mut j = s.len();
@@ -119,7 +121,7 @@ fn write(x: [u64; 9], y: &[u8], out: &mut [u8])
 // The leaf hash of 96 bytes: the hash key, given as its multiples, times the first 24, plus the other 72.
 pub fn leaf_hash(t: &[[u64; 12]; 16], stretched: &[u8], out: &mut [u8])
     requires { (length stretched.now ≡ 96) × (length out.old ≡ 72) }
-    ensures { (u : List ℕ) → Multiples 576 p576 (number 8 u) t.now → out.new ≡ tabulate 72 (leafHashByte 576 p576 u (take 24 stretched.now) (drop 24 stretched.now)) }
+    ensures { (u : List ℕ) → Multiples 576 p576 (number 8 u) t.now → out.new ≡ tabulate 72 (leaf_hash_byte 576 p576 u (take 24 stretched.now) (drop 24 stretched.now)) }
 {
     let product = multiply(t, &stretched[..24]);
     write(product, &stretched[24..96], out);

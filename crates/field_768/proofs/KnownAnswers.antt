@@ -3,13 +3,13 @@ use mathlib.Core.Path.{◌≡◌, refl}
 use mathlib.Core.List.{List, [], ◌∷◌}
 use Prim.Native.Nat.{ℕ, ◌+◌, ◌^◌}
 use Rattle.spec.specs.Bytes.{number}
-use Rattle.spec.specs.Polynomials.{product, remainder, fieldProduct}
-use Rattle.spec.specs.LeafHash.{leafHash}
+use Rattle.spec.specs.Polynomials.{product, remainder, field_product}
+use Rattle.spec.specs.LeafHash.{leaf_hash}
 use Rattle.field_768.specs.Field.{p768}
 
 -- alpha ^ 767 times alpha
-pub top-times-alpha : fieldProduct 768 p768 2 (2 ^ 767) 2 ≡ 2 ^ 19 + 2 ^ 17 + 2 ^ 4 + 1
-unfolding product remainder fieldProduct
+pub top-times-alpha : field_product 768 p768 2 (2 ^ 767) 2 ≡ 2 ^ 19 + 2 ^ 17 + 2 ^ 4 + 1
+unfolding product remainder field_product
 top-times-alpha = refl
 
 -- LeafHash: a hash key, x0 and x1
@@ -23,8 +23,8 @@ abbrev x₁ : List ℕ
 x₁ = 3 ∷ 8 ∷ 13 ∷ 18 ∷ 23 ∷ 28 ∷ 33 ∷ 38 ∷ 43 ∷ 48 ∷ 53 ∷ 58 ∷ 63 ∷ 68 ∷ 73 ∷ 78 ∷ 83 ∷ 88 ∷ 93 ∷ 98 ∷ 103 ∷ 108 ∷ 113 ∷ 118 ∷ 123 ∷ 128 ∷ 133 ∷ 138 ∷ 143 ∷ 148 ∷ 153 ∷ 158 ∷ 163 ∷ 168 ∷ 173 ∷ 178 ∷ 183 ∷ 188 ∷ 193 ∷ 198 ∷ 203 ∷ 208 ∷ 213 ∷ 218 ∷ 223 ∷ 228 ∷ 233 ∷ 238 ∷ 243 ∷ 248 ∷ 253 ∷ 2 ∷ 7 ∷ 12 ∷ 17 ∷ 22 ∷ 27 ∷ 32 ∷ 37 ∷ 42 ∷ 47 ∷ 52 ∷ 57 ∷ 62 ∷ 67 ∷ 72 ∷ 77 ∷ 82 ∷ 87 ∷ 92 ∷ 97 ∷ 102 ∷ 107 ∷ 112 ∷ 117 ∷ 122 ∷ 127 ∷ 132 ∷ 137 ∷ 142 ∷ 147 ∷ 152 ∷ 157 ∷ 162 ∷ 167 ∷ 172 ∷ 177 ∷ 182 ∷ 187 ∷ 192 ∷ 197 ∷ 202 ∷ 207 ∷ 212 ∷ 217 ∷ 222 ∷ []
 
 pub leaf-hash :
-    leafHash 768 p768 u x₀ x₁
+    leaf_hash 768 p768 u x₀ x₁
     ≡ number 8
     (18 ∷ 213 ∷ 57 ∷ 113 ∷ 24 ∷ 14 ∷ 142 ∷ 36 ∷ 171 ∷ 232 ∷ 151 ∷ 220 ∷ 42 ∷ 199 ∷ 176 ∷ 148 ∷ 171 ∷ 213 ∷ 37 ∷ 219 ∷ 152 ∷ 49 ∷ 220 ∷ 96 ∷ 81 ∷ 155 ∷ 152 ∷ 228 ∷ 223 ∷ 94 ∷ 115 ∷ 227 ∷ 91 ∷ 165 ∷ 234 ∷ 82 ∷ 196 ∷ 161 ∷ 26 ∷ 208 ∷ 57 ∷ 249 ∷ 30 ∷ 165 ∷ 162 ∷ 161 ∷ 146 ∷ 60 ∷ 108 ∷ 171 ∷ 5 ∷ 208 ∷ 37 ∷ 180 ∷ 57 ∷ 212 ∷ 144 ∷ 97 ∷ 141 ∷ 192 ∷ 101 ∷ 137 ∷ 86 ∷ 172 ∷ 175 ∷ 92 ∷ 212 ∷ 207 ∷ 40 ∷ 74 ∷ 75 ∷ 19 ∷ 206 ∷ 126 ∷ 230 ∷ 229 ∷ 86 ∷ 172 ∷ 201 ∷ 244 ∷ 123 ∷ 196 ∷ 119 ∷ 148 ∷ 27 ∷ 168 ∷ 210 ∷ 190 ∷ 129 ∷ 37 ∷ 123 ∷ 196 ∷ 77 ∷ 29 ∷ 58 ∷ 240 ∷ [])
-unfolding number product remainder fieldProduct leafHash
+unfolding number product remainder field_product leaf_hash
 leaf-hash = refl

@@ -1,9 +1,11 @@
 // The leaf hash in the field of 2 ^ 768 elements. An element is twelve limbs of 64 bits, least first.
+#![tactic(auto)]
+
 ghost use Rattle.std.specs.Prelude.{◌≡◌, List, [], ℕ, ◌+◌, ◌*◌, ◌/◌, ◌%◌, ◌^◌, ◌≤◌, ◌<◌, length, get_or, take, drop};
 ghost use Rattle.std.specs.Int.Bits.{bit_xor};
 ghost use Rattle.spec.specs.Bytes.{number, tabulate};
-ghost use Rattle.spec.specs.Polynomials.{product, remainder, fieldProduct};
-ghost use Rattle.spec.specs.LeafHash.{leafHashByte};
+ghost use Rattle.spec.specs.Polynomials.{product, remainder, field_product};
+ghost use Rattle.spec.specs.LeafHash.{leaf_hash_byte};
 ghost use Rattle.field_limbs.specs.Multiples.{Multiples};
 ghost use Rattle.field_768.specs.Field.{low768, p768};
 
@@ -78,7 +80,7 @@ fn window(t: &[[u64; 12]; 16], a: [u64; 12], d: u64) -> [u64; 12]
 
 // The product of x, given as its multiples, and the element of the bytes s, from the top byte down.
 fn multiply(t: &[[u64; 12]; 16], s: &[u8]) -> [u64; 12]
-    ensures { (x : ℕ) → Multiples 768 p768 x t.now → number 64 result ≡ fieldProduct 768 p768 (8 * length s.now) x (number 8 s.now) }
+    ensures { (x : ℕ) → Multiples 768 p768 x t.now → number 64 result ≡ field_product 768 p768 (8 * length s.now) x (number 8 s.now) }
 {
     let mut r = [0u64; 12];
     let mut j = s.len();
@@ -103,7 +105,7 @@ fn write(x: [u64; 12], y: &[u8], out: &mut [u8])
 // The leaf hash of 128 bytes: the hash key, given as its multiples, times the first 32, plus the other 96.
 pub fn leaf_hash(t: &[[u64; 12]; 16], stretched: &[u8], out: &mut [u8])
     requires { (length stretched.now ≡ 128) × (length out.old ≡ 96) }
-    ensures { (u : List ℕ) → Multiples 768 p768 (number 8 u) t.now → out.new ≡ tabulate 96 (leafHashByte 768 p768 u (take 32 stretched.now) (drop 32 stretched.now)) }
+    ensures { (u : List ℕ) → Multiples 768 p768 (number 8 u) t.now → out.new ≡ tabulate 96 (leaf_hash_byte 768 p768 u (take 32 stretched.now) (drop 32 stretched.now)) }
 {
     let product = multiply(t, &stretched[..32]);
     write(product, &stretched[32..128], out);

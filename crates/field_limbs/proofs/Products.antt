@@ -10,18 +10,18 @@ use lib.Bits.{bit_xor}
 use lib.ListN.{length, get_or, set, drop, length-set}
 use lib.Seq.{get_or-set_same, get_or-set_other, drop-cons, drop-length}
 use Rattle.spec.specs.Bytes.{number}
-use Rattle.spec.specs.Polynomials.{remainder, fieldProduct}
+use Rattle.spec.specs.Polynomials.{remainder, field_product}
 use Rattle.laws.proofs.Xor.{digit-cases}
 use Rattle.laws.proofs.FieldProduct.{field_lt, field-zero, field-one, field-half, field-byte}
 use Rattle.field_limbs.specs.Multiples.{Multiples}
 
 -- the entries of t below d are those of x
 abbrev pub Entries : ℕ → ℕ → ℕ → List (List ℕ) → ℕ → Type 0
-Entries w m x t d = (2 ≤ d) × (d ≤ 16) × (length t ≡ 16) × ((k : ℕ) → k < d → number 64 (get_or t k []) ≡ fieldProduct w m 4 x k)
+Entries w m x t d = (2 ≤ d) × (d ≤ 16) × (length t ≡ 16) × ((k : ℕ) → k < d → number 64 (get_or t k []) ≡ field_product w m 4 x k)
 
 -- r is the product with the bytes of s from j on
 abbrev pub Multiplied : ℕ → ℕ → List (List ℕ) → List ℕ → List ℕ → ℕ → Type 0
-Multiplied w m t s r j = (j ≤ length s) × ((x : ℕ) → Multiples w m x t → number 64 r ≡ fieldProduct w m (8 * (length s - j)) x (number 8 (drop j s)))
+Multiplied w m t s r j = (j ≤ length s) × ((x : ℕ) → Multiples w m x t → number 64 r ≡ field_product w m (8 * (length s - j)) x (number 8 (drop j s)))
 
 -- m has degree w
 module _ (w m : ℕ) (low : 2 ^ w ≤ m) (high : m < 2 ^ suc w) where
@@ -30,7 +30,7 @@ module _ (w m : ℕ) (low : 2 ^ w ≤ m) (high : m < 2 ^ suc w) where
     omega arith,
     omega arith,
     l,
-    digit-cases (λ (k : ℕ). number 64 (get_or t k []) ≡ fieldProduct w m 4 x k) (e0 ∙ sym (field-zero w m low high x hx 4)) (e1 ∙ sym (field-one w m low high x hx 3)),
+    digit-cases (λ (k : ℕ). number 64 (get_or t k []) ≡ field_product w m 4 x k) (e0 ∙ sym (field-zero w m low high x hx 4)) (e1 ∙ sym (field-one w m low high x hx 3)),
   )
 
   -- a is alpha times the half, v the sum of it and the entry of the lowest term; both entries fit the width
@@ -42,7 +42,7 @@ module _ (w m : ℕ) (low : 2 ^ w ≤ m) (high : m < 2 ^ suc w) where
     omega arith,
     omega arith,
     simp length-set j.2,
-    below_more (λ (k : ℕ). number 64 (get_or (set t d v) k []) ≡ fieldProduct w m 4 x k) d
+    below_more (λ (k : ℕ). number 64 (get_or (set t d v) k []) ≡ field_product w m 4 x k) d
         (λ k h. ap (number 64) (get_or-set_other t d k v [] (ne_of_lt h)) ∙ j.3 k h)
         (ap (number 64) (get_or-set_same t d v [] (omega arith))
         ∙ ev (rw (j.3 (d % 2) (omega arith)) (field_lt w m low high x hx 4 (d % 2)))
@@ -56,7 +56,7 @@ module _ (w m : ℕ) (low : 2 ^ w ≤ m) (high : m < 2 ^ suc w) where
   multiplied-none t s r e =
       let n = 8 * (length s - length s) in (
         omega arith,
-        λ x h. e ∙ sym (ap (λ (l : List ℕ). fieldProduct w m n x (number 8 l)) (drop-length s) ∙ field-zero w m low high x h.degree n),
+        λ x h. e ∙ sym (ap (λ (l : List ℕ). field_product w m n x (number 8 l)) (drop-length s) ∙ field-zero w m low high x h.degree n),
       )
 
   -- b is the byte before those; a and `after` are the two windows, of entries that fit the width
@@ -81,9 +81,9 @@ module _ (w m : ℕ) (low : 2 ^ w ≤ m) (high : m < 2 ^ suc w) where
             er (small (b % 16) bottom)
             ∙ ap₂ step (ea (small (b / 16) top) ∙ ap₂ step (p.1 x h) (h.entry (b / 16) top)) (h.entry (b % 16) bottom)
             ∙ field-byte w m low high x h.degree n q b hb
-            ∙ ap₂ (λ (k v : ℕ). fieldProduct w m k x v) count value,
+            ∙ ap₂ (λ (k v : ℕ). field_product w m k x v) count value,
       )
 
   pub multiplied-all : (t : List (List ℕ)) (s r : List ℕ) (j : ℕ) → j ≡ 0 → Multiplied w m t s r j
-      → (x : ℕ) → Multiples w m x t → number 64 r ≡ fieldProduct w m (8 * length s) x (number 8 s)
+      → (x : ℕ) → Multiples w m x t → number 64 r ≡ field_product w m (8 * length s) x (number 8 s)
   multiplied-all t s r j e p = rw (e, sub-zero) at p.1

@@ -1,4 +1,6 @@
 // What the fields of every width share: a byte as a limb of 64 bits, the bytes of a limb, and in ../proofs the steps of a loop over limbs, over their number.
+#![tactic(auto)]
+
 ghost use Rattle.std.specs.Prelude.{◌≡◌, ◌++◌, ◌+◌, ◌*◌, ◌/◌, ◌%◌, ◌^◌, ◌≤◌, ◌<◌, length, get_or, take};
 ghost use Rattle.std.specs.Int.Bits.{bit_xor};
 ghost use Rattle.spec.specs.Bytes.{tabulate};

@@ -1,28 +1,28 @@
 -- The bytes of a block, as bytes of the output; the state that is encrypted, by the version.
 use Rattle.std.proofs.Common.{◌≡◌, ℕ, ◌+◌, ◌*◌, ◌<◌, List, get_or, ap, ◌∙◌, ap₂, arith}
-use Rattle.spec.specs.Aes.{state_of, bytesOf, cipher, keyExpansion}
-use Rattle.spec.specs.Generator.{addToUpperWord, addToLowerWord}
-use Rattle.spec.specs.Version1.{addToIv}
+use Rattle.spec.specs.Aes.{state_of, bytes_of, cipher, key_expansion}
+use Rattle.spec.specs.Generator.{add_to_upper_word, add_to_lower_word}
+use Rattle.spec.specs.Version1.{add_to_iv}
 use Rattle.job.specs.declared.Version.{Version}
 use Rattle.job.specs.declared.Version.TheVariants.{One, Two}
 use Rattle.job.specs.declared.Nonce.{Nonce}
-use Rattle.job.specs.Versions.{counterOf, block_of, byte_of}
+use Rattle.job.specs.Versions.{counter_of, block_of, byte_of}
 
 module _ (v : Version) (iv : List ℕ) (tweak n : ℕ) where
-  pub counter-one : (y : List ℕ) (s : List (List ℕ)) → v ≡ One → y ≡ addToIv iv n → s ≡ state_of y → s ≡ counterOf v iv tweak n
-  unfolding counterOf
+  pub counter-one : (y : List ℕ) (s : List (List ℕ)) → v ≡ One → y ≡ add_to_iv iv n → s ≡ state_of y → s ≡ counter_of v iv tweak n
+  unfolding counter_of
   counter-one y s e ey es = rw e (es ∙ ap state_of ey)
 
-  pub counter-two : (first s : List (List ℕ)) → v ≡ Two → first ≡ state_of iv → s ≡ addToLowerWord (addToUpperWord first tweak) n → s ≡ counterOf v iv tweak n
-  unfolding counterOf
-  counter-two first s e ef es = rw e (es ∙ ap (λ (i : List (List ℕ)). addToLowerWord (addToUpperWord i tweak) n) ef)
+  pub counter-two : (first s : List (List ℕ)) → v ≡ Two → first ≡ state_of iv → s ≡ add_to_lower_word (add_to_upper_word first tweak) n → s ≡ counter_of v iv tweak n
+  unfolding counter_of
+  counter-two first s e ef es = rw e (es ∙ ap (λ (i : List (List ℕ)). add_to_lower_word (add_to_upper_word i tweak) n) ef)
 
 module _ (nk : ℕ) (key : List ℕ) (x : Nonce) where
   -- a block, from the state that is encrypted
-  pub block-is : (n : ℕ) (s : List (List ℕ)) (r : List ℕ) → s ≡ counterOf x.version x.iv x.tweak n
-      → r ≡ bytesOf (cipher (nk + 6) (keyExpansion nk key) s) → r ≡ block_of nk key x n
+  pub block-is : (n : ℕ) (s : List (List ℕ)) (r : List ℕ) → s ≡ counter_of x.version x.iv x.tweak n
+      → r ≡ bytes_of (cipher (nk + 6) (key_expansion nk key) s) → r ≡ block_of nk key x n
   unfolding block_of
-  block-is n s r es er = er ∙ ap (λ (y : List (List ℕ)). bytesOf (cipher (nk + 6) (keyExpansion nk key) y)) es
+  block-is n s r es er = er ∙ ap (λ (y : List (List ℕ)). bytes_of (cipher (nk + 6) (key_expansion nk key) y)) es
 
   -- bytes of block n, from byte `from` of it on, as bytes of the output
   pub block-byte : (r : List ℕ) (n from i p : ℕ) → r ≡ block_of nk key x n → p ≡ 16 * n + from + i → from + i < 16

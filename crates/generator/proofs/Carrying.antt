@@ -2,17 +2,17 @@
 use Rattle.std.proofs.Common.{◌≡◌, ℕ, ◌+◌, ◌-◌, ◌*◌, ◌/◌, ◌%◌, ◌^◌, ◌<◌, List, length, get_or, set, sym, ap, ◌∙◌, mod-eq_of_lt, mul_assoc, add-mul, add-one, arith, get_or-set_other, get_or-set_same}
 use native.Mathlib.Nat.{add-mul-mod_self_right}
 use native.Mathlib.Decide.{ℕ_discrete}
-use Rattle.spec.specs.Bytes.{bigEndian, bigEndianBytes}
-use Rattle.spec.specs.Version1.{addToIv}
+use Rattle.spec.specs.Bytes.{big_endian, big_endian_bytes}
+use Rattle.spec.specs.Version1.{add_to_iv}
 use Rattle.laws.proofs.Numbers.{Digits, pow-next}
 use Rattle.laws.proofs.BigEndian.{big-set, big-endian-lt, bytes-big-endian}
 
 -- what is carried to byte i - 1 counts in units of 2^(8 (16 - i))
 abbrev pub Carried : List ℕ → ℕ → List ℕ → ℕ → ℕ → Type 0
-Carried iv n out carry i = (length out ≡ 16) × (bigEndian out + carry * 2 ^ (8 * (16 - i)) ≡ bigEndian iv + n)
+Carried iv n out carry i = (length out ≡ 16) × (big_endian out + carry * 2 ^ (8 * (16 - i)) ≡ big_endian iv + n)
 
 pub carry-on : (iv out : List ℕ) (n carry i : ℕ) → 0 < i → i < 17 → Carried iv n out carry i
-    → bigEndian (set out (i - 1) ((get_or out (i - 1) 0 + carry) % 256)) + (get_or out (i - 1) 0 + carry) / 256 * 2 ^ (8 * (16 - (i - 1))) ≡ bigEndian iv + n
+    → big_endian (set out (i - 1) ((get_or out (i - 1) 0 + carry) % 256)) + (get_or out (i - 1) 0 + carry) / 256 * 2 ^ (8 * (16 - (i - 1))) ≡ big_endian iv + n
 carry-on iv out n carry i p h c =
     let at = i - 1 in
     let x = get_or out at 0 in
@@ -39,9 +39,9 @@ byte-stored out at x h l d j = go (ℕ_discrete j at)
     go (no e) = rw (get_or-set_other out at j x 0 e) (d j)
 
 -- nothing is left to carry, or no byte
-pub all-carried : (iv out : List ℕ) (n carry : ℕ) → Digits 8 out → length out ≡ 16 → bigEndian out + carry * 2 ^ 128 ≡ bigEndian iv + n → out ≡ addToIv iv n
-unfolding addToIv
+pub all-carried : (iv out : List ℕ) (n carry : ℕ) → Digits 8 out → length out ≡ 16 → big_endian out + carry * 2 ^ 128 ≡ big_endian iv + n → out ≡ add_to_iv iv n
+unfolding add_to_iv
 all-carried iv out n carry d l e =
-    let b : bigEndian out < 2 ^ 128 = (let z = big-endian-lt out d in rw l at z) in
-    let m : (bigEndian iv + n) % 2 ^ 128 ≡ bigEndian out = ap (λ (x : ℕ). x % 2 ^ 128) (sym e) ∙ add-mul-mod_self_right (bigEndian out) carry (2 ^ 128) ∙ mod-eq_of_lt b in
-    sym (bytes-big-endian out d) ∙ ap (λ (k : ℕ). bigEndianBytes k (bigEndian out)) l ∙ ap (bigEndianBytes 16) (sym m)
+    let b : big_endian out < 2 ^ 128 = (let z = big-endian-lt out d in rw l at z) in
+    let m : (big_endian iv + n) % 2 ^ 128 ≡ big_endian out = ap (λ (x : ℕ). x % 2 ^ 128) (sym e) ∙ add-mul-mod_self_right (big_endian out) carry (2 ^ 128) ∙ mod-eq_of_lt b in
+    sym (bytes-big-endian out d) ∙ ap (λ (k : ℕ). big_endian_bytes k (big_endian out)) l ∙ ap (big_endian_bytes 16) (sym m)

@@ -1,11 +1,13 @@
 // The generator, for keys of 128, 192 and 256 bits: AES in counter mode. That of document 000, section 3.3, figure 3.6, with a tweak, and that of version 1, which differs in the counter alone.
+#![tactic(auto)]
+
 ghost use Rattle.std.specs.Prelude.{◌≡◌, ℕ, ◌+◌, ◌*◌, ◌%◌, ◌^◌, ◌<◌, ◌≤◌, List, length};
 ghost use Rattle.spec.specs.Bytes.{tabulate};
 ghost use Rattle.spec.specs.Gf256.{SboxTable};
 ghost use Rattle.spec.specs.Aes.{state_of};
-ghost use Rattle.spec.specs.Generator.{addToWord, addToUpperWord, addToLowerWord};
-ghost use Rattle.spec.specs.Version1.{addToIv};
-ghost use Rattle.job.specs.Versions.{counterOf, block_of, byte_of};
+ghost use Rattle.spec.specs.Generator.{add_to_word, add_to_upper_word, add_to_lower_word};
+ghost use Rattle.spec.specs.Version1.{add_to_iv};
+ghost use Rattle.job.specs.Versions.{counter_of, block_of, byte_of};
 ghost use Rattle.aes_keys.specs.RoundKeys.{Keyed};
 ghost use Rattle.generator.specs.Stored.{Stored};
 
@@ -21,14 +23,14 @@ pub fn load_iv(s: &[u8]) -> [u8; 16]
 }
 
 fn add_to_word(a: [u8; 4], v: u32) -> [u8; 4]
-    ensures { result ≡ addToWord a v }
+    ensures { result ≡ add_to_word a v }
 {
     aes::unpack(std::num::wrapping_add_u32(aes::pack(a), v))
 }
 
 // The counter of version 2: the tweak goes into the upper word, the block's number into the lower one.
 fn add_to_words(iv: [[u8; 4]; 4], tweak: u32, n: u32) -> [[u8; 4]; 4]
-    ensures { result ≡ addToLowerWord (addToUpperWord iv tweak) n }
+    ensures { result ≡ add_to_lower_word (add_to_upper_word iv tweak) n }
 {
     [
         add_to_word(iv[0], n),
@@ -40,7 +42,7 @@ fn add_to_words(iv: [[u8; 4]; 4], tweak: u32, n: u32) -> [[u8; 4]; 4]
 
 // The counter of version 1: n is added to the whole IV, the highest byte first, from its last byte on as far as something is carried.
 fn add_to_iv(iv: [u8; 16], n: u32) -> [u8; 16]
-    ensures { result ≡ addToIv iv n }
+    ensures { result ≡ add_to_iv iv n }
 {
     let mut out = iv;
     let mut carry = n as u64;
@@ -60,7 +62,7 @@ fn add_to_iv(iv: [u8; 16], n: u32) -> [u8; 16]
 
 // What block n encrypts.
 fn counter(x: Nonce, n: u32) -> [[u8; 4]; 4]
-    ensures { result ≡ counterOf x.version x.iv x.tweak n }
+    ensures { result ≡ counter_of x.version x.iv x.tweak n }
 {
     let iv = x.iv;
     let version = x.version;

@@ -8,14 +8,14 @@ use lib.Dec.{eqb}
 use lib.ListN.{length, take}
 use lib.Seq.{take-length}
 use borrow.Author.Tests.{eqb-true}
-use Rattle.spec.specs.Calls.{countGiven, written, countWith}
-use Rattle.spec.specs.HostCalls.{countSlice}
+use Rattle.spec.specs.Calls.{count_given, written, count_with}
+use Rattle.spec.specs.HostCalls.{count_slice}
 use Rattle.laws.proofs.Conjunctions.{contrary}
 use Rattle.laws.proofs.Words.{count-slice}
 
 -- a number that writes neither buffers nor count
 abbrev pub Silent : ℕ → Type 0
-Silent n = (eqb n 0 ≡ false) × (countGiven n ≡ false)
+Silent n = (eqb n 0 ≡ false) × (count_given n ≡ false)
 
 -- a refusal, or a later one
 pub silent : (b : Bool) (m n : ℕ) → Silent m → Silent n → Silent (cond b m n)
@@ -39,7 +39,7 @@ module _ (xs count : List ℕ) (m : ℕ) (e : m ≡ cond (eqb (length count) 4) 
   wordless : eqb (length count) 4 ≡ false → Silent n
   wordless t = rw number (none t).1
 
-  pub sized : countGiven n ≡ true → length count ≡ 4
+  pub sized : count_given n ≡ true → length count ≡ 4
   sized h = cases (λ t z. eqb-true (length count) 4 t) (λ t z. contrary h (wordless t).1)
 
   pub bytes : {A : Type 0} (new : List ℕ → A) (before after : A) → after ≡ written n (new (take m xs)) before → after ≡ written n (new xs) before
@@ -48,8 +48,8 @@ module _ (xs count : List ℕ) (m : ℕ) (e : m ≡ cond (eqb (length count) 4) 
       (λ t z. rw (wordless t).0 (rw (wordless t).0 at w))
 
   -- `plan ys` is the count that is planned with ys
-  pub counted : (plan : List ℕ → ℕ) (k : ℕ) (count' : List ℕ) → k ≡ countWith n (plan (take m xs)) → count' ≡ countSlice n k count → count' ≡ countSlice n (plan xs) count
-  unfolding countSlice
+  pub counted : (plan : List ℕ → ℕ) (k : ℕ) (count' : List ℕ) → k ≡ count_with n (plan (take m xs)) → count' ≡ count_slice n k count → count' ≡ count_slice n (plan xs) count
+  unfolding count_slice
   counted plan k count' p d =
-      cases (λ t z. rw (p ∙ ap (λ (ys : List ℕ). countWith n (plan ys)) z) at d ∙ count-slice n (plan xs) count)
+      cases (λ t z. rw (p ∙ ap (λ (ys : List ℕ). count_with n (plan ys)) z) at d ∙ count-slice n (plan xs) count)
       (λ t z. rw (wordless t).1 (rw (wordless t).1 at d))

@@ -1,8 +1,10 @@
 // What the calls exported for a C host share: numbers in four bytes, least byte first, and how much of a slice or of a local list is lent to the call beneath.
+#![tactic(auto)]
+
 ghost use Rattle.std.specs.Prelude.{◌≡◌, true, ◌&&◌, cond, ◌++◌, ℕ, ◌*◌, ◌≤◌, ◌<◌, eqb, length, take, drop};
 ghost use Rattle.spec.specs.Bytes.{digits};
-ghost use Rattle.spec.specs.Calls.{countGiven, written};
-ghost use Rattle.spec.specs.HostCalls.{word_bytes, countSlice};
+ghost use Rattle.spec.specs.Calls.{count_given, written};
+ghost use Rattle.spec.specs.HostCalls.{word_bytes, count_slice};
 
 use spec::Answer;
 
@@ -69,15 +71,15 @@ pub fn put_list(number: usize, words: &[u32], n: usize, out: &mut [u8])
 
 // Whether a call that answers `number` gives the count.
 fn count_given(number: usize) -> bool
-    ensures { result ≡ countGiven number }
+    ensures { result ≡ count_given number }
 {
     (number == 0) | ((number == 5) | (number == 6))
 }
 
 // An answer for a C host: its number is returned, and its count written where it is given.
 pub fn give(a: Answer, count: &mut [u8]) -> usize
-    requires { countGiven a.number ≡ true → length count.old ≡ 4 }
-    ensures { (result ≡ a.number) × (count.new ≡ countSlice a.number a.count count.old) }
+    requires { count_given a.number ≡ true → length count.old ≡ 4 }
+    ensures { (result ≡ a.number) × (count.new ≡ count_slice a.number a.count count.old) }
 {
     if count_given(a.number) {
         put_word(a.count, count);

@@ -4,8 +4,8 @@ use Rattle.std.specs.Int.Bits.{bit_and, bit_xor}
 use Rattle.spec.specs.Keccak.{complement}
 
 -- a lane with the two after it in its row
-abbrev pub chiLane : ℕ → ℕ → ℕ → ℕ
-chiLane a b c = bit_xor a (bit_and (complement b) c)
+abbrev pub chi_lane : ℕ → ℕ → ℕ → ℕ
+chi_lane a b c = bit_xor a (bit_and (complement b) c)
 
-abbrev pub chiRow : ℕ → ℕ → ℕ → ℕ → ℕ → List ℕ
-chiRow a b c d e = chiLane a b c ∷ chiLane b c d ∷ chiLane c d e ∷ chiLane d e a ∷ chiLane e a b ∷ []
+abbrev pub chi_row : ℕ → ℕ → ℕ → ℕ → ℕ → List ℕ
+chi_row a b c d e = chi_lane a b c ∷ chi_lane b c d ∷ chi_lane c d e ∷ chi_lane d e a ∷ chi_lane e a b ∷ []

@@ -1,8 +1,10 @@
 // The permutation Keccak-f[1600] of FIPS 202, section 3, on an array of 25 lanes: lane (x, y) stands at place 5 y + x.
+#![tactic(auto)]
+
 ghost use Rattle.std.specs.Prelude.{◌≡◌, ◌<◌};
-ghost use Rattle.keccak.specs.Chi.{chiRow};
+ghost use Rattle.keccak.specs.Chi.{chi_row};
 ghost use Rattle.spec.specs.Bytes.{tabulate};
-ghost use Rattle.spec.specs.Keccak.{rotl, columnParities, besideColumns, addColumns, theta, rho, pi, chi, iota, round, roundConstant, keccakF};
+ghost use Rattle.spec.specs.Keccak.{rotl, column_parities, beside_columns, add_columns, theta, rho, pi, chi, iota, round, round_constant, keccak_f};
 
 // x rotated to the left by n bits.
 fn rotate_left(x: u64, n: u32) -> u64
@@ -14,7 +16,7 @@ fn rotate_left(x: u64, n: u32) -> u64
 
 // Theta, step 1: the parity of each column.
 fn column_parities(a: [u64; 25]) -> [u64; 5]
-    ensures { result ≡ columnParities a }
+    ensures { result ≡ column_parities a }
 {
     [
         a[0] ^ a[5] ^ a[10] ^ a[15] ^ a[20],
@@ -27,7 +29,7 @@ fn column_parities(a: [u64; 25]) -> [u64; 5]
 
 // Theta, step 2: what the two columns beside each column add to it.
 fn beside_columns(c: [u64; 5]) -> [u64; 5]
-    ensures { result ≡ besideColumns c }
+    ensures { result ≡ beside_columns c }
 {
     [
         c[4] ^ rotate_left(c[1], 1),
@@ -40,7 +42,7 @@ fn beside_columns(c: [u64; 5]) -> [u64; 5]
 
 // Theta, step 3: d[x] added to each lane of column x.
 fn add_columns(a: [u64; 25], d: [u64; 5]) -> [u64; 25]
-    ensures { result ≡ addColumns a d }
+    ensures { result ≡ add_columns a d }
 {
     let d0 = d[0];
     let d1 = d[1];
@@ -120,7 +122,7 @@ fn rho_pi(a: [u64; 25]) -> [u64; 25]
 
 // Chi on one row: each lane is added to the product of the next, complemented, and the one after it.
 fn chi_row(a: u64, b: u64, c: u64, d: u64, e: u64) -> [u64; 5]
-    ensures { result ≡ chiRow a b c d e }
+    ensures { result ≡ chi_row a b c d e }
 {
     [
         a ^ (!b & c),
@@ -167,7 +169,7 @@ fn round(a: [u64; 25], k: u64) -> [u64; 25]
 
 // The constants of the 24 rounds.
 fn round_constants() -> [u64; 24]
-    ensures { result ≡ tabulate 24 roundConstant }
+    ensures { result ≡ tabulate 24 round_constant }
 {
     [
         0x0000000000000001,
@@ -199,7 +201,7 @@ fn round_constants() -> [u64; 24]
 
 // Keccak-f[1600]: 24 rounds. The constants are laid down once, before the loop.
 pub fn keccak_f(a: [u64; 25]) -> [u64; 25]
-    ensures { result ≡ keccakF a }
+    ensures { result ≡ keccak_f a }
 {
     let constants = round_constants();
     let mut s = a;

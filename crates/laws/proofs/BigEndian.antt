@@ -5,29 +5,29 @@ use mathlib.Core.List.{List, [], ◌∷◌, ◌++◌, reverse, reverse-reverse, 
 use native.Mathlib.Nat.{add-mul, mul_assoc, mul_comm, mul-zero, zero-mul, zero-add, add-zero, mul-one, div-add-mod'}
 use native.Mathlib.Omega.{arith}
 use lib.ListN.{length, get_or, set, length-reverse, length-set}
-use Rattle.spec.specs.Bytes.{number, digits, bigEndian, bigEndianBytes}
+use Rattle.spec.specs.Bytes.{number, digits, big_endian, big_endian_bytes}
 use Rattle.laws.proofs.Lists.{length-tabulate}
 use Rattle.laws.proofs.Numbers.{Digits, pow-next, number_lt}
 use Rattle.laws.proofs.Strings.{digits-reverse}
 use Rattle.laws.proofs.Digits.{digits_number, number_digits}
 
-pub big-endian-bytes : (n x : ℕ) → x < 2 ^ (8 * n) → bigEndian (bigEndianBytes n x) ≡ x
-unfolding bigEndian bigEndianBytes
+pub big-endian-bytes : (n x : ℕ) → x < 2 ^ (8 * n) → big_endian (big_endian_bytes n x) ≡ x
+unfolding big_endian big_endian_bytes
 big-endian-bytes n x h = ap (number 8) (reverse-reverse (digits 8 n x)) ∙ number_digits 8 n x h
 
-pub length-big-endian : (n x : ℕ) → length (bigEndianBytes n x) ≡ n
-unfolding bigEndianBytes digits
+pub length-big-endian : (n x : ℕ) → length (big_endian_bytes n x) ≡ n
+unfolding big_endian_bytes digits
 length-big-endian n x = length-reverse (digits 8 n x) ∙ length-tabulate n _
 
-pub bytes-big-endian : (xs : List ℕ) → Digits 8 xs → bigEndianBytes (length xs) (bigEndian xs) ≡ xs
-unfolding bigEndian bigEndianBytes
+pub bytes-big-endian : (xs : List ℕ) → Digits 8 xs → big_endian_bytes (length xs) (big_endian xs) ≡ xs
+unfolding big_endian big_endian_bytes
 bytes-big-endian xs h =
     ap (λ (n : ℕ). reverse (digits 8 n (number 8 (reverse xs)))) (sym (length-reverse xs))
     ∙ ap reverse (digits_number 8 (reverse xs) (digits-reverse 8 xs h))
     ∙ reverse-reverse xs
 
-pub big-endian-lt : (xs : List ℕ) → Digits 8 xs → bigEndian xs < 2 ^ (8 * length xs)
-unfolding bigEndian
+pub big-endian-lt : (xs : List ℕ) → Digits 8 xs → big_endian xs < 2 ^ (8 * length xs)
+unfolding big_endian
 big-endian-lt xs h = rw length-reverse at (number_lt 8 (reverse xs) (digits-reverse 8 xs h))
 
 -- ---- a byte more in front, and another byte in a place
@@ -44,15 +44,15 @@ number_append k (x ∷ xs) ys =
       ap (λ (n : ℕ). number k ys * n) (pow-next k (length xs)),
     )
 
-pub big-cons : (x : ℕ) (xs : List ℕ) → bigEndian (x ∷ xs) ≡ bigEndian xs + x * 2 ^ (8 * length xs)
-unfolding number bigEndian
+pub big-cons : (x : ℕ) (xs : List ℕ) → big_endian (x ∷ xs) ≡ big_endian xs + x * 2 ^ (8 * length xs)
+unfolding number big_endian
 big-cons x xs =
     ap (number 8) (reverse-cons x xs)
     ∙ number_append 8 (reverse xs) (x ∷ [])
     ∙ ap₂ (λ (a n : ℕ). number 8 (reverse xs) + a * 2 ^ (8 * n)) (let e : x + 0 * 2 ^ 8 ≡ x = omega arith in e) (length-reverse xs)
 
 -- byte `at` becomes x
-pub big-set : (xs : List ℕ) (at x : ℕ) → at < length xs → bigEndian (set xs at x) + get_or xs at 0 * 2 ^ (8 * (length xs - 1 - at)) ≡ bigEndian xs + x * 2 ^ (8 * (length xs - 1 - at))
+pub big-set : (xs : List ℕ) (at x : ℕ) → at < length xs → big_endian (set xs at x) + get_or xs at 0 * 2 ^ (8 * (length xs - 1 - at)) ≡ big_endian xs + x * 2 ^ (8 * (length xs - 1 - at))
 big-set [] at x h = absurd (omega arith)
 big-set (y ∷ ys) zero x h = (let a = big-cons x ys in let b = big-cons y ys in let e : suc (length ys) - 1 - 0 ≡ length ys = omega arith in rw e (omega arith))
 big-set (y ∷ ys) (suc at) x h =

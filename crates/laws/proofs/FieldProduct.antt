@@ -8,7 +8,7 @@ use native.Mathlib.Omega.{arith}
 use lib.Arith.{lt-one}
 use lib.Pow.{pow_pos, pow_mono, shl_lt, shr_lt, split}
 use lib.Bits.{bit_xor, shifted_half, shifted_even, xor_lt, xor_zero_r, xor_self, xor_comm, xor_block, xor_shifted}
-use Rattle.spec.specs.Polynomials.{product, remainder, fieldProduct}
+use Rattle.spec.specs.Polynomials.{product, remainder, field_product}
 use Rattle.laws.proofs.Xor.{xor_assoc, xor-swap, xor-cancel}
 use Rattle.laws.proofs.Polynomials.{half_lt, xor-double, product-xor-l, product-xor-r, product-zero-r, product_lt, remainder-lt, remainder-multiple, remainder-unique}
 
@@ -153,45 +153,45 @@ module _ (w m : ℕ) (low : 2 ^ w ≤ m) (high : m < 2 ^ suc w) where
     product-below : (n s : ℕ) → product n x s < 2 ^ (w + n)
     product-below n s = product_lt w n x s (lt_of_lt_of_le hx (pow_mono {i = w} {j = suc w} (omega arith)))
 
-    pub field_lt : (n s : ℕ) → fieldProduct w m n x s < 2 ^ w
-    unfolding fieldProduct
+    pub field_lt : (n s : ℕ) → field_product w m n x s < 2 ^ w
+    unfolding field_product
     field_lt n s = remainder-lt w m low high n (product n x s) (product-below n s)
 
-    field-congruent : (n s : ℕ) → Congruent m (fieldProduct w m n x s) (product n x s)
-    unfolding fieldProduct
+    field-congruent : (n s : ℕ) → Congruent m (field_product w m n x s) (product n x s)
+    unfolding field_product
     field-congruent n s = remainder-congruent n (product n x s) (product-below n s)
 
-    field_is : (n s r : ℕ) → r < 2 ^ w → Congruent m r (product n x s) → r ≡ fieldProduct w m n x s
-    unfolding fieldProduct
+    field_is : (n s r : ℕ) → r < 2 ^ w → Congruent m r (product n x s) → r ≡ field_product w m n x s
+    unfolding field_product
     field_is n s r hr e = remainder_is n (product n x s) r (product-below n s) hr e
 
-    pub field-zero : (n : ℕ) → fieldProduct w m n x 0 ≡ 0
+    pub field-zero : (n : ℕ) → field_product w m n x 0 ≡ 0
     field-zero n = sym (field_is n 0 0 (pow_pos w) (congruent-of (sym (product-zero-r n x))))
 
-    pub field-one : (n : ℕ) → fieldProduct w m (suc n) x 1 ≡ x
+    pub field-one : (n : ℕ) → field_product w m (suc n) x 1 ≡ x
     field-one n = sym (field_is (suc n) 1 x hx (congruent-of (sym (product-one-r n x))))
 
     -- terms that are 0 may be counted or not
-    pub field-pad : (n k s : ℕ) → n ≤ k → s < 2 ^ n → fieldProduct w m k x s ≡ fieldProduct w m n x s
+    pub field-pad : (n k s : ℕ) → n ≤ k → s < 2 ^ n → field_product w m k x s ≡ field_product w m n x s
     field-pad n k s le h =
-        sym (field_is k s (fieldProduct w m n x s) (field_lt n s) (congruent-trans (field-congruent n s) (congruent-of (sym (product-pad n k x s le h)))))
+        sym (field_is k s (field_product w m n x s) (field_lt n s) (congruent-trans (field-congruent n s) (congruent-of (sym (product-pad n k x s le h)))))
 
     -- the k lowest terms of s, and the others
     pub field-split : (k n s : ℕ)
-        → bit_xor (remainder w m k (fieldProduct w m n x (s / 2 ^ k) * 2 ^ k)) (fieldProduct w m k x (s % 2 ^ k)) ≡ fieldProduct w m (k + n) x s
+        → bit_xor (remainder w m k (field_product w m n x (s / 2 ^ k) * 2 ^ k)) (field_product w m k x (s % 2 ^ k)) ≡ field_product w m (k + n) x s
     field-split k n s =
-        let F = fieldProduct w m n x (s / 2 ^ k) in
-        let L = fieldProduct w m k x (s % 2 ^ k) in
-        let hF : F * 2 ^ k < 2 ^ (w + k) = shl_lt w k (field_lt n (s / 2 ^ k)) in
+        let F = field_product w m n x (s / 2 ^ k) in
+        let L = field_product w m k x (s % 2 ^ k) in
+        let h_f : F * 2 ^ k < 2 ^ (w + k) = shl_lt w k (field_lt n (s / 2 ^ k)) in
         field_is (k + n) s (bit_xor (remainder w m k (F * 2 ^ k)) L)
-        (xor_lt w (remainder w m k (F * 2 ^ k)) L (remainder-lt w m low high k (F * 2 ^ k) hF) (field_lt k (s % 2 ^ k)))
+        (xor_lt w (remainder w m k (F * 2 ^ k)) L (remainder-lt w m low high k (F * 2 ^ k) h_f) (field_lt k (s % 2 ^ k)))
         (congruent-trans
-        (congruent-xor (congruent-trans (remainder-congruent k (F * 2 ^ k) hF) (congruent-shift k (field-congruent n (s / 2 ^ k)))) (field-congruent k (s % 2 ^ k)))
+        (congruent-xor (congruent-trans (remainder-congruent k (F * 2 ^ k) h_f) (congruent-shift k (field-congruent n (s / 2 ^ k)))) (field-congruent k (s % 2 ^ k)))
         (congruent-of (sym (product-split k n x s))))
 
     -- the product with s, from those with s / 2 and s % 2
     pub field-half : (n s : ℕ) → s < 2 ^ (1 + n)
-        → bit_xor (remainder w m 1 (fieldProduct w m (1 + n) x (s / 2) * 2 ^ 1)) (fieldProduct w m (1 + n) x (s % 2)) ≡ fieldProduct w m (1 + n) x s
+        → bit_xor (remainder w m 1 (field_product w m (1 + n) x (s / 2) * 2 ^ 1)) (field_product w m (1 + n) x (s % 2)) ≡ field_product w m (1 + n) x s
     field-half n s h =
         let one : s % 2 < 2 ^ 1 = omega arith in
         ap₂ (λ (a b : ℕ). bit_xor (remainder w m 1 (a * 2 ^ 1)) b) (field-pad n (1 + n) (s / 2) (omega arith) (shr_lt n 1 (rw add_comm at h)))
@@ -200,14 +200,14 @@ module _ (w m : ℕ) (low : 2 ^ w ≤ m) (high : m < 2 ^ suc w) where
 
     -- one byte b more below q, in two windows of four terms
     pub field-byte : (n q b : ℕ) → b < 256
-        → bit_xor (remainder w m 4 (bit_xor (remainder w m 4 (fieldProduct w m n x q * 2 ^ 4)) (fieldProduct w m 4 x (b / 16)) * 2 ^ 4)) (fieldProduct w m 4 x (b % 16))
-        ≡ fieldProduct w m (4 + (4 + n)) x (b + q * 2 ^ 8)
+        → bit_xor (remainder w m 4 (bit_xor (remainder w m 4 (field_product w m n x q * 2 ^ 4)) (field_product w m 4 x (b / 16)) * 2 ^ 4)) (field_product w m 4 x (b % 16))
+        ≡ field_product w m (4 + (4 + n)) x (b + q * 2 ^ 8)
     field-byte n q b h =
         let s = b + q * 2 ^ 8 in
         let high-terms : s / 16 / 16 ≡ q = omega arith in
         let high-window : s / 16 % 16 ≡ b / 16 = omega arith in
         let low-window : s % 16 ≡ b % 16 = omega arith in
-        let F : ℕ → ℕ → ℕ = λ n s. fieldProduct w m n x s in
+        let F : ℕ → ℕ → ℕ = λ n s. field_product w m n x s in
         ap₂ (λ (a c : ℕ). bit_xor (remainder w m 4 (a * 2 ^ 4)) (F 4 c))
         (ap₂ (λ (a c : ℕ). bit_xor (remainder w m 4 (F n a * 2 ^ 4)) (F 4 c)) (sym high-terms) (sym high-window) ∙ field-split 4 n (s / 16)) (sym low-window)
         ∙ field-split 4 (4 + n) s
@@ -215,7 +215,7 @@ module _ (w m : ℕ) (low : 2 ^ w ≤ m) (high : m < 2 ^ suc w) where
 -- x times 2 ^ n, as lo below 2 ^ w and c above it, modulo 2 ^ w + r: c comes back as its product with r
 pub remainder-shift : (w r : ℕ) → r < 2 ^ w → (n x lo c : ℕ) → x < 2 ^ w → lo < 2 ^ w → c < 2 ^ n → product n r c < 2 ^ w → lo + c * 2 ^ w ≡ x * 2 ^ n
     → bit_xor lo (product n r c) ≡ remainder w (2 ^ w + r) n (x * 2 ^ n)
-remainder-shift w r hr n x lo c hx hlo hc hP e =
+remainder-shift w r hr n x lo c hx hlo hc h_p e =
     let m = 2 ^ w + r in
     let P = product n r c in
     let C = c * 2 ^ w in
@@ -223,7 +223,7 @@ remainder-shift w r hr n x lo c hx hlo hc hP e =
     ap (λ (b : ℕ). product n b c) (ap (λ (b : ℕ). b + r) (sym (one-mul (2 ^ w))) ∙ sym (xor_shifted 1 w r hr))
     ∙ product-xor-l n (1 * 2 ^ w) r c
     ∙ ap (λ (b : ℕ). bit_xor b P) (product-shift-l w n 1 c ∙ ap (λ (b : ℕ). b * 2 ^ w) (product-one-l n c hc)) in
-    remainder_is w m (le-add_right (2 ^ w) r) (let d = pow-suc 2 w in omega arith) n (x * 2 ^ n) (bit_xor lo P) (shl_lt w n hx) (xor_lt w lo P hlo hP)
+    remainder_is w m (le-add_right (2 ^ w) r) (let d = pow-suc 2 w in omega arith) n (x * 2 ^ n) (bit_xor lo P) (shl_lt w n hx) (xor_lt w lo P hlo h_p)
     (record {
       n = n;
       q = c;

@@ -16,7 +16,7 @@ use mir.Val.{bits, Fits}
 use Rattle.spec.specs.Bytes.{zeros, number}
 use Rattle.laws.proofs.Numbers.{Digits, pow-next, number_more, number_lt}
 use Rattle.laws.proofs.Lists.{length-zeros}
-use Rattle.laws.proofs.Strings.{getD-zeros, digits-zeros, number-xor}
+use Rattle.laws.proofs.Strings.{get_or-zeros, digits-zeros, number-xor}
 
 -- the elements of a program's array are digits
 pub fits-digits : (w : Width) (xs : List ℕ) → ((k : ℕ) → Fits w (get_or xs k 0)) → Digits (bits w) xs
@@ -93,7 +93,7 @@ limb-xor k xs i v l h hv =
         ∙ sym (ap₂ bit_xor (ap (λ (m : ℕ). get_or xs m 0) e) (ap (λ (m : ℕ). get_or (set (zeros (length xs)) i v) m 0) e ∙ get_or-set_same (zeros (length xs)) i v 0 (rw length-zeros l)))
     at j (no d) =
         get_or-set_other xs i j (bit_xor (get_or xs i 0) v) 0 d
-        ∙ sym (ap (bit_xor (get_or xs j 0)) (get_or-set_other (zeros (length xs)) i j v 0 d ∙ getD-zeros (length xs) j) ∙ xor_zero_r (get_or xs j 0))
+        ∙ sym (ap (bit_xor (get_or xs j 0)) (get_or-set_other (zeros (length xs)) i j v 0 d ∙ get_or-zeros (length xs) j) ∙ xor_zero_r (get_or xs j 0))
 
 -- ---- a shift by n, in limbs of k = t + n bits
 

@@ -7,7 +7,7 @@ use native.Mathlib.Omega.{arith}
 use lib.Bits.{bit_xor}
 use lib.ListN.{length, get_or, drop, length-drop, length-replicate}
 use lib.Seq.{ext_get_or, length-take-le, get_or-take, get_or-drop}
-use Rattle.spec.specs.Bytes.{part, tabulate, zeros, xorBytes}
+use Rattle.spec.specs.Bytes.{part, tabulate, zeros, xor_bytes}
 
 module _ {A : Type 0} where
   pub length-tabulate : (n : ℕ) (f : ℕ → A) → length (tabulate n f) ≡ n
@@ -82,7 +82,7 @@ pub length-zeros : (n : ℕ) → length (zeros n) ≡ n
 unfolding zeros
 length-zeros n = length-replicate n 0
 
-pub tabulate-xor : (n : ℕ) (f g : ℕ → ℕ) → tabulate n (λ i. bit_xor (f i) (g i)) ≡ xorBytes (tabulate n f) (tabulate n g)
-unfolding tabulate xorBytes
+pub tabulate-xor : (n : ℕ) (f g : ℕ → ℕ) → tabulate n (λ i. bit_xor (f i) (g i)) ≡ xor_bytes (tabulate n f) (tabulate n g)
+unfolding tabulate xor_bytes
 tabulate-xor zero f g = refl
 tabulate-xor (suc n) f g = ap (λ (l : List ℕ). bit_xor (f 0) (g 0) ∷ l) (tabulate-xor n (λ i. f (suc i)) (λ i. g (suc i)))

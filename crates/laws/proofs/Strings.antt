@@ -10,16 +10,16 @@ use lib.Bits.{bit_xor, xor_zero_l, xor_zero_r, xor_block}
 use lib.ListN.{length, get_or, set, take, drop, length-take, get_or-eq_default}
 use lib.Pow.{pow_pos}
 use lib.Seq.{take-nil, drop-nil}
-use Rattle.spec.specs.Bytes.{part, tabulate, zeros, xorBytes, number}
+use Rattle.spec.specs.Bytes.{part, tabulate, zeros, xor_bytes, number}
 use Rattle.laws.proofs.Lists.{get_d_part}
 use Rattle.laws.proofs.Numbers.{Digits}
 
 -- strings of zeros
-pub getD-zeros : (n i : ℕ) → get_or (zeros n) i 0 ≡ 0
+pub get_or-zeros : (n i : ℕ) → get_or (zeros n) i 0 ≡ 0
 unfolding zeros
-getD-zeros zero i = refl
-getD-zeros (suc n) zero = refl
-getD-zeros (suc n) (suc i) = getD-zeros n i
+get_or-zeros zero i = refl
+get_or-zeros (suc n) zero = refl
+get_or-zeros (suc n) (suc i) = get_or-zeros n i
 
 pub zeros-tabulate : (n : ℕ) → zeros n ≡ tabulate n (λ i. 0)
 unfolding zeros tabulate
@@ -41,14 +41,14 @@ drop-zeros (suc k) (suc n) = rw suc-sub-suc (drop-zeros k n)
 pub part-zeros : (n at l : ℕ) → at + l ≤ n → part (zeros n) at l ≡ zeros l
 part-zeros n at l h = ap (take l) (drop-zeros at n) ∙ take-zeros l (n - at) (omega arith)
 
-pub getD-append-zeros : (p : List ℕ) (n i : ℕ) → get_or (p ++ zeros n) i 0 ≡ get_or p i 0
-getD-append-zeros [] n i = getD-zeros n i
-getD-append-zeros (x ∷ p) n zero = refl
-getD-append-zeros (x ∷ p) n (suc i) = getD-append-zeros p n i
+pub get_or-append-zeros : (p : List ℕ) (n i : ℕ) → get_or (p ++ zeros n) i 0 ≡ get_or p i 0
+get_or-append-zeros [] n i = get_or-zeros n i
+get_or-append-zeros (x ∷ p) n zero = refl
+get_or-append-zeros (x ∷ p) n (suc i) = get_or-append-zeros p n i
 
 -- strings of digits in base 2 ^ k
 pub digits-zeros : (k n : ℕ) → Digits k (zeros n)
-digits-zeros k n i = rw getD-zeros (pow_pos k)
+digits-zeros k n i = rw get_or-zeros (pow_pos k)
 
 pub digits_append : (k : ℕ) (a b : List ℕ) → Digits k a → Digits k b → Digits k (a ++ b)
 digits_append k [] b ha hb i = hb i
@@ -96,19 +96,19 @@ number-xor k a b c ha hb e at (suc n) =
 -- a string that goes on where t ended, xored with t
 pub append-xor : (t p : List ℕ) (n i : ℕ) → get_or (t ++ p) i 0 ≡ bit_xor (get_or t i 0) (get_or (zeros (length t) ++ (p ++ zeros n)) i 0)
 unfolding zeros
-append-xor [] p n i = sym (xor_zero_l (get_or (p ++ zeros n) i 0) ∙ getD-append-zeros p n i)
+append-xor [] p n i = sym (xor_zero_l (get_or (p ++ zeros n) i 0) ∙ get_or-append-zeros p n i)
 append-xor (x ∷ t) p n zero = sym (xor_zero_r x)
 append-xor (x ∷ t) p n (suc i) = append-xor t p n i
 
 -- the last of the first i + 1 digits xored with v
-pub set-xor : (l : List ℕ) (i v : ℕ) → i < length l → take (suc i) (set l i (bit_xor (get_or l i 0) v)) ≡ xorBytes (take (suc i) l) (zeros i ++ (v ∷ []))
-unfolding zeros xorBytes
+pub set-xor : (l : List ℕ) (i v : ℕ) → i < length l → take (suc i) (set l i (bit_xor (get_or l i 0) v)) ≡ xor_bytes (take (suc i) l) (zeros i ++ (v ∷ []))
+unfolding zeros xor_bytes
 set-xor [] i v h = absurd (omega arith)
 set-xor (x ∷ l) zero v h = refl
 set-xor (x ∷ l) (suc i) v h = ap₂ ◌∷◌ (sym (xor_zero_r x)) (set-xor l i v (omega arith))
 
-pub length-xorBytes : (a b : List ℕ) → length a ≡ length b → length (xorBytes a b) ≡ length a
-unfolding xorBytes
-length-xorBytes [] b h = refl
-length-xorBytes (x ∷ a) [] h = absurd (omega arith)
-length-xorBytes (x ∷ a) (y ∷ b) h = ap suc (length-xorBytes a b (omega arith))
+pub length-xor_bytes : (a b : List ℕ) → length a ≡ length b → length (xor_bytes a b) ≡ length a
+unfolding xor_bytes
+length-xor_bytes [] b h = refl
+length-xor_bytes (x ∷ a) [] h = absurd (omega arith)
+length-xor_bytes (x ∷ a) (y ∷ b) h = ap suc (length-xor_bytes a b (omega arith))

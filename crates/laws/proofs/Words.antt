@@ -9,8 +9,8 @@ use lib.ListN.{length, get_or, drop, length-append}
 use lib.Seq.{take_at, drop_at, drop-cons, drop-drop, drop-nil}
 use borrow.Author.Tests.{eqb-true, eq-eqb, ne_eqb}
 use Rattle.spec.specs.Bytes.{part, tabulate, digits}
-use Rattle.spec.specs.Calls.{countGiven, countWith}
-use Rattle.spec.specs.HostCalls.{word_bytes, countSlice}
+use Rattle.spec.specs.Calls.{count_given, count_with}
+use Rattle.spec.specs.HostCalls.{word_bytes, count_slice}
 use Rattle.laws.proofs.Conjunctions.{contrary}
 
 -- two comparisons that hold together
@@ -52,9 +52,9 @@ words-part xs i h =
     rw (← words-drop i xs, drop-cons xs i 0 h) (take_at (digits 8 4 (get_or xs i 0)) (word_bytes (drop (suc i) xs)) 4 (word-length (get_or xs i 0)))
 
 -- the count of the call beneath is the planned one wherever it is written
-pub count-slice : (number n : ℕ) (before : List ℕ) → countSlice number (countWith number n) before ≡ countSlice number n before
-unfolding countSlice countWith
-count-slice number n before = go (countGiven number)
+pub count-slice : (number n : ℕ) (before : List ℕ) → count_slice number (count_with number n) before ≡ count_slice number n before
+unfolding count_slice count_with
+count-slice number n before = go (count_given number)
   where
     go : (b : Bool) → cond b (digits 8 4 (cond b n 0)) before ≡ cond b (digits 8 4 n) before
     go true = refl

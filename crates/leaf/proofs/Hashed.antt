@@ -9,11 +9,11 @@ use lib.ListN.{length, take, drop, length-append, length-drop}
 use lib.Seq.{take_all, take_at, drop-length}
 use Rattle.spec.specs.declared.Shape.{Shape}
 use Rattle.spec.specs.Bytes.{part}
-use Rattle.spec.specs.Shapes.{ordinary, nodeBytes, leafCommitmentBytes, rate}
+use Rattle.spec.specs.Shapes.{ordinary, node_bytes, leaf_commitment_bytes, rate}
 use Rattle.spec.specs.Hashes.{hash0}
 use Rattle.spec.specs.Sponge.{sponge, shake}
 use Rattle.spec.specs.Primitives.{faest}
-use Rattle.spec.specs.Version1.{faest1, leafCommitmentBytes1, hashedLeaf, leafSeed1, leafCommitment1}
+use Rattle.spec.specs.Version1.{faest1, leaf_commitment_bytes1, hashed_leaf, leaf_seed1, leaf_commitment1}
 use Rattle.laws.proofs.Lists.{length-tabulate}
 
 -- a buffer of n bytes, written whole
@@ -32,34 +32,34 @@ message key iv d n ek ei ed =
     (ap₂ (λ (a b : List ℕ). a ++ b) (take_all 16 iv (omega arith)) (ap (λ (j : ℕ). drop j m) long ∙ drop-length m) ∙ append-nil iv)
 
 -- leaves of this kind have commitments of version 1's length
-pub width_one : (s : Shape) → ordinary s ≡ false → leafCommitmentBytes s ≡ leafCommitmentBytes1 s
-unfolding leafCommitmentBytes leafCommitmentBytes1
-width_one s o = ap (λ (b : Bool). cond b 3 2 * nodeBytes s) o
+pub width_one : (s : Shape) → ordinary s ≡ false → leaf_commitment_bytes s ≡ leaf_commitment_bytes1 s
+unfolding leaf_commitment_bytes leaf_commitment_bytes1
+width_one s o = ap (λ (b : Bool). cond b 3 2 * node_bytes s) o
 
 pub h0-length : (r : ℕ) (m : List ℕ) (n : ℕ) → length (hash0 r m n) ≡ n
 unfolding hash0 shake sponge
 h0-length r m n = length-tabulate n _
 
 -- what is written: the message's first part, the message, the hash, the seed and the commitment
-module _ (s : Shape) (key iv d e f g : List ℕ) (n r : ℕ) (o : ordinary s ≡ false) (en : n ≡ nodeBytes s) (er : r ≡ rate s)
-    (ek : length key ≡ nodeBytes s) (ei : length iv ≡ 16) (ed : length d ≡ nodeBytes s + 16) (ee : length e ≡ nodeBytes s + leafCommitmentBytes s)
-    (ef : length f ≡ nodeBytes s) (eg : length g ≡ leafCommitmentBytes s)
+module _ (s : Shape) (key iv d e f g : List ℕ) (n r : ℕ) (o : ordinary s ≡ false) (en : n ≡ node_bytes s) (er : r ≡ rate s)
+    (ek : length key ≡ node_bytes s) (ei : length iv ≡ 16) (ed : length d ≡ node_bytes s + 16) (ee : length e ≡ node_bytes s + leaf_commitment_bytes s)
+    (ef : length f ≡ node_bytes s) (eg : length g ≡ leaf_commitment_bytes s)
     (m₁ m h seed out : List ℕ) (e₁ : m₁ ≡ take n key ++ drop (0 + n) d) (em : m ≡ take n m₁ ++ (take 16 iv ++ drop (n + 16) m₁))
     (eh : h ≡ hash0 r m (length e)) (es : seed ≡ take n h ++ drop (0 + n) f) (eo : out ≡ take (length g) (drop n h) ++ drop (0 + length g) g) where
-  hash-is : h ≡ hashedLeaf faest1 s iv key
-  unfolding faest faest1 hashedLeaf
+  hash-is : h ≡ hashed_leaf faest1 s iv key
+  unfolding faest faest1 hashed_leaf
   hash-is =
       eh
       ∙ ap₂ (λ (r : ℕ) (x : List ℕ). hash0 r x (length e)) er
       (em ∙ ap (λ (x : List ℕ). take n x ++ (take 16 iv ++ drop (n + 16) x)) e₁ ∙ message key iv d n (ek ∙ sym en) ei (ed ∙ ap (λ (n : ℕ). n + 16) (sym en)))
-      ∙ ap (hash0 (rate s) (key ++ iv)) (ee ∙ ap (λ (w : ℕ). nodeBytes s + w) (width_one s o))
+      ∙ ap (hash0 (rate s) (key ++ iv)) (ee ∙ ap (λ (w : ℕ). node_bytes s + w) (width_one s o))
 
-  pub seed-one : seed ≡ leafSeed1 faest1 s iv key
-  unfolding leafSeed1
+  pub seed-one : seed ≡ leaf_seed1 faest1 s iv key
+  unfolding leaf_seed1
   seed-one = es ∙ copied n (take n h) f (ef ∙ sym en) ∙ ap₂ take en hash-is
 
-  pub commitment-one : out ≡ leafCommitment1 faest1 s iv key
-  unfolding leafCommitment1
+  pub commitment-one : out ≡ leaf_commitment1 faest1 s iv key
+  unfolding leaf_commitment1
   commitment-one =
       let long : length h ≡ length e = ap length eh ∙ h0-length r m (length e) in
       eo

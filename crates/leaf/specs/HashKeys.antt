@@ -3,14 +3,14 @@
 use Rattle.std.specs.Prelude.{ℕ, ◌*◌, ◌≡◌, true, List, length}
 use Rattle.spec.specs.declared.Shape.{Shape}
 use Rattle.spec.specs.Bytes.{number}
-use Rattle.spec.specs.Shapes.{ordinary, leafCommitmentBytes, fieldWidth, fieldPolynomial}
+use Rattle.spec.specs.Shapes.{ordinary, leaf_commitment_bytes, field_width, field_polynomial}
 use Rattle.spec.specs.Primitives.{faest}
-use Rattle.spec.specs.Leaves.{hashKey}
+use Rattle.spec.specs.Leaves.{hash_key}
 use Rattle.field_limbs.specs.Multiples.{Multiples}
 
 pub record HashKeys (s : Shape) (iv keys : List ℕ) : Type 0 where
-  pub size : length keys ≡ leafCommitmentBytes s * s.tau
-  pub made : ordinary s ≡ true → keys ≡ faest.h0 s iv (leafCommitmentBytes s * s.tau)
+  pub size : length keys ≡ leaf_commitment_bytes s * s.tau
+  pub made : ordinary s ≡ true → keys ≡ faest.h0 s iv (leaf_commitment_bytes s * s.tau)
 
 unfoldable pub HashMultiples : Shape → List ℕ → ℕ → List (List ℕ) → Type 0
-HashMultiples s iv i m = ordinary s ≡ true → Multiples (fieldWidth s) (fieldPolynomial s) (number 8 (hashKey faest s iv i)) m
+HashMultiples s iv i m = ordinary s ≡ true → Multiples (field_width s) (field_polynomial s) (number 8 (hash_key faest s iv i)) m

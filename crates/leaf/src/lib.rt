@@ -1,12 +1,14 @@
 // FAEST.LeafCommit and FAEST-EM.LeafCommit of document 000, section 5.1, and the hashed leaf of version 1: from the leaf of an entry its seed and its commitment. Beside the shape rules and the record the leaf kind is seen here alone.
+#![tactic(auto)]
+
 ghost use Rattle.std.specs.Prelude.{◌≡◌, true, false, List, ℕ, ◌+◌, ◌-◌, ◌*◌, ◌^◌, ◌≤◌, ◌<◌, length};
 ghost use Rattle.spec.specs.Gf256.{SboxTable};
-ghost use Rattle.spec.specs.Shapes.{ordinary, nodeBytes, leafCommitmentBytes, leaves, shapeOk};
+ghost use Rattle.spec.specs.Shapes.{ordinary, node_bytes, leaf_commitment_bytes, leaves, shape_ok};
 ghost use Rattle.spec.specs.Primitives.{faest};
-ghost use Rattle.spec.specs.Leaves.{leafSeed, leafCommitment};
-ghost use Rattle.spec.specs.Version1.{faest1, leafSeed1, leafCommitment1};
+ghost use Rattle.spec.specs.Leaves.{leaf_seed, leaf_commitment};
+ghost use Rattle.spec.specs.Version1.{faest1, leaf_seed1, leaf_commitment1};
 ghost use Rattle.job.specs.declared.Version.TheVariants.{Two};
-ghost use Rattle.job.specs.Versions.{KindFits, leafSeedOf, leafCommitmentOf};
+ghost use Rattle.job.specs.Versions.{KindFits, leaf_seed_of, leaf_commitment_of};
 ghost use Rattle.leaf.specs.HashKeys.{HashKeys, HashMultiples};
 
 use job::{Nonce, Version};
@@ -22,7 +24,7 @@ pub fn leaf_tweak(i: usize, n: usize) -> u32
 
 // The hash keys of all vectors, which ordinary leaves need.
 pub fn hash_keys(s: Shape, iv: &[u8], keys: &mut [u8])
-    requires { (shapeOk s ≡ true) × (length keys.old ≡ leafCommitmentBytes s * s.tau) }
+    requires { (shape_ok s ≡ true) × (length keys.old ≡ leaf_commitment_bytes s * s.tau) }
     ensures { HashKeys s iv.now keys.new }
 {
     if rules::is_ordinary(s) {
@@ -32,7 +34,7 @@ pub fn hash_keys(s: Shape, iv: &[u8], keys: &mut [u8])
 
 // The multiples of the hash key of vector i; of leaves that have none any table will do.
 pub fn hash_multiples(s: Shape, i: usize, keys: &[u8]) -> [[u64; 12]; 16]
-    requires { (shapeOk s ≡ true) × (i < s.tau) × (length keys.now ≡ leafCommitmentBytes s * s.tau) }
+    requires { (shape_ok s ≡ true) × (i < s.tau) × (length keys.now ≡ leaf_commitment_bytes s * s.tau) }
     ensures { (iv : List ℕ) → HashKeys s iv keys.now → HashMultiples s iv i result }
 {
     if rules::is_ordinary(s) {
@@ -54,9 +56,9 @@ fn stretch_leaf(
     out: &mut [u8],
 )
     requires sbox_table { SboxTable t.now }
-    requires s_value { (shapeOk s ≡ true) × (ordinary s ≡ true) × (x.version ≡ Two) × (length key.now ≡ nodeBytes s) × (length stretched.old ≡ nodeBytes s + leafCommitmentBytes s) × (length seed.old ≡ nodeBytes s) × (length out.old ≡ leafCommitmentBytes s) }
+    requires s_value { (shape_ok s ≡ true) × (ordinary s ≡ true) × (x.version ≡ Two) × (length key.now ≡ node_bytes s) × (length stretched.old ≡ node_bytes s + leaf_commitment_bytes s) × (length seed.old ≡ node_bytes s) × (length out.old ≡ leaf_commitment_bytes s) }
     ensures { (i : ℕ) → x.tweak ≡ i + leaves s - 1 → HashMultiples s x.iv i m.now
-        → (seed.new ≡ leafSeed faest s x.iv i key.now) × (out.new ≡ leafCommitment faest s x.iv i key.now) }
+        → (seed.new ≡ leaf_seed faest s x.iv i key.now) × (out.new ≡ leaf_commitment faest s x.iv i key.now) }
 {
     let n = rules::node_bytes(s);
     generator::fill(t, key, x, 0, stretched);
@@ -67,9 +69,9 @@ fn stretch_leaf(
 // The same of an Even-Mansour leaf: it is its own seed.
 fn em_leaf(t: &[u8; 256], s: Shape, key: &[u8], x: Nonce, seed: &mut [u8], out: &mut [u8])
     requires sbox_table { SboxTable t.now }
-    requires s_value { (shapeOk s ≡ true) × (ordinary s ≡ false) × (x.version ≡ Two) × (length key.now ≡ nodeBytes s) × (length seed.old ≡ nodeBytes s) × (length out.old ≡ leafCommitmentBytes s) }
+    requires s_value { (shape_ok s ≡ true) × (ordinary s ≡ false) × (x.version ≡ Two) × (length key.now ≡ node_bytes s) × (length seed.old ≡ node_bytes s) × (length out.old ≡ leaf_commitment_bytes s) }
     ensures { (i : ℕ) → x.tweak ≡ i + leaves s - 1
-        → (seed.new ≡ leafSeed faest s x.iv i key.now) × (out.new ≡ leafCommitment faest s x.iv i key.now) }
+        → (seed.new ≡ leaf_seed faest s x.iv i key.now) × (out.new ≡ leaf_commitment faest s x.iv i key.now) }
 {
     generator::fill(t, key, x, 0, out);
     buffers::copy_part(key, 0, key.len(), seed, 0);
@@ -85,8 +87,8 @@ fn hash_leaf(
     seed: &mut [u8],
     out: &mut [u8],
 )
-    requires { (shapeOk s ≡ true) × (ordinary s ≡ false) × (length key.now ≡ nodeBytes s) × (length message.old ≡ nodeBytes s + 16) × (length hashed.old ≡ nodeBytes s + leafCommitmentBytes s) × (length seed.old ≡ nodeBytes s) × (length out.old ≡ leafCommitmentBytes s) }
-    ensures { (seed.new ≡ leafSeed1 faest1 s iv key.now) × (out.new ≡ leafCommitment1 faest1 s iv key.now) }
+    requires { (shape_ok s ≡ true) × (ordinary s ≡ false) × (length key.now ≡ node_bytes s) × (length message.old ≡ node_bytes s + 16) × (length hashed.old ≡ node_bytes s + leaf_commitment_bytes s) × (length seed.old ≡ node_bytes s) × (length out.old ≡ leaf_commitment_bytes s) }
+    ensures { (seed.new ≡ leaf_seed1 faest1 s iv key.now) × (out.new ≡ leaf_commitment1 faest1 s iv key.now) }
 {
     let n = rules::node_bytes(s);
     buffers::copy_part(key, 0, n, message, 0);
@@ -98,8 +100,8 @@ fn hash_leaf(
 
 // The same with its own room.
 fn hash_leaf_in_place(s: Shape, key: &[u8], iv: [u8; 16], seed: &mut [u8], out: &mut [u8])
-    requires { (shapeOk s ≡ true) × (ordinary s ≡ false) × (length key.now ≡ nodeBytes s) × (length seed.old ≡ nodeBytes s) × (length out.old ≡ leafCommitmentBytes s) }
-    ensures { (seed.new ≡ leafSeed1 faest1 s iv key.now) × (out.new ≡ leafCommitment1 faest1 s iv key.now) }
+    requires { (shape_ok s ≡ true) × (ordinary s ≡ false) × (length key.now ≡ node_bytes s) × (length seed.old ≡ node_bytes s) × (length out.old ≡ leaf_commitment_bytes s) }
+    ensures { (seed.new ≡ leaf_seed1 faest1 s iv key.now) × (out.new ≡ leaf_commitment1 faest1 s iv key.now) }
 {
     let n = rules::node_bytes(s);
     let w = n + rules::commitment_bytes(s);
@@ -127,9 +129,9 @@ fn leaf_of_kind(
     out: &mut [u8],
 )
     requires sbox_table { SboxTable t.now }
-    requires s_value { (shapeOk s ≡ true) × (x.version ≡ Two) × (length key.now ≡ nodeBytes s) × (length seed.old ≡ nodeBytes s) × (length out.old ≡ leafCommitmentBytes s) }
+    requires s_value { (shape_ok s ≡ true) × (x.version ≡ Two) × (length key.now ≡ node_bytes s) × (length seed.old ≡ node_bytes s) × (length out.old ≡ leaf_commitment_bytes s) }
     ensures { (i : ℕ) → x.tweak ≡ i + leaves s - 1 → HashMultiples s x.iv i m.now
-        → (seed.new ≡ leafSeed faest s x.iv i key.now) × (out.new ≡ leafCommitment faest s x.iv i key.now) }
+        → (seed.new ≡ leaf_seed faest s x.iv i key.now) × (out.new ≡ leaf_commitment faest s x.iv i key.now) }
 {
     if !rules::is_ordinary(s) {
         em_leaf(t, s, key, x, seed, out);
@@ -151,9 +153,9 @@ pub fn commit_leaf(
     out: &mut [u8],
 )
     requires sbox_table { SboxTable t.now }
-    requires s_value { (shapeOk s ≡ true) × KindFits x.version s × (length key.now ≡ nodeBytes s) × (length seed.old ≡ nodeBytes s) × (length out.old ≡ leafCommitmentBytes s) }
+    requires s_value { (shape_ok s ≡ true) × KindFits x.version s × (length key.now ≡ node_bytes s) × (length seed.old ≡ node_bytes s) × (length out.old ≡ leaf_commitment_bytes s) }
     ensures { (i : ℕ) → x.tweak ≡ i + leaves s - 1 → HashMultiples s x.iv i m.now
-        → (seed.new ≡ leafSeedOf x.version s x.iv i key.now) × (out.new ≡ leafCommitmentOf x.version s x.iv i key.now) }
+        → (seed.new ≡ leaf_seed_of x.version s x.iv i key.now) × (out.new ≡ leaf_commitment_of x.version s x.iv i key.now) }
 {
     let iv = x.iv;
     let version = x.version;

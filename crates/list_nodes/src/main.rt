@@ -1,5 +1,7 @@
 // The listing program: reads at most 64 bytes, which decide what it lists, and writes the listing. A failed read is said on standard error, and
 // nothing is listed.
+#![tactic(auto)]
+
 use libc::{STDERR_FILENO, STDIN_FILENO, STDOUT_FILENO};
 
 fn main() {

@@ -1,4 +1,6 @@
 // Runs the listing on fixed inputs and writes the outputs one after another. `stdout` holds what the second implementation (reference/) prints for each.
+#![tactic(auto)]
+
 use libc::STDOUT_FILENO;
 
 fn run(input: &[u8]) {

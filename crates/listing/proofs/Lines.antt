@@ -7,14 +7,14 @@ use native.Mathlib.Decide.{dec_lt}
 use lib.ListN.{length, take}
 use lib.Seq.{take_all, length-take-le}
 use Rattle.laws.proofs.Conjunctions.{refuted}
-use Rattle.listing_line.specs.Line.{lineOk}
+use Rattle.listing_line.specs.Line.{line_ok}
 use Rattle.listing_line.proofs.Lines.{line-length}
-use Rattle.listing_text.specs.Text.{refusedText}
+use Rattle.listing_text.specs.Text.{refused_text}
 use Rattle.listing.specs.Listing.{listing}
 
-pub too_long : (input : List ℕ) → 57 < length input → listing input ≡ refusedText 7
+pub too_long : (input : List ℕ) → 57 < length input → listing input ≡ refused_text 7
 unfolding listing
-too_long input h = rw (sym (refuted (lineOk input) (λ e. omega (arith, line-length input e)))) refl
+too_long input h = rw (sym (refuted (line_ok input) (λ e. omega (arith, line-length input e)))) refl
 
 pub first-64 : (input : List ℕ) → listing (take 64 input) ≡ listing input
 first-64 input = go (dec_lt 64 (length input))

@@ -1,15 +1,17 @@
 // The listing program of document 01, from the bytes of its input to the bytes of its output.
+#![tactic(auto)]
+
 ghost use Rattle.std.specs.Prelude.{◌≡◌, List, ℕ, ◌≤◌, length, take, drop};
 ghost use Rattle.spec.specs.Shapes.{resolved};
 ghost use Rattle.listing_text.specs.Put.{Put};
-ghost use Rattle.listing.specs.Listing.{planText, listing};
+ghost use Rattle.listing.specs.Listing.{plan_text, listing};
 
 use spec::Shape;
 
 // Writes the nodes of a plan or its refusal. `nodes` has room for every T that is allowed; a larger one is refused whatever the list's length.
 fn put_plan(out: &mut [u8], shape: Shape, challenge: &[u8], nodes: &mut [u32]) -> usize
     requires { (4096 ≤ length out.old) × (512 ≤ length nodes.old) × (shape.level ≡ 128) }
-    ensures { Put (planText (resolved shape) challenge.now) 0 out.old out.new result }
+    ensures { Put (plan_text (resolved shape) challenge.now) 0 out.old out.new result }
 {
     let s = rules::resolve(shape);
     let t = numbers::min(s.t, 512);

@@ -1,20 +1,22 @@
 // Reads the line of the listing program, four numbers, each with a space behind it, and a challenge in hexadecimal; and the line that has the four numbers alone.
+#![tactic(auto)]
+
 ghost use Rattle.std.specs.Prelude.{◌≡◌, true, ◌<◌, ◌≤◌, length};
-ghost use Rattle.listing_line.specs.Line.{isDigit, digitRun, numberOk, number_of, afterNumber, behind};
-ghost use Rattle.listing_line.specs.Line.{isHexDigit, hexValue, hexBelow, challengeOk, challengeOf};
-ghost use Rattle.listing_line.specs.Line.{lineOk, lastNumberOk, shapeLineOk, ShortNumbers, shape_of};
+ghost use Rattle.listing_line.specs.Line.{is_digit, digit_run, number_ok, number_of, after_number, behind};
+ghost use Rattle.listing_line.specs.Line.{is_hex_digit, hex_value, hex_below, challenge_ok, challenge_of};
+ghost use Rattle.listing_line.specs.Line.{line_ok, last_number_ok, shape_line_ok, ShortNumbers, shape_of};
 
 use spec::Shape;
 
 fn is_digit(c: u8) -> bool
-    ensures { result ≡ isDigit c }
+    ensures { result ≡ is_digit c }
 {
     (b'0' <= c) & (c <= b'9')
 }
 
 // How many decimal digits a text begins with.
 fn digit_run(text: &[u8]) -> usize
-    ensures { (result ≡ digitRun text.now) × (result ≤ length text.now) }
+    ensures { (result ≡ digit_run text.now) × (result ≤ length text.now) }
 {
     let mut i = 0;
     while i < text.len() {
@@ -28,7 +30,7 @@ fn digit_run(text: &[u8]) -> usize
 
 // Whether a text begins with a number of one to five digits and a space.
 fn number_ok(text: &[u8]) -> bool
-    ensures { result ≡ numberOk text.now }
+    ensures { result ≡ number_ok text.now }
 {
     let n = digit_run(text);
     if n == text.len() {
@@ -39,7 +41,7 @@ fn number_ok(text: &[u8]) -> bool
 
 // The number that a text begins with.
 fn number_of(text: &[u8]) -> usize
-    requires { digitRun text.now ≤ 5 }
+    requires { digit_run text.now ≤ 5 }
     ensures { result ≡ number_of text.now }
 {
     let n = digit_run(text);
@@ -54,7 +56,7 @@ fn number_of(text: &[u8]) -> usize
 
 // What stands behind a number and one byte more.
 fn after_number(text: &[u8]) -> &[u8]
-    ensures { result.now ≡ afterNumber text.now }
+    ensures { result.now ≡ after_number text.now }
 {
     let n = digit_run(text);
     if n == text.len() {
@@ -78,15 +80,15 @@ pub fn behind(input: &[u8], n: usize) -> &[u8]
 }
 
 fn is_hex_digit(c: u8) -> bool
-    ensures { result ≡ isHexDigit c }
+    ensures { result ≡ is_hex_digit c }
 {
     is_digit(c) | ((b'a' <= c) & (c <= b'f'))
 }
 
 // The value of a hexadecimal digit.
 fn hex_value(c: u8) -> u8
-    requires { isHexDigit c ≡ true }
-    ensures { (result ≡ hexValue c) × (result < 16) }
+    requires { is_hex_digit c ≡ true }
+    ensures { (result ≡ hex_value c) × (result < 16) }
 {
     if is_digit(c) {
         return c - b'0';
@@ -97,7 +99,7 @@ fn hex_value(c: u8) -> u8
 // Whether each of the first n bytes is a hexadecimal digit.
 fn hex_below(text: &[u8], n: usize) -> bool
     requires { n ≤ length text.now }
-    ensures { result ≡ hexBelow n text.now }
+    ensures { result ≡ hex_below n text.now }
 {
     let mut i = 0;
     while i < n {
@@ -111,7 +113,7 @@ fn hex_below(text: &[u8], n: usize) -> bool
 
 // Whether a text is 32 hexadecimal digits and at most a line feed.
 fn challenge_ok(text: &[u8]) -> bool
-    ensures { result ≡ challengeOk text.now }
+    ensures { result ≡ challenge_ok text.now }
 {
     let n = text.len();
     if n == 32 {
@@ -125,8 +127,8 @@ fn challenge_ok(text: &[u8]) -> bool
 
 // The challenge, two digits for each byte.
 pub fn challenge_of(text: &[u8]) -> [u8; 16]
-    requires { challengeOk text.now ≡ true }
-    ensures { result ≡ challengeOf text.now }
+    requires { challenge_ok text.now ≡ true }
+    ensures { result ≡ challenge_of text.now }
 {
     let mut challenge = [0u8; 16];
     let mut i = 0;
@@ -139,7 +141,7 @@ pub fn challenge_of(text: &[u8]) -> [u8; 16]
 
 // Whether an input is a whole line.
 pub fn line_ok(input: &[u8]) -> bool
-    ensures { result ≡ lineOk input.now }
+    ensures { result ≡ line_ok input.now }
 {
     number_ok(input)
         & number_ok(behind(input, 1))
@@ -150,7 +152,7 @@ pub fn line_ok(input: &[u8]) -> bool
 
 // Whether a text is a number of one to five digits and at most a line feed.
 fn last_number_ok(text: &[u8]) -> bool
-    ensures { result ≡ lastNumberOk text.now }
+    ensures { result ≡ last_number_ok text.now }
 {
     let n = digit_run(text);
     if n == text.len() {
@@ -161,7 +163,7 @@ fn last_number_ok(text: &[u8]) -> bool
 
 // Whether an input is a line that has the four numbers alone.
 pub fn shape_line_ok(input: &[u8]) -> bool
-    ensures { result ≡ shapeLineOk input.now }
+    ensures { result ≡ shape_line_ok input.now }
 {
     number_ok(input)
         & number_ok(behind(input, 1))

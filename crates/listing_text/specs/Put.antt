@@ -10,8 +10,8 @@ pub record Put (text : List ℕ) (at : ℕ) (before after : List ℕ) (r : ℕ) 
   pub rest : drop r after ≡ drop r before
 
 -- a number and a line feed; such a line for each of the first n numbers of a list
-abbrev pub numberLine : ℕ → List ℕ
-numberLine n = decimal n ++ (10 ∷ [])
+abbrev pub number_line : ℕ → List ℕ
+number_line n = decimal n ++ (10 ∷ [])
 
-abbrev pub numberLines : List ℕ → ℕ → List ℕ
-numberLines numbers n = concat n (λ m. numberLine (get_or numbers m 0))
+abbrev pub number_lines : List ℕ → ℕ → List ℕ
+number_lines numbers n = concat n (λ m. number_line (get_or numbers m 0))

@@ -1,7 +1,9 @@
 // Writes the texts of the listing program: each function puts one at a place of the output and answers the place behind it.
+#![tactic(auto)]
+
 ghost use Rattle.std.specs.Prelude.{[], ◌∷◌, ℕ, ◌+◌, ◌*◌, ◌<◌, ◌≤◌, length, get_or};
-ghost use Rattle.listing_text.specs.Text.{decimal, refusedText, pairText, nodesText};
-ghost use Rattle.listing_text.specs.Put.{Put, numberLine, numberLines};
+ghost use Rattle.listing_text.specs.Text.{decimal, refused_text, pair_text, nodes_text};
+ghost use Rattle.listing_text.specs.Put.{Put, number_line, number_lines};
 
 pub fn put_byte(out: &mut [u8], at: usize, b: u8) -> usize
     requires { at < length out.old }
@@ -46,7 +48,7 @@ pub fn put_decimal(out: &mut [u8], at: usize, n: usize) -> usize
 // A number of at most five digits, and a line feed.
 pub fn put_line(out: &mut [u8], at: usize, n: usize) -> usize
     requires { (n < 100000) × (at + 6 ≤ length out.old) }
-    ensures { Put (numberLine n) at out.old out.new result }
+    ensures { Put (number_line n) at out.old out.new result }
 {
     let end = put_decimal(out, at, n);
     put_byte(out, end, b'\n')
@@ -55,7 +57,7 @@ pub fn put_line(out: &mut [u8], at: usize, n: usize) -> usize
 // A line for each number.
 fn put_lines(out: &mut [u8], at: usize, numbers: &[u32]) -> usize
     requires { (at + 6 * length numbers.now ≤ length out.old) × ((m : ℕ) → get_or numbers.now m 0 < 100000) }
-    ensures { Put (numberLines numbers.now (length numbers.now)) at out.old out.new result }
+    ensures { Put (number_lines numbers.now (length numbers.now)) at out.old out.new result }
 {
     let mut end = at;
     let mut i = 0;
@@ -69,7 +71,7 @@ fn put_lines(out: &mut [u8], at: usize, numbers: &[u32]) -> usize
 // Two numbers of at most ten digits, with a space between them, and a line feed.
 pub fn put_pair(out: &mut [u8], at: usize, m: usize, n: usize) -> usize
     requires { (m < 10000000000) × (n < 10000000000) × (at + 22 ≤ length out.old) }
-    ensures { Put (pairText m n) at out.old out.new result × (result ≤ at + 22) }
+    ensures { Put (pair_text m n) at out.old out.new result × (result ≤ at + 22) }
 {
     let end = put_decimal(out, at, m);
     let next = put_byte(out, end, b' ');
@@ -80,7 +82,7 @@ pub fn put_pair(out: &mut [u8], at: usize, m: usize, n: usize) -> usize
 // `refused ` and the number, at a place.
 pub fn put_refusal(out: &mut [u8], at: usize, number: usize) -> usize
     requires { (number < 100000) × (at + 14 ≤ length out.old) }
-    ensures { Put (refusedText number) at out.old out.new result × (result ≤ at + 14) }
+    ensures { Put (refused_text number) at out.old out.new result × (result ≤ at + 14) }
 {
     let end = put_bytes(out, at, b"refused ");
     put_line(out, end, number)
@@ -89,7 +91,7 @@ pub fn put_refusal(out: &mut [u8], at: usize, number: usize) -> usize
 // The same as all of the output.
 pub fn put_refused(out: &mut [u8], number: usize) -> usize
     requires { (number < 100000) × (14 ≤ length out.old) }
-    ensures { Put (refusedText number) 0 out.old out.new result }
+    ensures { Put (refused_text number) 0 out.old out.new result }
 {
     put_refusal(out, 0, number)
 }
@@ -97,7 +99,7 @@ pub fn put_refused(out: &mut [u8], number: usize) -> usize
 // `nodes ` and the count, then each node on its own line.
 pub fn put_nodes(out: &mut [u8], nodes: &[u32]) -> usize
     requires { (length nodes.now < 100000) × (12 + 6 * length nodes.now ≤ length out.old) × ((m : ℕ) → get_or nodes.now m 0 < 100000) }
-    ensures { Put (nodesText nodes.now (length nodes.now)) 0 out.old out.new result }
+    ensures { Put (nodes_text nodes.now (length nodes.now)) 0 out.old out.new result }
 {
     let at = put_bytes(out, 0, b"nodes ");
     let first = put_line(out, at, nodes.len());

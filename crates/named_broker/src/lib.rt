@@ -1,15 +1,17 @@
 // The broker's check of a record for named sets alone, document 02, E13: a layer over check_record. Nothing here depends on the signing half.
+#![tactic(auto)]
+
 ghost use Rattle.std.specs.Prelude.{◌≡◌, List, ℕ};
 ghost use Rattle.spec.specs.Primitives.{faest};
 ghost use Rattle.record_reading.specs.Front.{ReadFront};
-ghost use Rattle.named_sets.specs.NamedCalls.{frontNumber, CheckNamed};
+ghost use Rattle.named_sets.specs.NamedCalls.{front_number, CheckNamed};
 
 use record_reading::Front;
 use spec::Answer;
 
 // The number of the front of every record whose reading gives this.
 fn number_of(f: Front) -> usize
-    ensures { (rec : List ℕ) → ReadFront rec f → result ≡ frontNumber rec }
+    ensures { (rec : List ℕ) → ReadFront rec f → result ≡ front_number rec }
 {
     if f.number != 0 {
         return f.number;
@@ -23,7 +25,7 @@ fn number_of(f: Front) -> usize
 
 // The front: 9, 10, 1 or 2, then 13 where it is no named set's, or 0.
 pub fn front_number(record: &[u8]) -> usize
-    ensures { result ≡ frontNumber «record».now }
+    ensures { result ≡ front_number «record».now }
 {
     number_of(record_reading::front_of(record))
 }
@@ -36,8 +38,8 @@ pub fn check_named(
     q: &mut [u8],
 ) -> Answer
     ensures { CheckNamed faest «record».now
-        (record { tree = tree.entry.now; leafCommitments = leaf_commitments.old; q = q.old })
-        (record { tree = tree.exit.now; leafCommitments = leaf_commitments.new; q = q.new })
+        (record { tree = tree.entry.now; leaf_commitments = leaf_commitments.old; q = q.old })
+        (record { tree = tree.exit.now; leaf_commitments = leaf_commitments.new; q = q.new })
         result }
 {
     let f = record_reading::front_of(record);

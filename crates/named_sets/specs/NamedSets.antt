@@ -32,16 +32,16 @@ sets =
     ∷ []
 
 -- the shape: k is the smaller depth, table 5.1's k - 1; leaves with two blocks are Even-Mansour
-unfoldable pub shapeOfSet : Set → Shape
-shapeOfSet x = record { tau = x.tau; k = (x.lambda - x.w) / x.tau; w = x.w; t = x.t; level = x.lambda; kind = 3 - x.blocks }
+unfoldable pub shape_of_set : Set → Shape
+shape_of_set x = record { tau = x.tau; k = (x.lambda - x.w) / x.tau; w = x.w; t = x.t; level = x.lambda; kind = 3 - x.blocks }
 
 -- the row length in bits: table 5.1's l-hat, l + 3 lambda + B, with B 16
-unfoldable pub rowOfSet : Set → ℕ
-rowOfSet x = x.l + 3 * x.lambda + 16
+unfoldable pub row_of_set : Set → ℕ
+row_of_set x = x.l + 3 * x.lambda + 16
 
 -- the bytes of a signature, by the formula of section 3.1: table 3.2's last column
-unfoldable pub signatureBytes : Set → ℕ
-signatureBytes x = (x.tau * rowOfSet x + x.t * x.lambda + x.blocks * x.lambda * x.tau + x.lambda + 128 + 32) / 8
+unfoldable pub signature_bytes : Set → ℕ
+signature_bytes x = (x.tau * row_of_set x + x.t * x.lambda + x.blocks * x.lambda * x.tau + x.lambda + 128 + 32) / 8
 
 -- ---- whether a shape and a row length are those of a set
 
@@ -50,8 +50,8 @@ same_shape a b = eqb a.tau b.tau && eqb a.k b.k && eqb a.w b.w && eqb a.t b.t &&
 
 unfoldable pub named_in : List Set → Shape → ℕ → Bool
 named_in [] s n = false
-named_in (x ∷ xs) s n = (same_shape s (shapeOfSet x) && eqb n (rowOfSet x)) || named_in xs s n
+named_in (x ∷ xs) s n = (same_shape s (shape_of_set x) && eqb n (row_of_set x)) || named_in xs s n
 
 -- the shape as it is given: four zeros are no set
-unfoldable pub namedOk : Shape → ℕ → Bool
-namedOk s n = named_in sets s n
+unfoldable pub named_ok : Shape → ℕ → Bool
+named_ok s n = named_in sets s n

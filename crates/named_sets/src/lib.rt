@@ -1,6 +1,8 @@
 // The named sets, document 02, E13: the table stands in ../specs.
+#![tactic(auto)]
+
 ghost use Rattle.std.specs.Prelude.{◌≡◌, ◌&&◌, eqb};
-ghost use Rattle.named_sets.specs.NamedSets.{same_shape, namedOk};
+ghost use Rattle.named_sets.specs.NamedSets.{same_shape, named_ok};
 
 use spec::Shape;
 
@@ -29,7 +31,7 @@ fn is_row(
 
 // Whether a shape and a row length in bits are those of a named set.
 pub fn is_named(s: Shape, n: usize) -> bool
-    ensures { result ≡ namedOk s n }
+    ensures { result ≡ named_ok s n }
 {
     let em = is_row(s, n, 11, 11, 7, 103, 128, 1, 1360)
         | (is_row(s, n, 16, 7, 8, 112, 128, 1, 1360)

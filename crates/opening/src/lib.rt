@@ -1,16 +1,18 @@
 // The bytes of an opening: the hidden leaf commitments, and behind them the slots, which hold the revealed nodes and then zeros.
+#![tactic(auto)]
+
 ghost use Rattle.std.specs.Prelude.{◌≡◌, true, ◌++◌, ℕ, ◌+◌, ◌-◌, ◌*◌, ◌≤◌, ◌<◌, length, get_or, take};
 ghost use Rattle.spec.specs.Bytes.{part, concat, zeros};
-ghost use Rattle.spec.specs.Shapes.{nodeBytes, challengeBytes, leafCommitmentBytes, shapeOk, leaves, hiddenIndex, treeBytes, leafCommitmentsBytes, openingBytes};
-ghost use Rattle.spec.specs.Leaves.{nodeAt};
-ghost use Rattle.spec.specs.Signer.{leafCommitmentAt};
+ghost use Rattle.spec.specs.Shapes.{node_bytes, challenge_bytes, leaf_commitment_bytes, shape_ok, leaves, hidden_index, tree_bytes, leaf_commitments_bytes, opening_bytes};
+ghost use Rattle.spec.specs.Leaves.{node_at};
+ghost use Rattle.spec.specs.Signer.{leaf_commitment_at};
 
 use spec::Shape;
 
 // The hidden leaf commitment of each vector, at the front.
 pub fn write_hidden(s: Shape, ch: &[u8], lcs: &[u8], out: &mut [u8])
-    requires { (shapeOk s ≡ true) × (length ch.now ≡ challengeBytes s) × (length lcs.now ≡ leafCommitmentsBytes s) × (leafCommitmentBytes s * s.tau ≤ length out.old) }
-    ensures { take (leafCommitmentBytes s * s.tau) out.new ≡ concat s.tau (λ i. leafCommitmentAt s lcs.now i (hiddenIndex s ch.now i)) }
+    requires { (shape_ok s ≡ true) × (length ch.now ≡ challenge_bytes s) × (length lcs.now ≡ leaf_commitments_bytes s) × (leaf_commitment_bytes s * s.tau ≤ length out.old) }
+    ensures { take (leaf_commitment_bytes s * s.tau) out.new ≡ concat s.tau (λ i. leaf_commitment_at s lcs.now i (hidden_index s ch.now i)) }
 {
     let tau = s.tau;
     let w = rules::commitment_bytes(s);
@@ -36,9 +38,9 @@ fn write_nodes(w: usize, nodes: &[u32], n: usize, tree: &[u8], out: &mut [u8], a
 
 // The slots behind the hidden leaf commitments: the first n of the nodes listed, and zeros in the unused slots.
 pub fn write_slots(s: Shape, nodes: &[u32], n: usize, tree: &[u8], out: &mut [u8])
-    requires s_value { (shapeOk s ≡ true) × (length tree.now ≡ treeBytes s) × (length out.old ≡ openingBytes s) }
+    requires s_value { (shape_ok s ≡ true) × (length tree.now ≡ tree_bytes s) × (length out.old ≡ opening_bytes s) }
     requires n_le_t { (n ≤ s.t) × (n ≤ length nodes.now) × ((m : ℕ) → m < n → get_or nodes.now m 0 < 2 * leaves s - 1) }
-    ensures { out.new ≡ (take (leafCommitmentBytes s * s.tau) out.old ++ concat n (λ m. nodeAt s tree.now (get_or nodes.now m 0))) ++ zeros (nodeBytes s * (s.t - n)) }
+    ensures { out.new ≡ (take (leaf_commitment_bytes s * s.tau) out.old ++ concat n (λ m. node_at s tree.now (get_or nodes.now m 0))) ++ zeros (node_bytes s * (s.t - n)) }
 {
     let w = rules::node_bytes(s);
     let first = rules::commitment_bytes(s) * s.tau;

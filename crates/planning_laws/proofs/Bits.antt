@@ -9,8 +9,8 @@ use lib.Dec.{eqb, lit<}
 use lib.ListN.{get_or}
 use lib.Pow.{pow_mono}
 use borrow.Author.Tests.{eq-eqb, ne_eqb}
-use Rattle.spec.specs.Bytes.{tabulate, number, allZero}
-use Rattle.spec.specs.Challenge.{bit_at, bits_at, index_at, clearAt}
+use Rattle.spec.specs.Bytes.{tabulate, number, all_zero}
+use Rattle.spec.specs.Challenge.{bit_at, bits_at, index_at, clear_at}
 use Rattle.laws.proofs.Lists.{tabulate-same}
 
 pub bit-lt : (ch : List ℕ) (b : ℕ) → bit_at ch b < 2
@@ -56,31 +56,31 @@ index-all ch at k j h = ap₂ (index_at ch) (let z : at + j ≡ at = omega arith
 
 -- ---- clear bits, from the first up
 
-clear-more : (ch : List ℕ) (at n : ℕ) → clearAt ch at (suc n) ≡ (eqb (bit_at ch at) 0 && clearAt ch (at + 1) n)
-unfolding clearAt allZero
-clear-more ch at n = ap allZero (bits-more ch at n)
+clear-more : (ch : List ℕ) (at n : ℕ) → clear_at ch at (suc n) ≡ (eqb (bit_at ch at) 0 && clear_at ch (at + 1) n)
+unfolding clear_at all_zero
+clear-more ch at n = ap all_zero (bits-more ch at n)
 
-clear_step : (ch : List ℕ) (at n j : ℕ) → j < n → clearAt ch (at + j) (n - j) ≡ (eqb (bit_at ch (at + j)) 0 && clearAt ch (at + (j + 1)) (n - (j + 1)))
+clear_step : (ch : List ℕ) (at n j : ℕ) → j < n → clear_at ch (at + j) (n - j) ≡ (eqb (bit_at ch (at + j)) 0 && clear_at ch (at + (j + 1)) (n - (j + 1)))
 clear_step ch at n j h =
     let m : n - j ≡ suc (n - (j + 1)) = omega arith in
     let e : at + j + 1 ≡ at + (j + 1) = omega arith in
-    ap (clearAt ch (at + j)) m
+    ap (clear_at ch (at + j)) m
     ∙ clear-more ch (at + j) (n - (j + 1))
-    ∙ ap (λ (a : ℕ). eqb (bit_at ch (at + j)) 0 && clearAt ch a (n - (j + 1))) e
+    ∙ ap (λ (a : ℕ). eqb (bit_at ch (at + j)) 0 && clear_at ch a (n - (j + 1))) e
 
 -- bit j is 1: not all are 0
-pub clear-hit : (ch : List ℕ) (at n j r : ℕ) → j < n → clearAt ch at n ≡ clearAt ch (at + j) (n - j) → r ≡ bit_at ch (at + j) → (r ≡ 0 → ⊥)
-    → false ≡ clearAt ch at n
+pub clear-hit : (ch : List ℕ) (at n j r : ℕ) → j < n → clear_at ch at n ≡ clear_at ch (at + j) (n - j) → r ≡ bit_at ch (at + j) → (r ≡ 0 → ⊥)
+    → false ≡ clear_at ch at n
 clear-hit ch at n j r h inv e ne = sym (inv ∙ clear_step ch at n j h ∙ rw (← e, ne_eqb r 0 ne))
 
 -- bit j is 0: those after it decide
-pub clear-miss : (ch : List ℕ) (at n j r : ℕ) → j < n → clearAt ch at n ≡ clearAt ch (at + j) (n - j) → r ≡ bit_at ch (at + j) → r ≡ 0
-    → clearAt ch at n ≡ clearAt ch (at + (j + 1)) (n - (j + 1))
+pub clear-miss : (ch : List ℕ) (at n j r : ℕ) → j < n → clear_at ch at n ≡ clear_at ch (at + j) (n - j) → r ≡ bit_at ch (at + j) → r ≡ 0
+    → clear_at ch at n ≡ clear_at ch (at + (j + 1)) (n - (j + 1))
 clear-miss ch at n j r h inv e z = inv ∙ clear_step ch at n j h ∙ rw (← e, eq-eqb r 0 z)
 
-pub clear-start : (ch : List ℕ) (at n : ℕ) → clearAt ch at n ≡ clearAt ch (at + 0) (n - 0)
-clear-start ch at n = ap₂ (clearAt ch) (let z : at ≡ at + 0 = omega arith in z) (let z : n ≡ n - 0 = omega arith in z)
+pub clear-start : (ch : List ℕ) (at n : ℕ) → clear_at ch at n ≡ clear_at ch (at + 0) (n - 0)
+clear-start ch at n = ap₂ (clear_at ch) (let z : at ≡ at + 0 = omega arith in z) (let z : n ≡ n - 0 = omega arith in z)
 
-pub clear_none : (ch : List ℕ) (at n : ℕ) → n ≡ 0 → true ≡ clearAt ch at n
-unfolding clearAt bits_at tabulate allZero
+pub clear_none : (ch : List ℕ) (at n : ℕ) → n ≡ 0 → true ≡ clear_at ch at n
+unfolding clear_at bits_at tabulate all_zero
 clear_none ch at n e = rw e refl

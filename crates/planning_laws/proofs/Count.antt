@@ -10,8 +10,8 @@ use native.Mathlib.Decide.{dec_lt}
 use lib.Dec.{eqb}
 use lib.ListN.{length, length-append}
 use borrow.Author.Tests.{eq-eqb, ne_eqb}
-use Rattle.spec.specs.Tree.{some, covered, siblingToReveal, revealedFrom, revealed, nodeCount}
-use Rattle.planning_laws.specs.Lists.{Leaves, WithoutDuplicates, tally, coveredCount}
+use Rattle.spec.specs.Tree.{some, covered, sibling_to_reveal, revealed_from, revealed, node_count}
+use Rattle.planning_laws.specs.Lists.{Leaves, WithoutDuplicates, tally, covered_count}
 use Rattle.planning_laws.proofs.Covered.{covered-inner, covered-leaf, root-covered}
 
 abbrev one : Bool → ℕ
@@ -19,8 +19,8 @@ one b = cond b 1 0
 
 -- ---- revealed and covered nodes
 
-sibling-length : (x y : Bool) (a : ℕ) → length (siblingToReveal x y a) + one x + one y ≡ 2 * one (x || y)
-unfolding siblingToReveal
+sibling-length : (x y : Bool) (a : ℕ) → length (sibling_to_reveal x y a) + one x + one y ≡ 2 * one (x || y)
+unfolding sibling_to_reveal
 sibling-length true true a = refl
 sibling-length true false a = refl
 sibling-length false true a = refl
@@ -34,15 +34,15 @@ tally-two c n a e =
     ap (tally c) q ∙ (ap (λ (m : ℕ). one (c m) + (one (c (2 * a + 1)) + tally c (2 * a + 1))) r ∙ omega arith)
 
 revealed-tally : (c : ℕ → Bool) (n : ℕ) → ((a : ℕ) → a < n → c a ≡ (c (2 * a + 1) || c (2 * a + 2)))
-    → length (revealedFrom c n) + tally c (2 * n + 1) ≡ 2 * tally c n + one (c 0)
-unfolding revealedFrom tally
+    → length (revealed_from c n) + tally c (2 * n + 1) ≡ 2 * tally c n + one (c 0)
+unfolding revealed_from tally
 revealed-tally c zero e = omega arith
 revealed-tally c (suc a) e =
     let ih = revealed-tally c a (λ b h. e b (omega arith)) in
     let o = sibling-length (c (2 * a + 1)) (c (2 * a + 2)) a in
     let p = ap one (e a (omega arith)) in
     let t = tally-two c (2 * suc a + 1) a refl in
-    let l = length-append (siblingToReveal (c (2 * a + 1)) (c (2 * a + 2)) a) (revealedFrom c a) in
+    let l = length-append (sibling_to_reveal (c (2 * a + 1)) (c (2 * a + 2)) a) (revealed_from c a) in
     omega arith
 
 -- ---- the covered leaves are the hidden ones
@@ -123,8 +123,8 @@ members-tally L (x ∷ xs) ls ds =
 -- ---- together
 
 pub count-covered : (L : ℕ) (hs : List ℕ) → Leaves L hs → WithoutDuplicates hs → 0 < length hs
-    → nodeCount L hs + 2 * length hs ≡ coveredCount L hs + 1
-unfolding nodeCount revealed coveredCount
+    → node_count L hs + 2 * length hs ≡ covered_count L hs + 1
+unfolding node_count revealed covered_count
 count-covered L [] ls ds h = absurd (omega arith)
 count-covered L (x ∷ xs) ls ds h =
     let hs = x ∷ xs in

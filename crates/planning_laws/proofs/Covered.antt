@@ -7,7 +7,7 @@ use mathlib.Core.List.{List, [], ◌∷◌}
 use native.Mathlib.Omega.{arith}
 use lib.Dec.{eqb}
 use lib.ListN.{length}
-use Rattle.spec.specs.Tree.{isAncestor, some, covered}
+use Rattle.spec.specs.Tree.{is_ancestor, some, covered}
 use Rattle.planning_laws.specs.Lists.{Leaves}
 use Rattle.planning_laws.proofs.Members.{some_in, some-member}
 use Rattle.planning_laws.proofs.Ancestors.{ancestor-split, ancestor-leaf, ancestor-root, ancestor-le, ancestor-through}
@@ -28,19 +28,19 @@ unfolding covered some
 covered-inner L a [] ls h = refl
 covered-inner L a (x ∷ xs) ls h =
     ap₂ ◌||◌ (ancestor-split a x (omega arith)) (covered-inner L a xs ls.2 h)
-    ∙ or_swap (isAncestor (2 * a + 1) x) (isAncestor (2 * a + 2) x) (some (isAncestor (2 * a + 1)) xs) (some (isAncestor (2 * a + 2)) xs)
+    ∙ or_swap (is_ancestor (2 * a + 1) x) (is_ancestor (2 * a + 2) x) (some (is_ancestor (2 * a + 1)) xs) (some (is_ancestor (2 * a + 2)) xs)
 
 pub root-covered : (x : ℕ) (hs : List ℕ) → covered (x ∷ hs) 0 ≡ true
 unfolding covered some
-root-covered x hs = ap (λ (b : Bool). b || some (isAncestor 0) hs) (ancestor-root x x (omega arith))
+root-covered x hs = ap (λ (b : Bool). b || some (is_ancestor 0) hs) (ancestor-root x x (omega arith))
 
 pub root-hidden : (hs : List ℕ) → 1 ≤ length hs → covered hs 0 ≡ true
 root-hidden [] h = absurd (omega arith)
 root-hidden (x ∷ hs) h = root-covered x hs
 
 -- what is above a covered node is covered
-pub covered-up : (hs : List ℕ) (a b : ℕ) → isAncestor a b ≡ true → covered hs b ≡ true → covered hs a ≡ true
+pub covered-up : (hs : List ℕ) (a b : ℕ) → is_ancestor a b ≡ true → covered hs b ≡ true → covered hs a ≡ true
 unfolding covered
 covered-up hs a b p h =
-    let r = some-member (isAncestor b) hs h in
-    some_in (isAncestor a) hs r.0 r.1 (ancestor-through a b r.0 (ancestor-le a b p) r.2 ∙ p)
+    let r = some-member (is_ancestor b) hs h in
+    some_in (is_ancestor a) hs r.0 r.1 (ancestor-through a b r.0 (ancestor-le a b p) r.2 ∙ p)

@@ -11,29 +11,29 @@ use borrow.Author.Tests.{ne_eqb}
 use Rattle.spec.specs.declared.Shape.{Shape}
 use Rattle.spec.specs.Bytes.{tabulate}
 use Rattle.spec.specs.Tree.{some}
-use Rattle.spec.specs.Shapes.{depth_of, entriesOf, firstBit, leaves, leafOf, hiddenIndex, hiddenLeaf, hiddenLeaves}
+use Rattle.spec.specs.Shapes.{depth_of, entries_of, first_bit, leaves, leaf_of, hidden_index, hidden_leaf, hidden_leaves}
 use Rattle.laws.proofs.Lists.{length-tabulate}
 use Rattle.planning_laws.specs.Lists.{Leaves, WithoutDuplicates}
 use Rattle.planning_laws.proofs.Bits.{index-lt}
 use Rattle.planning_laws.proofs.Depths.{leaf-of-entry, leaf-one}
 
-pub hidden-count : (s : Shape) (ch : List ℕ) → length (hiddenLeaves s ch) ≡ s.tau
-unfolding hiddenLeaves
-hidden-count s ch = length-tabulate s.tau (hiddenLeaf s ch)
+pub hidden-count : (s : Shape) (ch : List ℕ) → length (hidden_leaves s ch) ≡ s.tau
+unfolding hidden_leaves
+hidden-count s ch = length-tabulate s.tau (hidden_leaf s ch)
 
-pub hidden-index-lt : (s : Shape) (ch : List ℕ) (i : ℕ) → hiddenIndex s ch i < entriesOf s i
-unfolding hiddenIndex entriesOf
-hidden-index-lt s ch i = index-lt ch (firstBit s i) (depth_of s i)
+pub hidden-index-lt : (s : Shape) (ch : List ℕ) (i : ℕ) → hidden_index s ch i < entries_of s i
+unfolding hidden_index entries_of
+hidden-index-lt s ch i = index-lt ch (first_bit s i) (depth_of s i)
 
 tabulated-leaves : (L : ℕ) (f : ℕ → ℕ) (n : ℕ) → ((i : ℕ) → i < n → (L ≤ f i + 1) × (f i + 1 < 2 * L)) → Leaves L (tabulate n f)
 unfolding tabulate
 tabulated-leaves L f zero h = tt
 tabulated-leaves L f (suc n) h = ((h 0 (omega arith)).0, (h 0 (omega arith)).1, tabulated-leaves L (λ i. f (suc i)) n (λ i l. h (suc i) (omega arith)))
 
-pub hidden-leaves : (s : Shape) (ch : List ℕ) → Leaves (leaves s) (hiddenLeaves s ch)
-unfolding hiddenLeaves hiddenLeaf
+pub hidden-leaves : (s : Shape) (ch : List ℕ) → Leaves (leaves s) (hidden_leaves s ch)
+unfolding hidden_leaves hidden_leaf
 hidden-leaves s ch =
-    tabulated-leaves (leaves s) (hiddenLeaf s ch) s.tau (λ i l. leaf-of-entry s i (hiddenIndex s ch i) l (hidden-index-lt s ch i))
+    tabulated-leaves (leaves s) (hidden_leaf s ch) s.tau (λ i l. leaf-of-entry s i (hidden_index s ch i) l (hidden-index-lt s ch i))
 
 -- ---- distinct
 
@@ -50,10 +50,10 @@ distinct f (suc n) h = (
   distinct (λ i. f (suc i)) n (λ j k a b. h (suc j) (suc k) (omega arith) (omega arith)),
 )
 
-pub hidden-distinct : (s : Shape) (ch : List ℕ) → WithoutDuplicates (hiddenLeaves s ch)
-unfolding hiddenLeaves hiddenLeaf
+pub hidden-distinct : (s : Shape) (ch : List ℕ) → WithoutDuplicates (hidden_leaves s ch)
+unfolding hidden_leaves hidden_leaf
 hidden-distinct s ch =
-    distinct (λ i. leafOf s i (hiddenIndex s ch i)) s.tau
+    distinct (λ i. leaf_of s i (hidden_index s ch i)) s.tau
     (λ j k a b e.
-    let q = (leaf-one s j (hiddenIndex s ch j) k (hiddenIndex s ch k) (omega arith) (hidden-index-lt s ch j) b (hidden-index-lt s ch k) e).0 in
+    let q = (leaf-one s j (hidden_index s ch j) k (hidden_index s ch k) (omega arith) (hidden-index-lt s ch j) b (hidden-index-lt s ch k) e).0 in
     omega arith)

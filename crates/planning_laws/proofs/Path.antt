@@ -10,7 +10,7 @@ use lib.Pow.{pow_pos, shr-shr}
 use lib.Bits.{bit_xor, differ, xor_step, xor_zero_r}
 use borrow.Author.Tests.{eq-eqb, ne_eqb}
 use Rattle.spec.specs.Bytes.{tabulate, index_of}
-use Rattle.spec.specs.Tree.{parent, isAncestor}
+use Rattle.spec.specs.Tree.{parent, is_ancestor}
 use Rattle.laws.proofs.Conjunctions.{contrary}
 use Rattle.laws.proofs.Xor.{digit-cases}
 use Rattle.planning_laws.proofs.Ancestors.{ancestor-parent, ancestor-self, ancestor-past, ancestor-through}
@@ -49,21 +49,21 @@ module _ (d j : ℕ) where
   leaf-is = ap₂ (λ (n q : ℕ). 2 ^ n - 1 + q) (let e : d - 0 ≡ d = omega arith in e) (div-one j)
 
   -- each node of the way lies above the leaf
-  pub above : (m : ℕ) → m ≤ d → isAncestor (up_from d j m) (up_from d j 0) ≡ true
+  pub above : (m : ℕ) → m ≤ d → is_ancestor (up_from d j m) (up_from d j 0) ≡ true
   above zero h = ancestor-self (up_from d j 0)
   above (suc m) h =
       let l = below m (omega arith) in
       ancestor-through (up_from d j (suc m)) (up_from d j m) (up_from d j 0) (omega arith) (above m (omega arith))
       ∙ ancestor-parent (up_from d j (suc m)) (up_from d j m) l
-      ∙ ap (isAncestor (up_from d j (suc m))) (parent_of m (omega arith))
+      ∙ ap (is_ancestor (up_from d j (suc m))) (parent_of m (omega arith))
       ∙ ancestor-self (up_from d j (suc m))
 
   -- and none between two of them
-  pub between : (m a : ℕ) → m < d → up_from d j (suc m) < a → a < up_from d j m → isAncestor a (up_from d j 0) ≡ false
+  pub between : (m a : ℕ) → m < d → up_from d j (suc m) < a → a < up_from d j m → is_ancestor a (up_from d j 0) ≡ false
   between m a h lo hi =
       ancestor-through a (up_from d j m) (up_from d j 0) (omega arith) (above m (omega arith))
       ∙ ancestor-parent a (up_from d j m) hi
-      ∙ ap (isAncestor a) (parent_of m h)
+      ∙ ap (is_ancestor a) (parent_of m h)
       ∙ ancestor-past a (up_from d j (suc m)) lo
 
   -- ---- the sibling of a node of the way does not lie above the leaf
@@ -76,10 +76,10 @@ module _ (d j : ℕ) where
       let p = pow_pos (d - suc m) in
       omega arith
 
-  pub sibling-off : (m : ℕ) → m < d → isAncestor (2 ^ (d - m) - 1 + bit_xor (j / 2 ^ m) 1) (up_from d j 0) ≡ false
+  pub sibling-off : (m : ℕ) → m < d → is_ancestor (2 ^ (d - m) - 1 + bit_xor (j / 2 ^ m) 1) (up_from d j 0) ≡ false
   sibling-off m h = go m h (j / 2 ^ m % 2) refl (flip (j / 2 ^ m))
     where
-      go : (m : ℕ) → m < d → (b : ℕ) → j / 2 ^ m % 2 ≡ b → bit_xor (j / 2 ^ m) 1 ≡ j / 2 ^ m / 2 * 2 + (1 - j / 2 ^ m % 2) → isAncestor (2 ^ (d - m) - 1 + bit_xor (j / 2 ^ m) 1) (up_from d j 0) ≡ false
+      go : (m : ℕ) → m < d → (b : ℕ) → j / 2 ^ m % 2 ≡ b → bit_xor (j / 2 ^ m) 1 ≡ j / 2 ^ m / 2 * 2 + (1 - j / 2 ^ m % 2) → is_ancestor (2 ^ (d - m) - 1 + bit_xor (j / 2 ^ m) 1) (up_from d j 0) ≡ false
       go m h (suc b) e f = (let c = child m h in between m (2 ^ (d - m) - 1 + bit_xor (j / 2 ^ m) 1) h (omega arith) (omega arith))
       go zero h zero e f = ancestor-past (2 ^ (d - 0) - 1 + bit_xor (j / 2 ^ 0) 1) (up_from d j 0) (omega arith)
       go (suc m) h zero e f =
@@ -93,7 +93,7 @@ module _ (d j : ℕ) where
   top : up_from d j d ≡ j / 2 ^ d
   top = ap (λ (n : ℕ). 2 ^ n - 1 + j / 2 ^ d) (let e : d - d ≡ 0 = omega arith in e) ∙ omega arith
 
-  pub way : j < 2 ^ d → (k m a : ℕ) → m + k ≡ d → a ≤ up_from d j m → isAncestor a (up_from d j 0) ≡ true → (n : ℕ) × (n ≤ d) × (a ≡ up_from d j n)
+  pub way : j < 2 ^ d → (k m a : ℕ) → m + k ≡ d → a ≤ up_from d j m → is_ancestor a (up_from d j 0) ≡ true → (n : ℕ) × (n ≤ d) × (a ≡ up_from d j n)
   way small zero m a e h t =
       let z : m ≡ d = omega arith in
       let q : j / 2 ^ d ≡ 0 = div-eq_of_lt small in
@@ -106,21 +106,21 @@ module _ (d j : ℕ) where
       go (no s) (yes l) r = contrary t (between m a (omega arith) l (omega arith))
       go (no s) (no l) r = r (omega arith)
 
-  pub left-sibling : (m : ℕ) → m < d → isAncestor (2 * up_from d j (suc m) + 1) (up_from d j 0) ≡ false → 2 * up_from d j (suc m) + 1 ≡ 2 ^ (d - m) - 1 + bit_xor (j / 2 ^ m) 1
+  pub left-sibling : (m : ℕ) → m < d → is_ancestor (2 * up_from d j (suc m) + 1) (up_from d j 0) ≡ false → 2 * up_from d j (suc m) + 1 ≡ 2 ^ (d - m) - 1 + bit_xor (j / 2 ^ m) 1
   left-sibling m h o = go (j / 2 ^ m % 2) refl
     where
       go : (b : ℕ) → j / 2 ^ m % 2 ≡ b → 2 * up_from d j (suc m) + 1 ≡ 2 ^ (d - m) - 1 + bit_xor (j / 2 ^ m) 1
-      go zero e = contrary (ap (λ (n : ℕ). isAncestor n (up_from d j 0)) (let c = child m h in let z : 2 * up_from d j (suc m) + 1 ≡ up_from d j m = omega arith in z) ∙ above m (omega arith)) o
+      go zero e = contrary (ap (λ (n : ℕ). is_ancestor n (up_from d j 0)) (let c = child m h in let z : 2 * up_from d j (suc m) + 1 ≡ up_from d j m = omega arith in z) ∙ above m (omega arith)) o
       go (suc b) e = (let c = child m h in let f = flip (j / 2 ^ m) in omega arith)
 
-  pub right-sibling : (m : ℕ) → m < d → isAncestor (2 * up_from d j (suc m) + 2) (up_from d j 0) ≡ false → 2 * up_from d j (suc m) + 2 ≡ 2 ^ (d - m) - 1 + bit_xor (j / 2 ^ m) 1
+  pub right-sibling : (m : ℕ) → m < d → is_ancestor (2 * up_from d j (suc m) + 2) (up_from d j 0) ≡ false → 2 * up_from d j (suc m) + 2 ≡ 2 ^ (d - m) - 1 + bit_xor (j / 2 ^ m) 1
   right-sibling m h o = go (j / 2 ^ m % 2) refl
     where
       go : (b : ℕ) → j / 2 ^ m % 2 ≡ b → 2 * up_from d j (suc m) + 2 ≡ 2 ^ (d - m) - 1 + bit_xor (j / 2 ^ m) 1
       go zero e = (let c = child m h in let f = flip (j / 2 ^ m) in omega arith)
       go (suc b) e =
           contrary
-          (ap (λ (n : ℕ). isAncestor n (up_from d j 0)) (let c = child m h in let z : 2 * up_from d j (suc m) + 2 ≡ up_from d j m = omega arith in z) ∙ above m (omega arith)) o
+          (ap (λ (n : ℕ). is_ancestor n (up_from d j 0)) (let c = child m h in let z : 2 * up_from d j (suc m) + 2 ≡ up_from d j m = omega arith in z) ∙ above m (omega arith)) o
 
 -- the first place of an entry of a list given by a rule, where no entry before it is the same
 pub index-of : (n : ℕ) (f : ℕ → ℕ) (l : ℕ) → l < n → ((i : ℕ) → i < l → f l ≡ f i → ⊥) → index_of (f l) (tabulate n f) ≡ l

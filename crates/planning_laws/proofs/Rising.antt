@@ -9,18 +9,18 @@ use native.Mathlib.Omega.{arith}
 use native.Mathlib.Decide.{dec_lt}
 use lib.Dec.{eqb, ltb}
 use borrow.Author.Tests.{le-ltb, lt-ltb}
-use Rattle.spec.specs.Tree.{parent, isAncestor, some, covered, siblingToReveal, revealedFrom}
+use Rattle.spec.specs.Tree.{parent, is_ancestor, some, covered, sibling_to_reveal, revealed_from}
 use Rattle.planning_laws.specs.Lists.{Leaves, Below, passing}
 use Rattle.planning_laws.proofs.Ancestors.{ancestor-parent, ancestor-past}
 use Rattle.planning_laws.proofs.Covered.{covered-leaf}
 use Rattle.planning_laws.proofs.Passing.{passing-same, passing-none}
 
 -- tests that agree below 2 n + 1 reveal the same
-pub revealed-same : (c d : ℕ → Bool) (n : ℕ) → ((x : ℕ) → x < 2 * n + 1 → c x ≡ d x) → revealedFrom c n ≡ revealedFrom d n
-unfolding revealedFrom
+pub revealed-same : (c d : ℕ → Bool) (n : ℕ) → ((x : ℕ) → x < 2 * n + 1 → c x ≡ d x) → revealed_from c n ≡ revealed_from d n
+unfolding revealed_from
 revealed-same c d zero e = refl
 revealed-same c d (suc a) e =
-    ap₂ ◌++◌ (ap₂ (λ (x y : Bool). siblingToReveal x y a) (e (2 * a + 1) (omega arith)) (e (2 * a + 2) (omega arith)))
+    ap₂ ◌++◌ (ap₂ (λ (x y : Bool). sibling_to_reveal x y a) (e (2 * a + 1) (omega arith)) (e (2 * a + 2) (omega arith)))
     (revealed-same c d a (λ x h. e x (omega arith)))
 
 -- ---- the children of p replaced by p
@@ -29,9 +29,9 @@ revealed-same c d (suc a) e =
 unfoldable pub raised : ℕ → ℕ → ℕ
 raised p x = cond (ltb (2 * p) x) p x
 
-unfoldable pub raisedAll : ℕ → List ℕ → List ℕ
-raisedAll p [] = []
-raisedAll p (x ∷ xs) = raised p x ∷ raisedAll p xs
+unfoldable pub raised_all : ℕ → List ℕ → List ℕ
+raised_all p [] = []
+raised_all p (x ∷ xs) = raised p x ∷ raised_all p xs
 
 pub raised-low : (p x : ℕ) → x ≤ 2 * p → raised p x ≡ x
 unfolding raised
@@ -41,37 +41,37 @@ pub raised-high : (p x : ℕ) → 2 * p < x → raised p x ≡ p
 unfolding raised
 raised-high p x h = rw (lt-ltb (2 * p) x h) refl
 
-ancestor-raised : (p x y : ℕ) → x ≤ 2 * p → y ≤ 2 * p + 2 → isAncestor x (raised p y) ≡ isAncestor x y
+ancestor-raised : (p x y : ℕ) → x ≤ 2 * p → y ≤ 2 * p + 2 → is_ancestor x (raised p y) ≡ is_ancestor x y
 unfolding parent
 ancestor-raised p x y h l = go (dec_lt (2 * p) y)
   where
-    go : Dec (2 * p < y) → isAncestor x (raised p y) ≡ isAncestor x y
+    go : Dec (2 * p < y) → is_ancestor x (raised p y) ≡ is_ancestor x y
     go (yes q) =
-        ap (isAncestor x) (raised-high p y q ∙ (let z : p ≡ parent y = omega arith in z)) ∙ sym (ancestor-parent x y (omega arith))
-    go (no q) = ap (isAncestor x) (raised-low p y (omega arith))
+        ap (is_ancestor x) (raised-high p y q ∙ (let z : p ≡ parent y = omega arith in z)) ∙ sym (ancestor-parent x y (omega arith))
+    go (no q) = ap (is_ancestor x) (raised-low p y (omega arith))
 
-covered-raised : (p x : ℕ) (cur : List ℕ) → Leaves (suc (suc p)) cur → x ≤ 2 * p → covered (raisedAll p cur) x ≡ covered cur x
-unfolding covered some raisedAll
+covered-raised : (p x : ℕ) (cur : List ℕ) → Leaves (suc (suc p)) cur → x ≤ 2 * p → covered (raised_all p cur) x ≡ covered cur x
+unfolding covered some raised_all
 covered-raised p x [] ls h = refl
 covered-raised p x (y ∷ ys) ls h = ap₂ ◌||◌ (ancestor-raised p x y h (omega arith)) (covered-raised p x ys ls.2 h)
 
 -- node p reveals what its children in the list say; the rest is the smaller tree's
 revealed-raised : (p : ℕ) (cur : List ℕ) → Leaves (suc (suc p)) cur
-    → revealedFrom (covered cur) (suc p)
-    ≡ siblingToReveal (some (eqb (2 * p + 1)) cur) (some (eqb (2 * p + 2)) cur) p ++ revealedFrom (covered (raisedAll p cur)) p
-unfolding revealedFrom
+    → revealed_from (covered cur) (suc p)
+    ≡ sibling_to_reveal (some (eqb (2 * p + 1)) cur) (some (eqb (2 * p + 2)) cur) p ++ revealed_from (covered (raised_all p cur)) p
+unfolding revealed_from
 revealed-raised p cur ls =
     ap₂ ◌++◌
-    (ap₂ (λ (l r : Bool). siblingToReveal l r p) (covered-leaf (suc (suc p)) (2 * p + 1) cur ls (omega arith))
+    (ap₂ (λ (l r : Bool). sibling_to_reveal l r p) (covered-leaf (suc (suc p)) (2 * p + 1) cur ls (omega arith))
     (covered-leaf (suc (suc p)) (2 * p + 2) cur ls (omega arith)))
-    (revealed-same (covered cur) (covered (raisedAll p cur)) p (λ x h. sym (covered-raised p x cur ls (omega arith))))
+    (revealed-same (covered cur) (covered (raised_all p cur)) p (λ x h. sym (covered-raised p x cur ls (omega arith))))
 
 -- the children of p that are covered, by whether the left and the right one are
-unfoldable pub coveredChildren : Bool → Bool → ℕ → List ℕ
-coveredChildren l r p = cond r ((2 * p + 2) ∷ []) [] ++ cond l ((2 * p + 1) ∷ []) []
+unfoldable pub covered_children : Bool → Bool → ℕ → List ℕ
+covered_children l r p = cond r ((2 * p + 2) ∷ []) [] ++ cond l ((2 * p + 1) ∷ []) []
 
-passing-two : (c : ℕ → Bool) (p : ℕ) → passing c (2 * p + 3) ≡ coveredChildren (c (2 * p + 1)) (c (2 * p + 2)) p ++ passing c (2 * p + 1)
-unfolding passing coveredChildren
+passing-two : (c : ℕ → Bool) (p : ℕ) → passing c (2 * p + 3) ≡ covered_children (c (2 * p + 1)) (c (2 * p + 2)) p ++ passing c (2 * p + 1)
+unfolding passing covered_children
 passing-two c p =
     let s : 2 * p + 3 ≡ suc (suc (2 * p + 1)) = omega arith in
     let r : suc (2 * p + 1) ≡ 2 * p + 2 = omega arith in
@@ -90,13 +90,13 @@ passing-two c p =
 
 -- of the covered nodes the children of p are those in the list; the rest is the smaller tree's
 covered-nodes-raised : (p : ℕ) (cur : List ℕ) → Leaves (suc (suc p)) cur
-    → passing (covered cur) (2 * p + 3) ≡ coveredChildren (some (eqb (2 * p + 1)) cur) (some (eqb (2 * p + 2)) cur) p ++ passing (covered (raisedAll p cur)) (2 * p + 1)
+    → passing (covered cur) (2 * p + 3) ≡ covered_children (some (eqb (2 * p + 1)) cur) (some (eqb (2 * p + 2)) cur) p ++ passing (covered (raised_all p cur)) (2 * p + 1)
 covered-nodes-raised p cur ls =
     passing-two (covered cur) p
     ∙ ap₂ ◌++◌
-    (ap₂ (λ (l r : Bool). coveredChildren l r p) (covered-leaf (suc (suc p)) (2 * p + 1) cur ls (omega arith))
+    (ap₂ (λ (l r : Bool). covered_children l r p) (covered-leaf (suc (suc p)) (2 * p + 1) cur ls (omega arith))
     (covered-leaf (suc (suc p)) (2 * p + 2) cur ls (omega arith)))
-    (passing-same (covered cur) (covered (raisedAll p cur)) (2 * p + 1) (λ x h. sym (covered-raised p x cur ls (omega arith))))
+    (passing-same (covered cur) (covered (raised_all p cur)) (2 * p + 1) (λ x h. sym (covered-raised p x cur ls (omega arith))))
 
 -- ---- straight to the parent of the largest node
 
@@ -110,13 +110,13 @@ covered-past x b [] h u = refl
 covered-past x b (y ∷ ys) h u = ap₂ ◌||◌ (ancestor-past x y (omega arith)) (covered-past x b ys h u.1)
 
 -- nodes past the parent of the largest reveal nothing
-skip : (d p : ℕ) (cur : List ℕ) → Below (2 * p + 3) cur → revealedFrom (covered cur) (d + suc p) ≡ revealedFrom (covered cur) (suc p)
-unfolding revealedFrom siblingToReveal
-skip zero p cur u = ap (revealedFrom (covered cur)) (let z : 0 + suc p ≡ suc p = omega arith in z)
+skip : (d p : ℕ) (cur : List ℕ) → Below (2 * p + 3) cur → revealed_from (covered cur) (d + suc p) ≡ revealed_from (covered cur) (suc p)
+unfolding revealed_from sibling_to_reveal
+skip zero p cur u = ap (revealed_from (covered cur)) (let z : 0 + suc p ≡ suc p = omega arith in z)
 skip (suc d) p cur u =
-    ap (revealedFrom (covered cur)) (let z : suc d + suc p ≡ suc (d + suc p) = omega arith in z)
+    ap (revealed_from (covered cur)) (let z : suc d + suc p ≡ suc (d + suc p) = omega arith in z)
     ∙ ap₂ ◌++◌
-    (ap₂ (λ (l r : Bool). siblingToReveal l r (d + suc p)) (covered-past (2 * (d + suc p) + 1) (2 * p + 3) cur (omega arith) u)
+    (ap₂ (λ (l r : Bool). sibling_to_reveal l r (d + suc p)) (covered-past (2 * (d + suc p) + 1) (2 * p + 3) cur (omega arith) u)
     (covered-past (2 * (d + suc p) + 2) (2 * p + 3) cur (omega arith) u))
     (skip d p cur u)
 
@@ -130,11 +130,11 @@ pub record Turn (a p x : ℕ) (cur : List ℕ) : Type 0 where
   pub low : 2 * p < x
   pub high : x ≤ 2 * p + 2
   pub gives :
-      revealedFrom (covered cur) a
-      ≡ siblingToReveal (some (eqb (2 * p + 1)) cur) (some (eqb (2 * p + 2)) cur) p ++ revealedFrom (covered (raisedAll p cur)) p
+      revealed_from (covered cur) a
+      ≡ sibling_to_reveal (some (eqb (2 * p + 1)) cur) (some (eqb (2 * p + 2)) cur) p ++ revealed_from (covered (raised_all p cur)) p
   pub takes :
       passing (covered cur) (2 * a + 1)
-      ≡ coveredChildren (some (eqb (2 * p + 1)) cur) (some (eqb (2 * p + 2)) cur) p ++ passing (covered (raisedAll p cur)) (2 * p + 1)
+      ≡ covered_children (some (eqb (2 * p + 1)) cur) (some (eqb (2 * p + 2)) cur) p ++ passing (covered (raised_all p cur)) (2 * p + 1)
 
 pub turn : (a x : ℕ) (xs : List ℕ) → 0 < a → Leaves (suc a) (x ∷ xs) → Below x xs → Turn a ((x - 1) / 2) x (x ∷ xs)
 turn a x xs h ls f =
@@ -145,7 +145,7 @@ turn a x xs h ls f =
       low = omega arith;
       high = omega arith;
       gives =
-          ap (revealedFrom (covered (x ∷ xs))) (let z : a ≡ a - suc p + suc p = omega arith in z)
+          ap (revealed_from (covered (x ∷ xs))) (let z : a ≡ a - suc p + suc p = omega arith in z)
           ∙ skip (a - suc p) p (x ∷ xs) u
           ∙ revealed-raised p (x ∷ xs) (leaves-down a p (x ∷ xs) (omega arith) u ls);
       takes =

@@ -10,11 +10,11 @@ use lib.Dec.{eqb, leb, ltb}
 use lib.Pow.{pow_mono, pow_pos}
 use borrow.Author.Tests.{leb-true, ltb-true, eqb-true, le-leb, lt-ltb, le-ltb, eq-eqb, ne_eqb}
 use Rattle.spec.specs.declared.Shape.{Shape}
-use Rattle.spec.specs.Shapes.{level, nodeBytes, challengeBytes, leafCommitmentBytes, hashBytes, keyWords, deeper, depth_of, entriesOf, firstBit, leaves, levelOk, shapeOk}
+use Rattle.spec.specs.Shapes.{level, node_bytes, challenge_bytes, leaf_commitment_bytes, hash_bytes, key_words, deeper, depth_of, entries_of, first_bit, leaves, level_ok, shape_ok}
 use Rattle.laws.proofs.Conjunctions.{refuted}
 use Rattle.laws.proofs.Segments.{segment-before}
 use Rattle.planning_laws.proofs.Depths.{depth-range, depth-deep, depth-flat, bit-next, leaves-split}
-use Rattle.planning_laws.proofs.LeafKindFacts.{otherRules, others-kept, commitment-bounds}
+use Rattle.planning_laws.proofs.LeafKindFacts.{other_rules, others-kept, commitment-bounds}
 
 pub record ShapeFacts (s : Shape) : Type 0 where
   pub tau-pos : 1 ≤ s.tau
@@ -27,7 +27,7 @@ pub record ShapeFacts (s : Shape) : Type 0 where
   pub t-max : s.t ≤ 512
   pub total : s.tau * s.k + deeper s + s.w ≡ level s
   pub few : deeper s < s.tau
-  pub level-is : levelOk s.level ≡ true
+  pub level-is : level_ok s.level ≡ true
 
 all-ten : (a b c d e f g h i j : Bool) → (a && b && c && d && e && f && g && h && i && j) ≡ true
     → (a ≡ true) × (b ≡ true) × (c ≡ true) × (d ≡ true) × (e ≡ true) × (f ≡ true) × (g ≡ true) × (h ≡ true) × (i ≡ true) × (j ≡ true)
@@ -47,12 +47,12 @@ pub deeper-is : (s : Shape) → deeper s ≡ level s - s.w - s.tau * s.k
 unfolding deeper
 deeper-is s = refl
 
-facts-of : (s : Shape) → otherRules s ≡ true → ShapeFacts s
-unfolding otherRules
+facts-of : (s : Shape) → other_rules s ≡ true → ShapeFacts s
+unfolding other_rules
 facts-of s e =
     let q =
     all-ten (leb 1 s.tau) (leb s.tau 32) (leb 1 s.k) (leb (depth_of s 0) 12) (leb s.w 127) (leb 1 s.t) (leb s.t 512)
-    (leb (s.tau * s.k + s.w) (level s)) (ltb (deeper s) s.tau) (levelOk s.level) e in
+    (leb (s.tau * s.k + s.w) (level s)) (ltb (deeper s) s.tau) (level_ok s.level) e in
     let depth : depth_of s 0 ≤ 12 = leb-true _ _ q.3 in
     let room : s.tau * s.k + s.w ≤ level s = leb-true _ _ q.7 in
     record {
@@ -69,15 +69,15 @@ facts-of s e =
       level-is = q.9;
     }
 
-pub shape-facts : (s : Shape) → shapeOk s ≡ true → ShapeFacts s
+pub shape-facts : (s : Shape) → shape_ok s ≡ true → ShapeFacts s
 shape-facts s e = facts-of s (others-kept s e)
 
-pub shape-refused : (s : Shape) → (ShapeFacts s → ⊥) → false ≡ shapeOk s
-shape-refused s h = refuted (shapeOk s) (λ e. h (shape-facts s e))
+pub shape-refused : (s : Shape) → (ShapeFacts s → ⊥) → false ≡ shape_ok s
+shape-refused s h = refuted (shape_ok s) (λ e. h (shape-facts s e))
 
 rules-kept : (s : Shape) → 1 ≤ s.tau → s.tau ≤ 32 → 1 ≤ s.k → depth_of s 0 ≤ 12 → s.w ≤ 127 → 1 ≤ s.t → s.t ≤ 512 → s.tau * s.k + s.w ≤ level s
-    → deeper s < s.tau → levelOk s.level ≡ true → true ≡ otherRules s
-unfolding otherRules
+    → deeper s < s.tau → level_ok s.level ≡ true → true ≡ other_rules s
+unfolding other_rules
 rules-kept s a b c d e f g h i j =
     simp (
       le-leb 1 s.tau a,
@@ -94,36 +94,36 @@ rules-kept s a b c d e f g h i j =
 
 -- with every other limit kept, the depth of the deeper vectors decides
 pub rules-by-depth : (s : Shape) (r : ℕ) → 1 ≤ s.tau → s.tau ≤ 32 → 1 ≤ s.k → s.k ≤ 12 → s.w ≤ 127 → 1 ≤ s.t → s.t ≤ 512 → s.tau * s.k + s.w ≤ level s
-    → r ≡ deeper s → r < s.tau → levelOk s.level ≡ true → (eqb r 0 || ltb s.k 12) ≡ otherRules s
+    → r ≡ deeper s → r < s.tau → level_ok s.level ≡ true → (eqb r 0 || ltb s.k 12) ≡ other_rules s
 rules-by-depth s r a b c d e f g h i j n = go (dec_lt 0 r) (dec_lt s.k 12)
   where
-    accepted : depth_of s 0 ≤ 12 → true ≡ otherRules s
+    accepted : depth_of s 0 ≤ 12 → true ≡ other_rules s
     accepted l = rules-kept s a b c l e f g h (omega arith) n
 
-    go : Dec (0 < r) → Dec (s.k < 12) → (eqb r 0 || ltb s.k 12) ≡ otherRules s
+    go : Dec (0 < r) → Dec (s.k < 12) → (eqb r 0 || ltb s.k 12) ≡ other_rules s
     go (no p) q = ap (λ (x : Bool). x || ltb s.k 12) (eq-eqb r 0 (omega arith)) ∙ accepted (let z = depth-flat s 0 (omega arith) in omega arith)
     go (yes p) (yes q) =
         ap₂ ◌||◌ (ne_eqb r 0 (λ z. omega arith)) (lt-ltb s.k 12 q) ∙ accepted (let z = depth-deep s 0 (omega arith) in omega arith)
     go (yes p) (no q) =
         ap₂ ◌||◌ (ne_eqb r 0 (λ z. omega arith)) (le-ltb s.k 12 (omega arith))
-        ∙ refuted (otherRules s) (λ e. let z = depth-deep s 0 (omega arith) in omega (arith, (facts-of s e).depth-max))
+        ∙ refuted (other_rules s) (λ e. let z = depth-deep s 0 (omega arith) in omega (arith, (facts-of s e).depth-max))
 
 -- ---- widths: what holds of them at every level
 
 pub record Widths (s : Shape) : Type 0 where
   pub level-max : level s ≤ 256
-  pub node-min : 16 ≤ nodeBytes s
-  pub node-max : nodeBytes s ≤ 32
-  pub node-eight : nodeBytes s % 8 ≡ 0
-  pub node-words : nodeBytes s ≡ 4 * keyWords s
-  pub node-bits : level s ≡ 8 * nodeBytes s
-  pub challenge-node : challengeBytes s ≡ nodeBytes s
-  pub commitment-min : 1 ≤ leafCommitmentBytes s
-  pub commitment-max : leafCommitmentBytes s ≤ 96
-  pub hash-nodes : hashBytes s ≡ 2 * nodeBytes s
+  pub node-min : 16 ≤ node_bytes s
+  pub node-max : node_bytes s ≤ 32
+  pub node-eight : node_bytes s % 8 ≡ 0
+  pub node-words : node_bytes s ≡ 4 * key_words s
+  pub node-bits : level s ≡ 8 * node_bytes s
+  pub challenge-node : challenge_bytes s ≡ node_bytes s
+  pub commitment-min : 1 ≤ leaf_commitment_bytes s
+  pub commitment-max : leaf_commitment_bytes s ≤ 96
+  pub hash-nodes : hash_bytes s ≡ 2 * node_bytes s
 
 -- what holds at 128, 192 and 256 holds at every level of a shape
-pub by_level : (A : ℕ → Type 0) → A 128 → A 192 → A 256 → (n : ℕ) → levelOk n ≡ true → A n
+pub by_level : (A : ℕ → Type 0) → A 128 → A 192 → A 256 → (n : ℕ) → level_ok n ≡ true → A n
 by_level A a b c n e = go (eqb n 128) (eqb n 192) (eqb n 256) refl refl refl e
   where
     go : (x y z : Bool) → eqb n 128 ≡ x → eqb n 192 ≡ y → eqb n 256 ≡ z → (x || (y || z)) ≡ true → A n
@@ -138,11 +138,11 @@ record Multiple (n : ℕ) : Type 0 where
   pub most : n ≤ 256
   pub eight : n ≡ 64 * (n / 64)
 
-level-multiple : (n : ℕ) → levelOk n ≡ true → Multiple n
+level-multiple : (n : ℕ) → level_ok n ≡ true → Multiple n
 level-multiple = by_level Multiple (record { least = omega arith; most = omega arith; eight = refl }) (record { least = omega arith; most = omega arith; eight = refl }) (record { least = omega arith; most = omega arith; eight = refl })
 
 pub widths : (s : Shape) → ShapeFacts s → Widths s
-unfolding level nodeBytes challengeBytes hashBytes keyWords
+unfolding level node_bytes challenge_bytes hash_bytes key_words
 widths s f =
     let m = level-multiple s.level f.level-is in
     let c = commitment-bounds s (omega arith) (omega arith) in
@@ -161,13 +161,13 @@ widths s f =
 
 -- ---- numbers
 
-pub bit-all : (s : Shape) → ShapeFacts s → firstBit s s.tau + s.w ≡ level s
-unfolding firstBit
+pub bit-all : (s : Shape) → ShapeFacts s → first_bit s s.tau + s.w ≡ level s
+unfolding first_bit
 bit-all s f = omega arith
 
-pub vector-bits : (s : Shape) (i : ℕ) → ShapeFacts s → i < s.tau → firstBit s i + depth_of s i ≤ level s
+pub vector-bits : (s : Shape) (i : ℕ) → ShapeFacts s → i < s.tau → first_bit s i + depth_of s i ≤ level s
 vector-bits s i f h =
-    let a = segment-before (firstBit s) (depth_of s) s.tau i (λ n l. bit-next s n) h in
+    let a = segment-before (first_bit s) (depth_of s) s.tau i (λ n l. bit-next s n) h in
     let b = bit-all s f in
     omega arith
 
@@ -217,6 +217,6 @@ leaves-pos s f =
     let b : 1 * 1 ≤ s.tau * 2 ^ s.k = mul-le-mul f.tau-pos (pow_pos s.k) in
     omega arith
 
-pub entries-small : (s : Shape) (i : ℕ) → ShapeFacts s → entriesOf s i ≤ 4096
-unfolding entriesOf
+pub entries-small : (s : Shape) (i : ℕ) → ShapeFacts s → entries_of s i ≤ 4096
+unfolding entries_of
 entries-small s i f = pow_mono (depth_small s i f)

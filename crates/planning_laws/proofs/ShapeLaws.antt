@@ -10,9 +10,9 @@ use lib.Dec.{eqb}
 use lib.ListN.{length, get_or}
 use borrow.Author.Tests.{eqb-true}
 use Rattle.spec.specs.declared.Shape.{Shape}
-use Rattle.spec.specs.Bytes.{bit, tabulate, allZero}
-use Rattle.spec.specs.Challenge.{bit_at, bits_at, index_at, clearAt}
-use Rattle.spec.specs.Shapes.{shapeOk, level, depth_of, entriesOf, firstBit, firstEntry, leaves, leafOf, hiddenIndex, hiddenLeaf, hiddenLeaves, grindingOk}
+use Rattle.spec.specs.Bytes.{bit, tabulate, all_zero}
+use Rattle.spec.specs.Challenge.{bit_at, bits_at, index_at, clear_at}
+use Rattle.spec.specs.Shapes.{shape_ok, level, depth_of, entries_of, first_bit, first_entry, leaves, leaf_of, hidden_index, hidden_leaf, hidden_leaves, grinding_ok}
 use Rattle.laws.proofs.Conjunctions.{both_true}
 use Rattle.laws.proofs.Segments.{segment-before}
 use Rattle.laws.proofs.Lists.{length-tabulate, get_d_tabulate}
@@ -25,21 +25,21 @@ pub record ShapeLaws (s : Shape) : Type 0 where
   pub tau-pos : 1 ≤ s.tau
   pub leaves-pos : 1 ≤ leaves s
   -- the bits and columns of the vectors follow one another, and with the grinding bits they are all
-  pub bit-none : firstBit s 0 ≡ 0
-  pub bit-next : (i : ℕ) → firstBit s (suc i) ≡ firstBit s i + depth_of s i
-  pub bit-all : firstBit s s.tau + s.w ≡ level s
+  pub bit-none : first_bit s 0 ≡ 0
+  pub bit-next : (i : ℕ) → first_bit s (suc i) ≡ first_bit s i + depth_of s i
+  pub bit-all : first_bit s s.tau + s.w ≡ level s
   -- so do the entries
-  pub entry-none : firstEntry s 0 ≡ 0
-  pub entry_next : (i : ℕ) → firstEntry s (suc i) ≡ firstEntry s i + entriesOf s i
-  pub entry-all : firstEntry s s.tau ≡ leaves s
+  pub entry-none : first_entry s 0 ≡ 0
+  pub entry_next : (i : ℕ) → first_entry s (suc i) ≡ first_entry s i + entries_of s i
+  pub entry-all : first_entry s s.tau ≡ leaves s
   -- each entry has a leaf of its own
-  pub leaf-low : (i j : ℕ) → i < s.tau → j < entriesOf s i → leaves s ≤ leafOf s i j + 1
-  pub leaf-high : (i j : ℕ) → i < s.tau → j < entriesOf s i → leafOf s i j + 1 < 2 * leaves s
-  pub leaf-one : (i j m n : ℕ) → i < s.tau → j < entriesOf s i → m < s.tau → n < entriesOf s m → leafOf s i j ≡ leafOf s m n → (i ≡ m) × (j ≡ n)
+  pub leaf-low : (i j : ℕ) → i < s.tau → j < entries_of s i → leaves s ≤ leaf_of s i j + 1
+  pub leaf-high : (i j : ℕ) → i < s.tau → j < entries_of s i → leaf_of s i j + 1 < 2 * leaves s
+  pub leaf-one : (i j m n : ℕ) → i < s.tau → j < entries_of s i → m < s.tau → n < entries_of s m → leaf_of s i j ≡ leaf_of s m n → (i ≡ m) × (j ≡ n)
   -- a hidden index is one of the vector's entries
-  pub hidden-in : (ch : List ℕ) (i : ℕ) → hiddenIndex s ch i < entriesOf s i
+  pub hidden-in : (ch : List ℕ) (i : ℕ) → hidden_index s ch i < entries_of s i
 
-pub shape-laws : (s : Shape) → shapeOk s ≡ true → ShapeLaws s
+pub shape-laws : (s : Shape) → shape_ok s ≡ true → ShapeLaws s
 unfolding level
 shape-laws s e =
     let f = shape-facts s e in
@@ -77,32 +77,32 @@ index-bit ch at (suc n) (suc j) h =
     ∙ index-bit ch (at + 1) n j (omega arith)
     ∙ ap (bit_at ch) (let z : at + 1 + j ≡ at + suc j = omega arith in z)
 
-pub hidden-bit : (s : Shape) (ch : List ℕ) (i j : ℕ) → j < depth_of s i → bit j (hiddenIndex s ch i) ≡ bit_at ch (firstBit s i + j)
-unfolding hiddenIndex
-hidden-bit s ch i j h = index-bit ch (firstBit s i) (depth_of s i) j h
+pub hidden-bit : (s : Shape) (ch : List ℕ) (i j : ℕ) → j < depth_of s i → bit j (hidden_index s ch i) ≡ bit_at ch (first_bit s i + j)
+unfolding hidden_index
+hidden-bit s ch i j h = index-bit ch (first_bit s i) (depth_of s i) j h
 
-all-zero : (xs : List ℕ) (j : ℕ) → allZero xs ≡ true → j < length xs → get_or xs j 0 ≡ 0
-unfolding allZero
+all-zero : (xs : List ℕ) (j : ℕ) → all_zero xs ≡ true → j < length xs → get_or xs j 0 ≡ 0
+unfolding all_zero
 all-zero [] j e h = absurd (omega arith)
-all-zero (x ∷ xs) j e h = go j (both_true (eqb x 0) (allZero xs) e) h (λ k z l. all-zero xs k z l)
+all-zero (x ∷ xs) j e h = go j (both_true (eqb x 0) (all_zero xs) e) h (λ k z l. all-zero xs k z l)
   where
-    go : (j : ℕ) → (eqb x 0 ≡ true) × (allZero xs ≡ true) → j < length (x ∷ xs) → ((k : ℕ) → allZero xs ≡ true → k < length xs → get_or xs k 0 ≡ 0)
+    go : (j : ℕ) → (eqb x 0 ≡ true) × (all_zero xs ≡ true) → j < length (x ∷ xs) → ((k : ℕ) → all_zero xs ≡ true → k < length xs → get_or xs k 0 ≡ 0)
         → get_or (x ∷ xs) j 0 ≡ 0
     go zero q h ih = eqb-true x 0 q.0
     go (suc j) q h ih = ih j q.1 (omega arith)
 
-pub grinding-bit : (s : Shape) (ch : List ℕ) (j : ℕ) → grindingOk s ch ≡ true → j < s.w → bit_at ch (firstBit s s.tau + j) ≡ 0
-unfolding grindingOk clearAt bits_at
+pub grinding-bit : (s : Shape) (ch : List ℕ) (j : ℕ) → grinding_ok s ch ≡ true → j < s.w → bit_at ch (first_bit s s.tau + j) ≡ 0
+unfolding grinding_ok clear_at bits_at
 grinding-bit s ch j e h =
-    let f : ℕ → ℕ = λ i. bit_at ch (firstBit s s.tau + i) in
+    let f : ℕ → ℕ = λ i. bit_at ch (first_bit s s.tau + i) in
     sym (get_d_tabulate s.w f j 0 h) ∙ all-zero (tabulate s.w f) j e (let l = length-tabulate s.w f in omega arith)
 
 -- ---- the hidden leaves
 
-pub hidden_at : (s : Shape) (ch : List ℕ) (i : ℕ) → i < s.tau → get_or (hiddenLeaves s ch) i 0 ≡ leafOf s i (hiddenIndex s ch i)
-unfolding hiddenLeaves hiddenLeaf
-hidden_at s ch i h = get_d_tabulate s.tau (λ i. leafOf s i (hiddenIndex s ch i)) i 0 h
+pub hidden_at : (s : Shape) (ch : List ℕ) (i : ℕ) → i < s.tau → get_or (hidden_leaves s ch) i 0 ≡ leaf_of s i (hidden_index s ch i)
+unfolding hidden_leaves hidden_leaf
+hidden_at s ch i h = get_d_tabulate s.tau (λ i. leaf_of s i (hidden_index s ch i)) i 0 h
 
 -- the entry after those of the vectors before i, and j more, is an entry
-pub entry_in : (s : Shape) → ShapeLaws s → (i j : ℕ) → i < s.tau → j < entriesOf s i → firstEntry s i + j < leaves s
-entry_in s f i j h l = (let a = segment-before (firstEntry s) (entriesOf s) s.tau i (λ n m. f.entry_next n) h in let b = f.entry-all in omega arith)
+pub entry_in : (s : Shape) → ShapeLaws s → (i j : ℕ) → i < s.tau → j < entries_of s i → first_entry s i + j < leaves s
+entry_in s f i j h l = (let a = segment-before (first_entry s) (entries_of s) s.tau i (λ n m. f.entry_next n) h in let b = f.entry-all in omega arith)

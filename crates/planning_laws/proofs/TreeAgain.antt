@@ -9,7 +9,7 @@ use native.Mathlib.Nat.{mul-zero}
 use native.Mathlib.Decide.{dec_lt, ℕ_discrete}
 use lib.ListN.{length, length-append}
 use Rattle.spec.specs.Bytes.{part, zeros}
-use Rattle.spec.specs.Tree.{expandTree}
+use Rattle.spec.specs.Tree.{expand_tree}
 use Rattle.laws.proofs.Conjunctions.{contrary}
 use Rattle.laws.proofs.Lists.{length_part, length-zeros}
 use Rattle.laws.proofs.Concat.{part-front, part-after, part-whole, mul-within}
@@ -29,18 +29,18 @@ pub record Revealing (w N : ℕ) (root : List ℕ) (kids : ℕ → List ℕ → 
   pub root-hides : hides 0 ≡ true
   pub above-left : (a : ℕ) → a < N → hides (2 * a + 1) ≡ true → hides a ≡ true
   pub above-right : (a : ℕ) → a < N → hides (2 * a + 2) ≡ true → hides a ≡ true
-  pub left-given : (a : ℕ) → a < N → hides a ≡ true → hides (2 * a + 1) ≡ false → given (2 * a + 1) ≡ part (expandTree w root kids N) (w * (2 * a + 1)) w
-  pub right-given : (a : ℕ) → a < N → hides a ≡ true → hides (2 * a + 2) ≡ false → given (2 * a + 2) ≡ part (expandTree w root kids N) (w * (2 * a + 2)) w
+  pub left-given : (a : ℕ) → a < N → hides a ≡ true → hides (2 * a + 1) ≡ false → given (2 * a + 1) ≡ part (expand_tree w root kids N) (w * (2 * a + 1)) w
+  pub right-given : (a : ℕ) → a < N → hides a ≡ true → hides (2 * a + 2) ≡ false → given (2 * a + 2) ≡ part (expand_tree w root kids N) (w * (2 * a + 2)) w
 
 module _ (w N : ℕ) (root : List ℕ) (kids : ℕ → List ℕ → List ℕ) (hides : ℕ → Bool) (given : ℕ → List ℕ) (k : Revealing w N root kids hides given) where
   abbrev Signed : ℕ → List ℕ
-  Signed n = expandTree w root kids n
+  Signed n = expand_tree w root kids n
 
   abbrev Again : ℕ → List ℕ → List ℕ
   Again = again w hides given kids
 
   abbrev Checked : ℕ → List ℕ
-  Checked n = expandTree w (zeros w) (again w hides given kids) n
+  Checked n = expand_tree w (zeros w) (again w hides given kids) n
 
   abbrev Node : List ℕ → ℕ → List ℕ
   Node t c = part t (w * c) w
@@ -144,7 +144,7 @@ module _ (w N : ℕ) (root : List ℕ) (kids : ℕ → List ℕ → List ℕ) (h
       expand-right w (zeros w) Again N (length-zeros w) again-long n (omega arith) ∙ right-pick n (Node (Checked n) n) h (k.above-right n h d) ∙ blank (2 * n + 2) d
 
   pub nodes-zero : (n : ℕ) → n ≤ N → (c : ℕ) → c < 2 * n + 1 → hides c ≡ true → Node (Checked n) c ≡ zeros w
-  unfolding expandTree
+  unfolding expand_tree
   nodes-zero zero h c l d =
       let z : c ≡ 0 = omega arith in
       ap (λ (n : ℕ). part (zeros w) n w) (ap (λ (n : ℕ). w * n) z ∙ mul-zero w) ∙ part-whole (zeros w) w (length-zeros w)

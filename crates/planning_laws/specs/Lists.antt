@@ -28,8 +28,8 @@ tally c zero = 0
 tally c (suc n) = cond (c n) 1 0 + tally c n
 
 -- document 000's n_h (figure 5.4): how many nodes of the tree with L leaves are covered
-unfoldable pub coveredCount : ℕ → List ℕ → ℕ
-coveredCount L hidden = tally (covered hidden) (2 * L - 1)
+unfoldable pub covered_count : ℕ → List ℕ → ℕ
+covered_count L hidden = tally (covered hidden) (2 * L - 1)
 
 -- the numbers below n that pass the test, largest first
 unfoldable pub passing : (ℕ → Bool) → ℕ → List ℕ
@@ -37,5 +37,5 @@ passing c zero = []
 passing c (suc n) = cond (c n) (n ∷ passing c n) (passing c n)
 
 -- the covered nodes of the tree with L leaves, largest first
-unfoldable pub coveredNodes : ℕ → List ℕ → List ℕ
-coveredNodes L hidden = passing (covered hidden) (2 * L - 1)
+unfoldable pub covered_nodes : ℕ → List ℕ → List ℕ
+covered_nodes L hidden = passing (covered hidden) (2 * L - 1)

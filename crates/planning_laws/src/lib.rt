@@ -1,1 +1,2 @@
 // Laws of planning, in ../proofs: ancestors, covered and revealed nodes over a list of hidden leaves, and the numbers that a shape gives.
+#![tactic(auto)]

@@ -1,6 +1,8 @@
 // What reconstruct writes, from hash keys to the commitment; the tests of the call stand in `verifier`.
+#![tactic(auto)]
+
 ghost use Rattle.std.specs.Prelude.{◌≡◌, true, ◌+◌, ◌*◌, ◌≤◌, length};
-ghost use Rattle.spec.specs.Shapes.{challengeBytes, leafCommitmentBytes, hashBytes, ivBytes, shapeOk, plannedCount, treeBytes, leafCommitmentsBytes, openingBytes, matrixBytes, correctionsBytes};
+ghost use Rattle.spec.specs.Shapes.{challenge_bytes, leaf_commitment_bytes, hash_bytes, iv_bytes, shape_ok, planned_count, tree_bytes, leaf_commitments_bytes, opening_bytes, matrix_bytes, corrections_bytes};
 ghost use Rattle.spec.specs.Primitives.{faest};
 ghost use Rattle.spec.specs.Calls.{Reconstructed, reconstructed};
 
@@ -23,10 +25,10 @@ fn write_all(
     lcs: &mut [u8],
     q: &mut [u8],
 )
-    requires s_value { (shapeOk s ≡ true) × (z.first + z.width ≤ 8192) × (n ≡ plannedCount s ch.now) × (n ≤ s.t) × (length keys.old ≡ leafCommitmentBytes s * s.tau) × (length hashes.old ≡ hashBytes s * s.tau) }
-    requires iv_len { (length iv.now ≡ ivBytes) × (length ch.now ≡ challengeBytes s) × (length corrections.now ≡ correctionsBytes s z.width) × (length opening.now ≡ openingBytes s) }
-    requires commitment_len { (length commitment.old ≡ hashBytes s) × (length tree.old ≡ treeBytes s) × (length lcs.old ≡ leafCommitmentsBytes s) × (length q.old ≡ matrixBytes s z.width) }
-    ensures { ◌≡◌ {A = Reconstructed} (record { commitment = commitment.exit.now; tree = tree.new; leafCommitments = lcs.new; q = q.new })
+    requires s_value { (shape_ok s ≡ true) × (z.first + z.width ≤ 8192) × (n ≡ planned_count s ch.now) × (n ≤ s.t) × (length keys.old ≡ leaf_commitment_bytes s * s.tau) × (length hashes.old ≡ hash_bytes s * s.tau) }
+    requires iv_len { (length iv.now ≡ iv_bytes) × (length ch.now ≡ challenge_bytes s) × (length corrections.now ≡ corrections_bytes s z.width) × (length opening.now ≡ opening_bytes s) }
+    requires commitment_len { (length commitment.old ≡ hash_bytes s) × (length tree.old ≡ tree_bytes s) × (length lcs.old ≡ leaf_commitments_bytes s) × (length q.old ≡ matrix_bytes s z.width) }
+    ensures { ◌≡◌ {A = Reconstructed} (record { commitment = commitment.exit.now; tree = tree.new; leaf_commitments = lcs.new; q = q.new })
         (reconstructed faest s z iv.now ch.now corrections.now opening.now) }
 {
     let r = rules::rate_bytes(s);
@@ -59,10 +61,10 @@ pub fn write_reconstruction(
     lcs: &mut [u8],
     q: &mut [u8],
 )
-    requires s_value { (shapeOk s ≡ true) × (z.first + z.width ≤ 8192) × (n ≡ plannedCount s ch.now) × (n ≤ s.t) }
-    requires iv_len { (length iv.now ≡ ivBytes) × (length ch.now ≡ challengeBytes s) × (length corrections.now ≡ correctionsBytes s z.width) × (length opening.now ≡ openingBytes s) }
-    requires commitment_len { (length commitment.old ≡ hashBytes s) × (length tree.old ≡ treeBytes s) × (length lcs.old ≡ leafCommitmentsBytes s) × (length q.old ≡ matrixBytes s z.width) }
-    ensures { ◌≡◌ {A = Reconstructed} (record { commitment = commitment.exit.now; tree = tree.new; leafCommitments = lcs.new; q = q.new })
+    requires s_value { (shape_ok s ≡ true) × (z.first + z.width ≤ 8192) × (n ≡ planned_count s ch.now) × (n ≤ s.t) }
+    requires iv_len { (length iv.now ≡ iv_bytes) × (length ch.now ≡ challenge_bytes s) × (length corrections.now ≡ corrections_bytes s z.width) × (length opening.now ≡ opening_bytes s) }
+    requires commitment_len { (length commitment.old ≡ hash_bytes s) × (length tree.old ≡ tree_bytes s) × (length lcs.old ≡ leaf_commitments_bytes s) × (length q.old ≡ matrix_bytes s z.width) }
+    ensures { ◌≡◌ {A = Reconstructed} (record { commitment = commitment.exit.now; tree = tree.new; leaf_commitments = lcs.new; q = q.new })
         (reconstructed faest s z iv.now ch.now corrections.now opening.now) }
 {
     let tau = s.tau;

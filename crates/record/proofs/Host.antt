@@ -9,13 +9,13 @@ use lib.Seq.{take-length}
 use borrow.Author.Tests.{eq-eqb, ne_eqb}
 use Rattle.spec.specs.declared.Shape.{Shape}
 use Rattle.spec.specs.Shapes.{resolved}
-use Rattle.spec.specs.Calls.{firstRefusal, fits, written}
+use Rattle.spec.specs.Calls.{first_refusal, fits, written}
 use Rattle.spec.specs.HostCalls.{word_bytes}
 use Rattle.record.specs.declared.Lengths.{Lengths}
 use Rattle.record.specs.declared.RecordLength.{RecordLength}
-use Rattle.record.specs.Record.{recordBytes}
+use Rattle.record.specs.Record.{record_bytes}
 use Rattle.record.specs.RecordCalls.{WorkLengths, LengthOf}
-use Rattle.record.specs.HostRecordCalls.{workWords, HostWorkLengths, HostRecordLength}
+use Rattle.record.specs.HostRecordCalls.{work_words, HostWorkLengths, HostRecordLength}
 
 -- numbers put to the front of a slice that has just their room
 words-whole : (xs out : List ℕ) → length out ≡ 4 * length xs → word_bytes (take (length xs) xs) ++ drop (4 * length xs) out ≡ word_bytes xs
@@ -25,7 +25,7 @@ words-whole xs out h =
 -- k is the number of the call beneath, and xs are the numbers, which go to a slice
 module _ (k : ℕ) (xs before : List ℕ) where
   abbrev Given : List ℕ → ℕ → Type 0
-  Given after r = (r ≡ firstRefusal ((eqb k 0, k) ∷ (fits ((length before, 4 * length xs) ∷ []), 3) ∷ [])) × (after ≡ written r (word_bytes xs) before)
+  Given after r = (r ≡ first_refusal ((eqb k 0, k) ∷ (fits ((length before, 4 * length xs) ∷ []), 3) ∷ [])) × (after ≡ written r (word_bytes xs) before)
 
   refused : (k ≡ 0 → ⊥) → Given before k
   refused h = (let z = ne_eqb k 0 h in (sym (rw z refl), sym (rw z refl)))
@@ -39,27 +39,27 @@ module _ (k : ℕ) (xs before : List ℕ) where
 -- ---- work_lengths
 
 module _ (rec before : List ℕ) (l : Lengths) (w : WorkLengths rec l) where
-  work-host : (after : List ℕ) (r : ℕ) → Given l.number (workWords rec) before after r → HostWorkLengths rec before after r
+  work-host : (after : List ℕ) (r : ℕ) → Given l.number (work_words rec) before after r → HostWorkLengths rec before after r
   work-host after r g = record { number = rw (sym w.number) g.0; lengths = g.1 }
 
   pub work-refused : (l.number ≡ 0 → ⊥) → HostWorkLengths rec before before l.number
-  work-refused h = work-host before l.number (refused l.number (workWords rec) before h)
+  work-refused h = work-host before l.number (refused l.number (work_words rec) before h)
 
   pub work-three : l.number ≡ 0 → (length before ≡ 12 → ⊥) → HostWorkLengths rec before before 3
-  work-three z h = work-host before 3 (three l.number (workWords rec) before z h)
+  work-three z h = work-host before 3 (three l.number (work_words rec) before z h)
 
   pub work-given : l.number ≡ 0 → length before ≡ 12 → (after : List ℕ) → after ≡ word_bytes (l.tree ∷ l.leaf_commitments ∷ l.q ∷ []) ++ drop 12 before
       → HostWorkLengths rec before after 0
   work-given z h after g =
       work-host after 0
-      (done l.number (workWords rec) before z h after
-      (g ∙ ap (λ (xs : List ℕ). word_bytes xs ++ drop 12 before) (rw (w.tree, w.leafCommitments, w.q, z) refl)))
+      (done l.number (work_words rec) before z h after
+      (g ∙ ap (λ (xs : List ℕ). word_bytes xs ++ drop 12 before) (rw (w.tree, w.leaf_commitments, w.q, z) refl)))
 
 -- ---- record_length
 
 module _ (s : Shape) (n : ℕ) (before : List ℕ) (l : RecordLength) (w : LengthOf s n l) where
   abbrev word : List ℕ
-  word = recordBytes (resolved s) (n / 8) ∷ []
+  word = record_bytes (resolved s) (n / 8) ∷ []
 
   length-host : (after : List ℕ) (r : ℕ) → Given l.number word before after r → HostRecordLength s n before after r
   length-host after r g = record { number = rw (sym w.number) g.0; bytes = g.1 }

@@ -7,110 +7,110 @@ use lib.Dec.{eqb}
 use lib.ListN.{length}
 use borrow.Author.Tests.{ne_eqb, eqb-true}
 use Rattle.spec.specs.declared.Shape.{Shape}
-use Rattle.spec.specs.Shapes.{resolved, challengeBytes, hashBytes, ivBytes, openingBytes, correctionsBytes, shapeOk}
-use Rattle.spec.specs.Calls.{firstRefusal, row_ok}
+use Rattle.spec.specs.Shapes.{resolved, challenge_bytes, hash_bytes, iv_bytes, opening_bytes, corrections_bytes, shape_ok}
+use Rattle.spec.specs.Calls.{first_refusal, row_ok}
 use Rattle.laws.specs.Lengths.{Sized}
 use Rattle.laws.proofs.Conjunctions.{both_true}
 use Rattle.laws.proofs.Refusals.{Numbered, Passed, none-failed, all-passed, then}
-use Rattle.record.specs.Fields.{fieldOk}
-use Rattle.record.specs.Record.{versionOf, headBytes, versionOk, ivPlace, challengePlace, correctionsPlace, openingPlace, commitmentPlace, recordEnd, restOk, Contents, contentsOf, kindFits, headTests, fieldsTest, fieldsTests, restTests, headNumber, fieldsNumber, end_of, readNumber}
+use Rattle.record.specs.Fields.{field_ok}
+use Rattle.record.specs.Record.{version_of, head_bytes, version_ok, iv_place, challenge_place, corrections_place, opening_place, commitment_place, record_end, rest_ok, Contents, contents_of, kind_fits, head_tests, fields_test, fields_tests, rest_tests, head_number, fields_number, end_of, read_number}
 use Rattle.record.proofs.Fields.{field-length}
 
 -- ---- the fields of the rest, one by one
 
 abbrev pub Rest : ℕ → Shape → ℕ → List ℕ → Type 0
 Rest h s b rec =
-    (fieldOk rec (ivPlace h) ivBytes ≡ true)
-    × (fieldOk rec (challengePlace h) (challengeBytes s) ≡ true)
-    × (fieldOk rec (correctionsPlace h s) (correctionsBytes s b) ≡ true)
-    × (fieldOk rec (openingPlace h s b) (openingBytes s) ≡ true)
-    × (fieldOk rec (commitmentPlace h s b) (hashBytes s) ≡ true)
+    (field_ok rec (iv_place h) iv_bytes ≡ true)
+    × (field_ok rec (challenge_place h) (challenge_bytes s) ≡ true)
+    × (field_ok rec (corrections_place h s) (corrections_bytes s b) ≡ true)
+    × (field_ok rec (opening_place h s b) (opening_bytes s) ≡ true)
+    × (field_ok rec (commitment_place h s b) (hash_bytes s) ≡ true)
 
-rest-fields : (h : ℕ) (s : Shape) (b : ℕ) (rec : List ℕ) → restOk h s b rec ≡ true → Rest h s b rec
-unfolding restOk
+rest-fields : (h : ℕ) (s : Shape) (b : ℕ) (rec : List ℕ) → rest_ok h s b rec ≡ true → Rest h s b rec
+unfolding rest_ok
 rest-fields h s b rec ok =
-    let four = both_true _ (fieldOk rec (commitmentPlace h s b) (hashBytes s)) ok in
-    let three = both_true _ (fieldOk rec (openingPlace h s b) (openingBytes s)) four.0 in
-    let two = both_true _ (fieldOk rec (correctionsPlace h s) (correctionsBytes s b)) three.0 in
-    let one = both_true (fieldOk rec (ivPlace h) ivBytes) (fieldOk rec (challengePlace h) (challengeBytes s)) two.0 in
+    let four = both_true _ (field_ok rec (commitment_place h s b) (hash_bytes s)) ok in
+    let three = both_true _ (field_ok rec (opening_place h s b) (opening_bytes s)) four.0 in
+    let two = both_true _ (field_ok rec (corrections_place h s) (corrections_bytes s b)) three.0 in
+    let one = both_true (field_ok rec (iv_place h) iv_bytes) (field_ok rec (challenge_place h) (challenge_bytes s)) two.0 in
     (one.0, one.1, two.1, three.1, four.1)
 
 -- the lengths of what a record says
 abbrev pub Lengths : Contents → List (ℕ × ℕ)
 Lengths c =
-    (length c.iv, ivBytes)
-    ∷ (length c.challenge, challengeBytes (resolved c.shape))
-    ∷ (length c.corrections, correctionsBytes (resolved c.shape) (c.row / 8))
-    ∷ (length c.opening, openingBytes (resolved c.shape))
-    ∷ (length c.commitment, hashBytes (resolved c.shape))
+    (length c.iv, iv_bytes)
+    ∷ (length c.challenge, challenge_bytes (resolved c.shape))
+    ∷ (length c.corrections, corrections_bytes (resolved c.shape) (c.row / 8))
+    ∷ (length c.opening, opening_bytes (resolved c.shape))
+    ∷ (length c.commitment, hash_bytes (resolved c.shape))
     ∷ []
 
 -- two tests with one number are one
-both : (x y : Bool) → firstRefusal ((x, 10) ∷ (y, 10) ∷ []) ≡ cond (x && y) 0 10
+both : (x y : Bool) → first_refusal ((x, 10) ∷ (y, 10) ∷ []) ≡ cond (x && y) 0 10
 both true y = refl
 both false y = refl
 
 module _ (rec : List ℕ) where
   abbrev h : ℕ
-  h = headBytes (versionOf rec)
+  h = head_bytes (version_of rec)
 
   abbrev s : Shape
-  s = resolved (contentsOf rec).shape
+  s = resolved (contents_of rec).shape
 
   abbrev b : ℕ
-  b = (contentsOf rec).row / 8
+  b = (contents_of rec).row / 8
 
   -- ---- the front is read
 
-  numbered : Numbered (headTests rec)
+  numbered : Numbered (head_tests rec)
   numbered = (refl, (refl, (refl, (refl, tt))))
 
-  module _ (ok : headNumber rec ≡ 0) where
-    tests : Passed (headTests rec)
-    unfolding headNumber
-    tests = none-failed (headTests rec) numbered ok
+  module _ (ok : head_number rec ≡ 0) where
+    tests : Passed (head_tests rec)
+    unfolding head_number
+    tests = none-failed (head_tests rec) numbered ok
 
-    pub front-version : versionOk rec ≡ true
+    pub front-version : version_ok rec ≡ true
     front-version = tests.0
 
-    pub front-head : fieldOk rec 1 (headBytes (versionOf rec)) ≡ true
+    pub front-head : field_ok rec 1 (head_bytes (version_of rec)) ≡ true
     front-head = tests.1.0
 
-    pub front-said : (shapeOk (resolved (contentsOf rec).shape) && kindFits (versionOf rec) (contentsOf rec).shape.kind) ≡ true
+    pub front-said : (shape_ok (resolved (contents_of rec).shape) && kind_fits (version_of rec) (contents_of rec).shape.kind) ≡ true
     front-said = tests.1.1.0
 
-    pub front-shape : shapeOk (resolved (contentsOf rec).shape) ≡ true
-    front-shape = (both_true _ (kindFits (versionOf rec) (contentsOf rec).shape.kind) front-said).0
+    pub front-shape : shape_ok (resolved (contents_of rec).shape) ≡ true
+    front-shape = (both_true _ (kind_fits (version_of rec) (contents_of rec).shape.kind) front-said).0
 
-    pub front-row : row_ok (contentsOf rec).row ≡ true
+    pub front-row : row_ok (contents_of rec).row ≡ true
     front-row = tests.1.1.1.0
 
   -- ---- the fields are there
 
-  module _ (ok : fieldsNumber rec ≡ 0) where
-    all : Passed (fieldsTests rec)
-    unfolding fieldsNumber
-    all = none-failed (fieldsTests rec) (refl, (refl, (refl, (refl, (refl, tt))))) ok
+  module _ (ok : fields_number rec ≡ 0) where
+    all : Passed (fields_tests rec)
+    unfolding fields_number
+    all = none-failed (fields_tests rec) (refl, (refl, (refl, (refl, (refl, tt))))) ok
 
-    pub fields-front : headNumber rec ≡ 0
-    unfolding headNumber
-    fields-front = all-passed (headTests rec) (all.0, (all.1.0, (all.1.1.0, (all.1.1.1.0, tt))))
+    pub fields-front : head_number rec ≡ 0
+    unfolding head_number
+    fields-front = all-passed (head_tests rec) (all.0, (all.1.0, (all.1.1.0, (all.1.1.1.0, tt))))
 
-    pub fields-rest : Rest (headBytes (versionOf rec)) (resolved (contentsOf rec).shape) ((contentsOf rec).row / 8) rec
+    pub fields-rest : Rest (head_bytes (version_of rec)) (resolved (contents_of rec).shape) ((contents_of rec).row / 8) rec
     fields-rest = rest-fields h s b rec all.1.1.1.1.0
 
-    pub fields-sized : Sized (Lengths (contentsOf rec))
-    unfolding contentsOf
+    pub fields-sized : Sized (Lengths (contents_of rec))
+    unfolding contents_of
     fields-sized =
         let q = fields-rest in (
-          field-length rec (ivPlace h) ivBytes q.0,
+          field-length rec (iv_place h) iv_bytes q.0,
           (
-            field-length rec (challengePlace h) (challengeBytes s) q.1,
+            field-length rec (challenge_place h) (challenge_bytes s) q.1,
             (
-              field-length rec (correctionsPlace h s) (correctionsBytes s b) q.2,
+              field-length rec (corrections_place h s) (corrections_bytes s b) q.2,
               (
-                field-length rec (openingPlace h s b) (openingBytes s) q.3,
-                (field-length rec (commitmentPlace h s b) (hashBytes s) q.4, tt),
+                field-length rec (opening_place h s b) (opening_bytes s) q.3,
+                (field-length rec (commitment_place h s b) (hash_bytes s) q.4, tt),
               ),
             ),
           ),
@@ -118,42 +118,42 @@ module _ (rec : List ℕ) where
 
   -- ---- the record is read
 
-  module _ (ok : readNumber rec ≡ 0) where
-    whole : Passed (headTests rec ++ restTests rec)
-    unfolding readNumber
-    whole = none-failed (headTests rec ++ restTests rec) (refl, (refl, (refl, (refl, (refl, (refl, tt)))))) ok
+  module _ (ok : read_number rec ≡ 0) where
+    whole : Passed (head_tests rec ++ rest_tests rec)
+    unfolding read_number
+    whole = none-failed (head_tests rec ++ rest_tests rec) (refl, (refl, (refl, (refl, (refl, (refl, tt)))))) ok
 
-    pub read-fields : fieldsNumber rec ≡ 0
-    unfolding fieldsNumber
-    read-fields = all-passed (fieldsTests rec) (whole.0, (whole.1.0, (whole.1.1.0, (whole.1.1.1.0, (whole.1.1.1.1.0, tt)))))
+    pub read-fields : fields_number rec ≡ 0
+    unfolding fields_number
+    read-fields = all-passed (fields_tests rec) (whole.0, (whole.1.0, (whole.1.1.0, (whole.1.1.1.0, (whole.1.1.1.1.0, tt)))))
 
-    pub read-front : headNumber rec ≡ 0
+    pub read-front : head_number rec ≡ 0
     read-front = fields-front read-fields
 
-    pub read_length : length rec ≡ recordEnd (headBytes (versionOf rec)) (resolved (contentsOf rec).shape) ((contentsOf rec).row / 8)
-    read_length = eqb-true (length rec) (recordEnd h s b) whole.1.1.1.1.1.0
+    pub read_length : length rec ≡ record_end (head_bytes (version_of rec)) (resolved (contents_of rec).shape) ((contents_of rec).row / 8)
+    read_length = eqb-true (length rec) (record_end h s b) whole.1.1.1.1.1.0
 
   -- ---- what decides: the front, then the fields, then the end
 
-  fields-then : fieldsNumber rec ≡ cond (eqb (headNumber rec) 0) (firstRefusal (fieldsTest rec ∷ [])) (headNumber rec)
-  unfolding headNumber fieldsNumber
-  fields-then = then (headTests rec) (fieldsTest rec ∷ []) numbered
+  fields-then : fields_number rec ≡ cond (eqb (head_number rec) 0) (first_refusal (fields_test rec ∷ [])) (head_number rec)
+  unfolding head_number fields_number
+  fields-then = then (head_tests rec) (fields_test rec ∷ []) numbered
 
-  read-then : readNumber rec ≡ cond (eqb (headNumber rec) 0) (firstRefusal (restTests rec)) (headNumber rec)
-  unfolding headNumber readNumber
-  read-then = then (headTests rec) (restTests rec) numbered
+  read-then : read_number rec ≡ cond (eqb (head_number rec) 0) (first_refusal (rest_tests rec)) (head_number rec)
+  unfolding head_number read_number
+  read-then = then (head_tests rec) (rest_tests rec) numbered
 
   -- the front is refused
-  module _ (bad : headNumber rec ≡ 0 → ⊥) where
-    pub front-decides-fields : fieldsNumber rec ≡ headNumber rec
-    front-decides-fields = fields-then ∙ rw (ne_eqb (headNumber rec) 0 bad) refl
+  module _ (bad : head_number rec ≡ 0 → ⊥) where
+    pub front-decides-fields : fields_number rec ≡ head_number rec
+    front-decides-fields = fields-then ∙ rw (ne_eqb (head_number rec) 0 bad) refl
 
-    pub front-decides : readNumber rec ≡ headNumber rec
-    front-decides = read-then ∙ rw (ne_eqb (headNumber rec) 0 bad) refl
+    pub front-decides : read_number rec ≡ head_number rec
+    front-decides = read-then ∙ rw (ne_eqb (head_number rec) 0 bad) refl
 
-  module _ (ok : headNumber rec ≡ 0) where
-    pub fields-decide : fieldsNumber rec ≡ cond (restOk (headBytes (versionOf rec)) (resolved (contentsOf rec).shape) ((contentsOf rec).row / 8) rec) 0 10
+  module _ (ok : head_number rec ≡ 0) where
+    pub fields-decide : fields_number rec ≡ cond (rest_ok (head_bytes (version_of rec)) (resolved (contents_of rec).shape) ((contents_of rec).row / 8) rec) 0 10
     fields-decide = fields-then ∙ rw ok refl
 
-    pub end-decides : readNumber rec ≡ cond (restOk (headBytes (versionOf rec)) (resolved (contentsOf rec).shape) ((contentsOf rec).row / 8) rec && eqb (length rec) (end_of rec)) 0 10
-    end-decides = read-then ∙ rw ok (both (restOk h s b rec) (eqb (length rec) (end_of rec)))
+    pub end-decides : read_number rec ≡ cond (rest_ok (head_bytes (version_of rec)) (resolved (contents_of rec).shape) ((contents_of rec).row / 8) rec && eqb (length rec) (end_of rec)) 0 10
+    end-decides = read-then ∙ rw ok (both (rest_ok h s b rec) (eqb (length rec) (end_of rec)))

@@ -1,7 +1,8 @@
 // A signing record, document 02, E6: the definitions stand in ../specs, laws in ../proofs.
+#![tactic(auto)]
 
 // The lengths of the work buffers that a record asks for, with the number of the refusal of its front, or 0.
-#[derive(Drop)]
+#[derive(Clone, Copy)]
 pub struct Lengths {
     pub number: usize,
     pub tree: usize,
@@ -10,7 +11,7 @@ pub struct Lengths {
 }
 
 // The length of the record of a shape and a row length, with the number of the refusal, or 0.
-#[derive(Drop)]
+#[derive(Clone, Copy)]
 pub struct RecordLength {
     pub number: usize,
     pub bytes: usize,

@@ -1,5 +1,7 @@
 // Cases of records: what commit and open make is written as a record, and the record, or what is made of it, is checked. Printed is what the command line of reference/
 // prints.
+#![tactic(auto)]
+
 ghost use Rattle.std.specs.Prelude.{◌<◌};
 
 mod edits;

@@ -7,31 +7,31 @@ use lib.Dec.{eqb}
 use lib.ListN.{length}
 use borrow.Author.Tests.{ne_eqb}
 use Rattle.spec.specs.declared.Answer.{Answer}
-use Rattle.spec.specs.Shapes.{resolved, hashBytes, plannedCount, shapeOk}
+use Rattle.spec.specs.Shapes.{resolved, hash_bytes, planned_count, shape_ok}
 use Rattle.spec.specs.Primitives.{faest}
-use Rattle.spec.specs.Calls.{firstRefusal, row_ok, countGiven, countWith, Reconstructed}
-use Rattle.record.specs.Fields.{fieldOk}
-use Rattle.record.specs.Record.{versionOf, headBytes, versionOk, recordEnd, restOk, Contents, contentsOf, kindFits, readNumber}
-use Rattle.record.specs.RecordCalls.{answered, Work, workLengths, workOf, Reconstructs, made, sameBytes, recordNumber, CheckRecord}
-use Rattle.record.proofs.Reconstructing.{ranNumber, ran-number, ran-count, ran-made, ran-kept, not-eleven, number-refused, number-steps}
+use Rattle.spec.specs.Calls.{first_refusal, row_ok, count_given, count_with, Reconstructed}
+use Rattle.record.specs.Fields.{field_ok}
+use Rattle.record.specs.Record.{version_of, head_bytes, version_ok, record_end, rest_ok, Contents, contents_of, kind_fits, read_number}
+use Rattle.record.specs.RecordCalls.{answered, Work, work_lengths, work_of, Reconstructs, made, same_bytes, record_number, CheckRecord}
+use Rattle.record.proofs.Reconstructing.{ran_number, ran-number, ran-count, ran-made, ran-kept, not-eleven, number-refused, number-steps}
 
 -- ---- refused in reading
 
 -- the first of the six tests of reading that fails
 abbrev First : Bool → Bool → Bool → Bool → Bool → Bool → ℕ
-First a b c d e f = firstRefusal ((a, 9) ∷ (b, 10) ∷ (c, 1) ∷ (d, 2) ∷ (e, 10) ∷ (f, 10) ∷ [])
+First a b c d e f = first_refusal ((a, 9) ∷ (b, 10) ∷ (c, 1) ∷ (d, 2) ∷ (e, 10) ∷ (f, 10) ∷ [])
 
 -- with a number of reading check_record writes nothing and gives no count
-pub read-quiet : (rec : List ℕ) → (readNumber rec ≡ 0 → ⊥) → (eqb (answered (readNumber rec)) 0 ≡ false) × (countGiven (answered (readNumber rec)) ≡ false)
-unfolding readNumber
+pub read-quiet : (rec : List ℕ) → (read_number rec ≡ 0 → ⊥) → (eqb (answered (read_number rec)) 0 ≡ false) × (count_given (answered (read_number rec)) ≡ false)
+unfolding read_number
 read-quiet rec bad =
-    let h = headBytes (versionOf rec) in
-    let s = resolved (contentsOf rec).shape in
-    let b = (contentsOf rec).row / 8 in
-    go (versionOk rec) (fieldOk rec 1 h) (shapeOk s && kindFits (versionOf rec) (contentsOf rec).shape.kind) (row_ok (contentsOf rec).row) (restOk h s b rec)
-    (eqb (length rec) (recordEnd h s b)) bad
+    let h = head_bytes (version_of rec) in
+    let s = resolved (contents_of rec).shape in
+    let b = (contents_of rec).row / 8 in
+    go (version_ok rec) (field_ok rec 1 h) (shape_ok s && kind_fits (version_of rec) (contents_of rec).shape.kind) (row_ok (contents_of rec).row) (rest_ok h s b rec)
+    (eqb (length rec) (record_end h s b)) bad
   where
-    go : (a b c d e f : Bool) → (First a b c d e f ≡ 0 → ⊥) → (eqb (answered (First a b c d e f)) 0 ≡ false) × (countGiven (answered (First a b c d e f)) ≡ false)
+    go : (a b c d e f : Bool) → (First a b c d e f ≡ 0 → ⊥) → (eqb (answered (First a b c d e f)) 0 ≡ false) × (count_given (answered (First a b c d e f)) ≡ false)
     go false b c d e f n = (refl, refl)
     go true false c d e f n = (refl, refl)
     go true true false d e f n = (refl, refl)
@@ -40,8 +40,8 @@ read-quiet rec bad =
     go true true true true true false n = (refl, refl)
     go true true true true true true n = absurd (n refl)
 
-pub check-read : (rec : List ℕ) (x : Work) (r : Answer) (k : ℕ) → k ≡ readNumber rec → (k ≡ 0 → ⊥) → (r.number ≡ k) × (r.count ≡ 0) → CheckRecord faest rec x x r
-unfolding countWith
+pub check-read : (rec : List ℕ) (x : Work) (r : Answer) (k : ℕ) → k ≡ read_number rec → (k ≡ 0 → ⊥) → (r.number ≡ k) × (r.count ≡ 0) → CheckRecord faest rec x x r
+unfolding count_with
 check-read rec x r k e bad a =
     let q = read-quiet rec (λ z. bad (e ∙ z)) in
     let n = a.0 ∙ e in
@@ -53,47 +53,47 @@ check-read rec x r k e bad a =
 
 -- ---- fields that reconstruct was made on; x are its buffers, a is what it answers, y what it leaves. Of every record that is read as these fields
 
-module _ (c : Contents) (x y : Reconstructed) (long : length x.commitment ≡ hashBytes (resolved c.shape)) (a : Answer) (w : Reconstructs faest c x y a) (rec : List ℕ) (ok : readNumber rec ≡ 0) (is : contentsOf rec ≡ c) where
-  said : a.number ≡ ranNumber c x
+module _ (c : Contents) (x y : Reconstructed) (long : length x.commitment ≡ hash_bytes (resolved c.shape)) (a : Answer) (w : Reconstructs faest c x y a) (rec : List ℕ) (ok : read_number rec ≡ 0) (is : contents_of rec ≡ c) where
+  said : a.number ≡ ran_number c x
   said = ran-number faest c x y a w
 
   -- the number, by its steps
-  steps : (r : ℕ) → r ≡ cond (eqb a.number 0) (cond (sameBytes (made faest c).commitment c.commitment) 0 11) a.number
-      → r ≡ recordNumber faest rec (workLengths (resolved (contentsOf rec).shape) ((contentsOf rec).row / 8) (workOf x))
+  steps : (r : ℕ) → r ≡ cond (eqb a.number 0) (cond (same_bytes (made faest c).commitment c.commitment) 0 11) a.number
+      → r ≡ record_number faest rec (work_lengths (resolved (contents_of rec).shape) ((contents_of rec).row / 8) (work_of x))
   steps r e = e ∙ sym (number-steps faest rec x (rw is long) ∙ rw (ok, is, ← said) refl)
 
-  pub check-work : (a.number ≡ 0 → ⊥) → CheckRecord faest rec (workOf x) (workOf y) a
+  pub check-work : (a.number ≡ 0 → ⊥) → CheckRecord faest rec (work_of x) (work_of y) a
   check-work bad =
       let z : eqb a.number 0 ≡ false = ne_eqb a.number 0 bad in
       let e : eqb a.number 11 ≡ false = ap (λ (k : ℕ). eqb k 11) said ∙ not-eleven c x in
       record {
         number = steps a.number (sym (rw z refl));
         count = rw (is, e) (ran-count faest c x y a w);
-        buffers = rw (is, e, z) (ap workOf (ran-kept faest c x y a w bad));
+        buffers = rw (is, e, z) (ap work_of (ran-kept faest c x y a w bad));
       }
 
   module _ (z : a.number ≡ 0) where
     left : y ≡ made faest c
     left = ran-made faest c x y a w z
 
-    count : a.count ≡ plannedCount (resolved c.shape) c.challenge
-    unfolding countWith
+    count : a.count ≡ planned_count (resolved c.shape) c.challenge
+    unfolding count_with
     count = ran-count faest c x y a w ∙ rw z refl
 
-    pub check-eleven : (r : Answer) → sameBytes y.commitment c.commitment ≡ false → (r.number ≡ 11) × (r.count ≡ a.count) → CheckRecord faest rec (workOf x) (workOf y) r
-    unfolding countWith
+    pub check-eleven : (r : Answer) → same_bytes y.commitment c.commitment ≡ false → (r.number ≡ 11) × (r.count ≡ a.count) → CheckRecord faest rec (work_of x) (work_of y) r
+    unfolding count_with
     check-eleven r f b =
         record {
           number = steps r.number (b.0 ∙ sym (rw (z, ← left, f) refl));
           count = b.1 ∙ count ∙ sym (rw (is, b.0) refl);
-          buffers = rw (is, b.0) (ap workOf left);
+          buffers = rw (is, b.0) (ap work_of left);
         }
 
-    pub check-accepted : sameBytes y.commitment c.commitment ≡ true → CheckRecord faest rec (workOf x) (workOf y) a
-    unfolding countWith
+    pub check-accepted : same_bytes y.commitment c.commitment ≡ true → CheckRecord faest rec (work_of x) (work_of y) a
+    unfolding count_with
     check-accepted f =
         record {
           number = steps a.number (z ∙ sym (rw (z, ← left, f) refl));
           count = count ∙ sym (rw (is, z) refl);
-          buffers = rw (is, z) (ap workOf left);
+          buffers = rw (is, z) (ap work_of left);
         }

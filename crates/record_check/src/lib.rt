@@ -1,9 +1,11 @@
 // The check of a record whose front is read: a reader hands out its fields, reconstruct is made on them, and the commitment is compared. No test comes after a
 // write but the last, 11. Nothing here depends on the signing half.
+#![tactic(auto)]
+
 ghost use Rattle.std.specs.Prelude.{◌≡◌, true, List, ℕ, length};
-ghost use Rattle.spec.specs.Shapes.{resolved, hashBytes, shapeOk};
+ghost use Rattle.spec.specs.Shapes.{resolved, hash_bytes, shape_ok};
 ghost use Rattle.spec.specs.Primitives.{faest};
-ghost use Rattle.record.specs.Record.{contentsOf, readNumber};
+ghost use Rattle.record.specs.Record.{contents_of, read_number};
 ghost use Rattle.record.specs.RecordCalls.{CheckRecord};
 ghost use Rattle.record_reading.specs.Front.{FrontOf, ReadFront, SizesOf};
 
@@ -23,9 +25,9 @@ fn compared<'a>(
     leaf_commitments: &mut [u8],
     q: &mut [u8],
 ) -> Answer
-    requires { length commitment.old ≡ hashBytes (resolved f.shape) }
-    ensures { (rec : List ℕ) → readNumber rec ≡ 0
-        → contentsOf rec ≡ record {
+    requires { length commitment.old ≡ hash_bytes (resolved f.shape) }
+    ensures { (rec : List ℕ) → read_number rec ≡ 0
+        → contents_of rec ≡ record {
           shape = f.shape;
           row = f.row;
           iv = iv.now;
@@ -35,8 +37,8 @@ fn compared<'a>(
           commitment = expected.now;
         }
         → CheckRecord faest rec
-        (record { tree = tree.entry.now; leafCommitments = leaf_commitments.old; q = q.old })
-        (record { tree = tree.exit.now; leafCommitments = leaf_commitments.new; q = q.new })
+        (record { tree = tree.entry.now; leaf_commitments = leaf_commitments.old; q = q.old })
+        (record { tree = tree.exit.now; leaf_commitments = leaf_commitments.new; q = q.new })
         result }
 {
     let s = f.shape;
@@ -73,9 +75,9 @@ fn check_parts<'a>(
     leaf_commitments: &mut [u8],
     q: &mut [u8],
 ) -> Answer
-    requires { (shapeOk f.resolved ≡ true) × (f.resolved ≡ resolved f.shape) }
-    ensures { (rec : List ℕ) → readNumber rec ≡ 0
-        → contentsOf rec ≡ record {
+    requires { (shape_ok f.resolved ≡ true) × (f.resolved ≡ resolved f.shape) }
+    ensures { (rec : List ℕ) → read_number rec ≡ 0
+        → contents_of rec ≡ record {
           shape = f.shape;
           row = f.row;
           iv = iv.now;
@@ -85,8 +87,8 @@ fn check_parts<'a>(
           commitment = expected.now;
         }
         → CheckRecord faest rec
-        (record { tree = tree.entry.now; leafCommitments = leaf_commitments.old; q = q.old })
-        (record { tree = tree.exit.now; leafCommitments = leaf_commitments.new; q = q.new })
+        (record { tree = tree.entry.now; leaf_commitments = leaf_commitments.old; q = q.old })
+        (record { tree = tree.exit.now; leaf_commitments = leaf_commitments.new; q = q.new })
         result }
 {
     let s = f.resolved;
@@ -115,10 +117,10 @@ fn check_fields(
     leaf_commitments: &mut [u8],
     q: &mut [u8],
 ) -> Answer
-    requires { FrontOf «record».now f × SizesOf «record».now z × (readNumber «record».now ≡ 0) }
+    requires { FrontOf «record».now f × SizesOf «record».now z × (read_number «record».now ≡ 0) }
     ensures { CheckRecord faest «record».now
-        (record { tree = tree.entry.now; leafCommitments = leaf_commitments.old; q = q.old })
-        (record { tree = tree.exit.now; leafCommitments = leaf_commitments.new; q = q.new })
+        (record { tree = tree.entry.now; leaf_commitments = leaf_commitments.old; q = q.old })
+        (record { tree = tree.exit.now; leaf_commitments = leaf_commitments.new; q = q.new })
         result }
 {
     let p = record_reader::fields_of(
@@ -153,8 +155,8 @@ pub fn check_front(
 ) -> Answer
     requires { ReadFront «record».now f }
     ensures { CheckRecord faest «record».now
-        (record { tree = tree.entry.now; leafCommitments = leaf_commitments.old; q = q.old })
-        (record { tree = tree.exit.now; leafCommitments = leaf_commitments.new; q = q.new })
+        (record { tree = tree.entry.now; leaf_commitments = leaf_commitments.old; q = q.old })
+        (record { tree = tree.exit.now; leaf_commitments = leaf_commitments.new; q = q.new })
         result }
 {
     if f.number != 0 {

@@ -1,12 +1,14 @@
 // Fields of a record, on a slice and a place in it: tested, and handed out; the version and the head's length and numbers, by the version; the length of a record
 // that is written; strings compared.
+#![tactic(auto)]
+
 ghost use Rattle.std.specs.Prelude.{◌≡◌, true, ◌+◌, ◌<◌, ◌≤◌, length};
 ghost use Rattle.spec.specs.Bytes.{part};
-ghost use Rattle.spec.specs.Shapes.{challengeBytes, shapeOk};
-ghost use Rattle.record.specs.Fields.{fieldOk, field_at};
-ghost use Rattle.spec.specs.Bytes.{bigEndian};
-ghost use Rattle.record.specs.Record.{versionOf, headBytes, shapeIn, row_in, kindFits, versionFor, recordBytes};
-ghost use Rattle.record.specs.RecordCalls.{sameBytes};
+ghost use Rattle.spec.specs.Shapes.{challenge_bytes, shape_ok};
+ghost use Rattle.record.specs.Fields.{field_ok, field_at};
+ghost use Rattle.spec.specs.Bytes.{big_endian};
+ghost use Rattle.record.specs.Record.{version_of, head_bytes, shape_in, row_in, kind_fits, version_for, record_bytes};
+ghost use Rattle.record.specs.RecordCalls.{same_bytes};
 
 use spec::Shape;
 
@@ -20,7 +22,7 @@ fn wide(b: u8) -> usize
 // The number in two bytes, most significant first.
 fn number2(bytes: &[u8], at: usize) -> usize
     requires { at + 2 ≤ length bytes.now }
-    ensures { result ≡ bigEndian (part bytes.now at 2) }
+    ensures { result ≡ big_endian (part bytes.now at 2) }
 {
     256 * wide(bytes[at]) + wide(bytes[at + 1])
 }
@@ -28,7 +30,7 @@ fn number2(bytes: &[u8], at: usize) -> usize
 // The number in four bytes.
 fn number4(bytes: &[u8], at: usize) -> usize
     requires { at + 4 ≤ length bytes.now }
-    ensures { result ≡ bigEndian (part bytes.now at 4) }
+    ensures { result ≡ big_endian (part bytes.now at 4) }
 {
     let high = 256 * wide(bytes[at]) + wide(bytes[at + 1]);
     256 * (256 * high + wide(bytes[at + 2])) + wide(bytes[at + 3])
@@ -36,7 +38,7 @@ fn number4(bytes: &[u8], at: usize) -> usize
 
 // Whether a field of n bytes begins at a place.
 pub fn field_fits(bytes: &[u8], at: usize, n: usize) -> bool
-    ensures { result ≡ fieldOk bytes.now at n }
+    ensures { result ≡ field_ok bytes.now at n }
 {
     if bytes.len() < at {
         return false;
@@ -65,7 +67,7 @@ pub fn field_at(bytes: &[u8], at: usize, n: usize) -> &[u8]
 
 // The bytes of the head of a version, 0 where the version is not known.
 pub fn head_length(version: u8) -> usize
-    ensures { (result ≡ headBytes version) × (result ≤ 11) }
+    ensures { (result ≡ head_bytes version) × (result ≤ 11) }
 {
     if version == 1 {
         return 9;
@@ -81,7 +83,7 @@ pub fn head_length(version: u8) -> usize
 
 // The version byte, 0 where it is missing.
 pub fn version_of(bytes: &[u8]) -> u8
-    ensures { result ≡ versionOf bytes.now }
+    ensures { result ≡ version_of bytes.now }
 {
     if bytes.len() < 1 {
         return 0;
@@ -91,8 +93,8 @@ pub fn version_of(bytes: &[u8]) -> u8
 
 // The level in the head of a version, in bits.
 fn level_in(version: u8, head: &[u8]) -> usize
-    requires { (0 < headBytes version) × (length head.now ≡ headBytes version) }
-    ensures { result ≡ (shapeIn version head.now).level }
+    requires { (0 < head_bytes version) × (length head.now ≡ head_bytes version) }
+    ensures { result ≡ (shape_in version head.now).level }
 {
     if version == 1 {
         return 128;
@@ -102,8 +104,8 @@ fn level_in(version: u8, head: &[u8]) -> usize
 
 // The leaf kind in the head of a version.
 fn kind_in(version: u8, head: &[u8]) -> usize
-    requires { (0 < headBytes version) × (length head.now ≡ headBytes version) }
-    ensures { result ≡ (shapeIn version head.now).kind }
+    requires { (0 < head_bytes version) × (length head.now ≡ head_bytes version) }
+    ensures { result ≡ (shape_in version head.now).kind }
 {
     if version != 3 {
         return 0;
@@ -113,8 +115,8 @@ fn kind_in(version: u8, head: &[u8]) -> usize
 
 // The shape in the head of a version.
 pub fn shape_in(version: u8, head: &[u8]) -> Shape
-    requires { (0 < headBytes version) × (length head.now ≡ headBytes version) }
-    ensures { result ≡ shapeIn version head.now }
+    requires { (0 < head_bytes version) × (length head.now ≡ head_bytes version) }
+    ensures { result ≡ shape_in version head.now }
 {
     Shape {
         tau: wide(head[0]),
@@ -136,7 +138,7 @@ pub fn row_in(head: &[u8]) -> usize
 
 // Whether a record of a version may have a leaf kind.
 pub fn kind_fits(version: u8, kind: usize) -> bool
-    ensures { result ≡ kindFits version kind }
+    ensures { result ≡ kind_fits version kind }
 {
     if version != 3 {
         return true;
@@ -146,7 +148,7 @@ pub fn kind_fits(version: u8, kind: usize) -> bool
 
 // The version that is written for a shape, by its leaf kind.
 pub fn version_for(s: Shape) -> u8
-    ensures { result ≡ versionFor s }
+    ensures { result ≡ version_for s }
 {
     if rules::is_ordinary(s) { 2 } else { 3 }
 }
@@ -155,16 +157,16 @@ pub fn version_for(s: Shape) -> u8
 
 // The bytes of a challenge.
 pub fn challenge_length(s: Shape) -> usize
-    requires { shapeOk s ≡ true }
-    ensures { (result ≡ challengeBytes s) × (result ≤ 32) }
+    requires { shape_ok s ≡ true }
+    ensures { (result ≡ challenge_bytes s) × (result ≤ 32) }
 {
     rules::node_bytes(s)
 }
 
 // The length of the record that is written for a shape: the version byte, six lengths of fields and the IV are 41 bytes.
 pub fn record_length(s: Shape, b: usize) -> usize
-    requires { (shapeOk s ≡ true) × (b ≤ 8192) }
-    ensures { (result ≡ recordBytes s b) × (result ≤ 273555) }
+    requires { (shape_ok s ≡ true) × (b ≤ 8192) }
+    ensures { (result ≡ record_bytes s b) × (result ≤ 273555) }
 {
     let h = head_length(version_for(s));
     let front = h + challenge_length(s);
@@ -174,7 +176,7 @@ pub fn record_length(s: Shape, b: usize) -> usize
 
 // Whether two strings are the same.
 pub fn same_bytes(a: &[u8], b: &[u8]) -> bool
-    ensures { result ≡ sameBytes a.now b.now }
+    ensures { result ≡ same_bytes a.now b.now }
 {
     if a.len() != b.len() {
         return false;

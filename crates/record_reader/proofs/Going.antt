@@ -33,7 +33,7 @@ use denote.Triple.Call.{calls_at}
 use denote.Triple.Spec.{triple_of}
 use denote.Triple.Walked.{says}
 use denote.Triple.Clauses.{ensured, lasts}
-use Rattle.record.specs.Fields.{fieldOk}
+use Rattle.record.specs.Fields.{field_ok}
 use Rattle.record_reader.specs.declared.Reader.{Reader}
 use Rattle.record_reader.specs.contracts.Reader as T
 use Rattle.record_reader.proofs.Reader.TheLaws as T'
@@ -127,8 +127,8 @@ module _ {M : Type 1} {𝓤 : Ura M} (𝓛 : Logic 𝓤) (mem : Memory → SProp
   goes-fits : (r : Reader) (u : Val) (n : ℕ) → n < 2 ^ 64 → ent 𝓤 (⋆ 𝓛 (has r u ∷ token ∷ [])) ((Fits 𝓛 mem run).pre (to-fits r u n))
   goes-fits r u n fit = qed 𝓛 (has r u ∷ token ∷ []) ∵ nothing ! $ owned ! usize (Is usize) (uint_Makes 𝓛 w64) n _ (refl, fit) $ fjoin ! $ move ! (1 ∷ 0 ∷ []) $ fjoin ! $ move ! (1 ∷ 0 ∷ []) $ join ! $ frame ! $ done !
 
-  fits_said : (r : Reader) (b : Bool) (n : ℕ) → ent 𝓤 (ensured 𝓛 fits.ended (fits.clauses 𝓛 mem run) (κ, tt) (r, (n, tt)) tt b) (fact 𝓤 (b ≡ fieldOk r.bytes.now r.at n))
-  fits_said r b n = ex_e 𝓤 _ (λ ws. snd∗ 𝓤 (sem 𝓛 (lasts fits.ended (κ, tt) (r, (n, tt)) ws)) (fact 𝓤 (b ≡ fieldOk r.bytes.now r.at n)))
+  fits_said : (r : Reader) (b : Bool) (n : ℕ) → ent 𝓤 (ensured 𝓛 fits.ended (fits.clauses 𝓛 mem run) (κ, tt) (r, (n, tt)) tt b) (fact 𝓤 (b ≡ field_ok r.bytes.now r.at n))
+  fits_said r b n = ex_e 𝓤 _ (λ ws. snd∗ 𝓤 (sem 𝓛 (lasts fits.ended (κ, tt) (r, (n, tt)) ws)) (fact 𝓤 (b ≡ field_ok r.bytes.now r.at n)))
 
   goes-new : (s : Bor (List ℕ)) (v : Val) → ent 𝓤 (⋆ 𝓛 (part_of s v ∷ token ∷ [])) ((New 𝓛 mem run).pre (to-new s v))
   goes-new s v = qed 𝓛 (part_of s v ∷ token ∷ []) ∵ nothing ! $ move ! (1 ∷ 0 ∷ []) $ fjoin ! $ move ! (1 ∷ 0 ∷ []) $ join ! $ frame ! $ done !
@@ -171,16 +171,16 @@ module _ {M : Type 1} {𝓤 : Ura M} (𝓛 : Logic 𝓤) (mem : Memory → SProp
     -- the answer of `fits` is the test; the reader stays
     pub tests : K → FmC 𝓤 H 𝓛.laws C → Triple 𝓤 (C f) (Fits 𝓛 mem run) → (r : Reader) (u : Val) (n : ℕ) → n < 2 ^ 64
         → Opds K 𝓛 (raw ((Fits 𝓛 mem run).pre (to-fits r u n)) ∷ has r u ∷ Γ) E xs (u ∷ vint w64 n ∷ [])
-        → Seq K 𝓛 (has r u ∷ token ∷ Γ) (lands C Λ E d (vbool (fieldOk r.bytes.now r.at n)) rest Q)
+        → Seq K 𝓛 (has r u ∷ token ∷ Γ) (lands C Λ E d (vbool (field_ok r.bytes.now r.at n)) rest Q)
         → Seq K 𝓛 (has r u ∷ token ∷ Γ) (runs C Λ E (seq (call f xs d) rest) Q)
     tests t fm known r u n fit os k =
         use1 𝓛 (has r u ⊛ has r u) ((LL.copy (T.the_type (named_lft 1 0 tt (κ, tt))) (T'.the_copy (named_lft 1 0 tt (κ, tt))) 𝓛).twice r (u ∷ [])) $ split t $ move t (0 ∷ 2 ∷ []) $
         use2 𝓛 (raw ((Fits 𝓛 mem run).pre (to-fits r u n))) (goes-fits r u n fit) $
         calls_at t fm (Fits 𝓛 mem run) known (to-fits r u n) os (λ v.
         use1 𝓛 (later (some (λ (b : Bool). (token ⊛ ‵ (bool.own_val b (v ∷ []))) ⊛ raw (ensured 𝓛 fits.ended (fits.clauses 𝓛 mem run) (κ, tt) (r, (n, tt)) tt b)))) (id⊢ 𝓤 _) $ await t tt $ pick t (λ b.
-        split t $ move t (1 ∷ []) $ use1 𝓛 (raw (fact 𝓤 (b ≡ fieldOk r.bytes.now r.at n))) (fits_said r b n) $ heard t (b ≡ fieldOk r.bytes.now r.at n) (λ e. split t $ move t (1 ∷ []) $
+        split t $ move t (1 ∷ []) $ use1 𝓛 (raw (fact 𝓤 (b ≡ field_ok r.bytes.now r.at n))) (fits_said r b n) $ heard t (b ≡ field_ok r.bytes.now r.at n) (λ e. split t $ move t (1 ∷ []) $
         facts t bool (Is bool) (shows 𝓛 bool) b (v ∷ []) (λ is. move t (1 ∷ 0 ∷ []) $
-        regoal t (λ (w : Val). lands C Λ E d w rest Q) {x = vbool (fieldOk r.bytes.now r.at n)} {y = v} (ap only is ∙ ap vbool e) refl $ k))))
+        regoal t (λ (w : Val). lands C Λ E d w rest Q) {x = vbool (field_ok r.bytes.now r.at n)} {y = v} (ap only is ∙ ap vbool e) refl $ k))))
 
     -- a reader of the slice s is made, at 0; the slice stays
     pub begins : K → FmC 𝓤 H 𝓛.laws C → Triple 𝓤 (C f) (New 𝓛 mem run) → (s : Bor (List ℕ)) (v : Val)

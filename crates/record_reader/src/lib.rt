@@ -1,9 +1,11 @@
 // A reader over a record: it holds the caller's slice and how far it has come, and hands out fields as parts of that slice. Each function over it is thin:
 // it takes the reader apart and calls a function of record_fields.
-ghost use Rattle.std.specs.Prelude.{◌≡◌, ◌&&◌, ◌+◌, ◌^◌, ◌<◌, ◌≤◌, length};
-ghost use Rattle.record.specs.Fields.{fieldOk, field_at, behind};
+#![tactic(auto)]
 
-#[derive(Drop)]
+ghost use Rattle.std.specs.Prelude.{◌≡◌, ◌&&◌, ◌+◌, ◌^◌, ◌<◌, ◌≤◌, length};
+ghost use Rattle.record.specs.Fields.{field_ok, field_at, behind};
+
+#[derive(Clone, Copy)]
 pub struct Reader<'a> {
     pub bytes: &'a [u8],
     pub at: usize,
@@ -39,7 +41,7 @@ pub fn past<'a>(r: Reader<'a>, n: usize) -> Reader<'a>
 
 // Whether a field of n bytes begins at the reader's place.
 pub fn fits<'a>(r: Reader<'a>, n: usize) -> bool
-    ensures { result ≡ fieldOk r.entry.bytes.now r.entry.at n }
+    ensures { result ≡ field_ok r.entry.bytes.now r.entry.at n }
 {
     record_fields::field_fits(r.bytes, r.at, n)
 }
@@ -63,7 +65,7 @@ pub fn place<'a>(r: Reader<'a>) -> usize
 
 // Whether a head of h bytes is there.
 pub fn head_fits(bytes: &[u8], h: usize) -> bool
-    ensures { result ≡ fieldOk bytes.now 1 h }
+    ensures { result ≡ field_ok bytes.now 1 h }
 {
     fits(advanced(new(bytes), 1), h)
 }
@@ -77,7 +79,7 @@ pub fn head_of(bytes: &[u8], h: usize) -> &[u8]
 }
 
 // What a reader finds behind the head: whether fields two to six are there, and its place behind the sixth.
-#[derive(Drop)]
+#[derive(Clone, Copy)]
 pub struct Rest {
     pub fits: bool,
     pub end: usize,
@@ -94,11 +96,11 @@ pub fn rest_of(
     n6: usize,
 ) -> Rest
     requires { 1 + 4 + h + 4 + n2 + 4 + n3 + 4 + n4 + 4 + n5 + 4 + n6 < 2 ^ 64 }
-    ensures { (result.fits ≡ ((((fieldOk bytes.now (behind 1 h) n2
-        && fieldOk bytes.now (behind (behind 1 h) n2) n3)
-        && fieldOk bytes.now (behind (behind (behind 1 h) n2) n3) n4)
-        && fieldOk bytes.now (behind (behind (behind (behind 1 h) n2) n3) n4) n5)
-        && fieldOk bytes.now (behind (behind (behind (behind (behind 1 h) n2) n3) n4) n5) n6))
+    ensures { (result.fits ≡ ((((field_ok bytes.now (behind 1 h) n2
+        && field_ok bytes.now (behind (behind 1 h) n2) n3)
+        && field_ok bytes.now (behind (behind (behind 1 h) n2) n3) n4)
+        && field_ok bytes.now (behind (behind (behind (behind 1 h) n2) n3) n4) n5)
+        && field_ok bytes.now (behind (behind (behind (behind (behind 1 h) n2) n3) n4) n5) n6))
         × (result.end ≡ behind (behind (behind (behind (behind (behind 1 h) n2) n3) n4) n5) n6) }
 {
     let r2 = past(advanced(new(bytes), 1), h);
@@ -120,7 +122,7 @@ pub fn rest_of(
 }
 
 // Fields two to six of a record, each the part of the caller's record that it is.
-#[derive(Drop)]
+#[derive(Clone, Copy)]
 pub struct Fields<'a> {
     pub iv: &'a [u8],
     pub challenge: &'a [u8],

@@ -1,16 +1,18 @@
 // What reading a record gives. What its front says is read once, and the lengths of its fields are made of that once; both go on by value. The bytes of the fields
 // are tested by a reader, record_reader, and handed out by it where they are used.
+#![tactic(auto)]
+
 ghost use Rattle.std.specs.Prelude.{◌≡◌, true, ◌&&◌, cond, List, [], ◌∷◌, ℕ, ◌<◌, ◌≤◌, length};
-ghost use Rattle.spec.specs.Shapes.{shapeOk};
-ghost use Rattle.spec.specs.Calls.{firstRefusal, row_ok};
-ghost use Rattle.record.specs.Record.{headBytes, kindFits, fieldsTest, end_of, readNumber};
-ghost use Rattle.record_reading.specs.Front.{frontIn, FrontOf, ReadFront, SizesOf};
+ghost use Rattle.spec.specs.Shapes.{shape_ok};
+ghost use Rattle.spec.specs.Calls.{first_refusal, row_ok};
+ghost use Rattle.record.specs.Record.{head_bytes, kind_fits, fields_test, end_of, read_number};
+ghost use Rattle.record_reading.specs.Front.{front_in, FrontOf, ReadFront, SizesOf};
 
 use record_reader::Rest;
 use spec::Shape;
 
 // The number of a front, 9, 10, 1, 2 or 0, and with 0 what it says: the version, the shape as written and resolved, the row length in bits and in bytes.
-#[derive(Drop)]
+#[derive(Clone, Copy)]
 pub struct Front {
     pub number: usize,
     pub version: u8,
@@ -21,7 +23,7 @@ pub struct Front {
 }
 
 // The lengths of fields one and three to six. An IV has 16 bytes.
-#[derive(Drop)]
+#[derive(Clone, Copy)]
 pub struct Sizes {
     pub head: usize,
     pub challenge: usize,
@@ -54,7 +56,7 @@ fn unread(number: usize) -> Front
 
 // The number of a head by what it says: 1, 2 or 0.
 fn said_number(version: u8, kind: usize, resolved: Shape, row: usize) -> usize
-    ensures { result ≡ firstRefusal ((shapeOk resolved && kindFits version kind, 1) ∷ (row_ok row, 2) ∷ []) }
+    ensures { result ≡ first_refusal ((shape_ok resolved && kind_fits version kind, 1) ∷ (row_ok row, 2) ∷ []) }
 {
     if !(rules::is_shape(resolved) & record_fields::kind_fits(version, kind)) {
         return 1;
@@ -67,8 +69,8 @@ fn said_number(version: u8, kind: usize, resolved: Shape, row: usize) -> usize
 
 // What a head of a version says.
 fn front_in(version: u8, head: &[u8]) -> Front
-    requires { (0 < headBytes version) × (length head.now ≡ headBytes version) }
-    ensures { result ≡ frontIn version head.now }
+    requires { (0 < head_bytes version) × (length head.now ≡ head_bytes version) }
+    ensures { result ≡ front_in version head.now }
 {
     let shape = record_fields::shape_in(version, head);
     let resolved = rules::resolve(shape);
@@ -100,7 +102,7 @@ pub fn front_of(bytes: &[u8]) -> Front
 
 // The lengths of the fields of every record that has this front.
 pub fn sizes_of(f: Front) -> Sizes
-    requires { (shapeOk f.resolved ≡ true) × (f.row_bytes ≤ 8192) }
+    requires { (shape_ok f.resolved ≡ true) × (f.row_bytes ≤ 8192) }
     ensures { (rec : List ℕ) → FrontOf rec f → SizesOf rec result }
 {
     let s = f.resolved;
@@ -116,7 +118,7 @@ pub fn sizes_of(f: Front) -> Sizes
 // Whether fields two to six are there, and where the sixth ends. What stands behind it is not looked at.
 pub fn rest(bytes: &[u8], z: Sizes) -> Rest
     requires { SizesOf bytes.now z }
-    ensures { (result.fits ≡ (fieldsTest bytes.now).0) × (result.end ≡ end_of bytes.now) }
+    ensures { (result.fits ≡ (fields_test bytes.now).0) × (result.end ≡ end_of bytes.now) }
 {
     record_reader::rest_of(
         bytes,
@@ -132,7 +134,7 @@ pub fn rest(bytes: &[u8], z: Sizes) -> Rest
 // Whether a record with such a front is read: its fields are there, and nothing is left over.
 pub fn is_read(bytes: &[u8], z: Sizes) -> bool
     requires { SizesOf bytes.now z }
-    ensures { readNumber bytes.now ≡ cond result 0 10 }
+    ensures { read_number bytes.now ≡ cond result 0 10 }
 {
     let r = rest(bytes, z);
     r.fits & (bytes.len() == r.end)

@@ -9,12 +9,12 @@ use lib.ListN.{length, get_or, take, set, length-append}
 use lib.Seq.{take_all, take-suc-set}
 use Rattle.spec.specs.declared.Shape.{Shape}
 use Rattle.spec.specs.Bytes.{part, tabulate, digits}
-use Rattle.spec.specs.Shapes.{ordinary, resolved, shapeOk}
+use Rattle.spec.specs.Shapes.{ordinary, resolved, shape_ok}
 use Rattle.laws.proofs.Concat.{part-whole}
 use Rattle.laws.proofs.Putting.{put-take}
 use Rattle.record.specs.Fields.{field_of}
-use Rattle.spec.specs.Bytes.{bigEndianBytes}
-use Rattle.record.specs.Record.{headBytes, Contents, versionFor, headFor, recordOf}
+use Rattle.spec.specs.Bytes.{big_endian_bytes}
+use Rattle.record.specs.Record.{head_bytes, Contents, version_for, head_for, record_of}
 use Rattle.record.proofs.Fields.{length-field}
 use Rattle.record.proofs.Bounds.{given-small}
 use Rattle.record_writer.specs.Put.{Put}
@@ -55,20 +55,20 @@ put_whole {a} {x} {y} p e =
 
 -- ---- numbers
 
-pub two-of : (n : ℕ) → bigEndianBytes 2 n ≡ n / 256 % 256 ∷ n % 256 ∷ []
-unfolding bigEndianBytes digits tabulate
+pub two-of : (n : ℕ) → big_endian_bytes 2 n ≡ n / 256 % 256 ∷ n % 256 ∷ []
+unfolding big_endian_bytes digits tabulate
 two-of n = ap (λ (m : ℕ). n / 256 % 256 ∷ m % 256 ∷ []) (div-one n)
 
-pub four-of : (n : ℕ) → bigEndianBytes 4 n ≡ n / 16777216 % 256 ∷ n / 65536 % 256 ∷ n / 256 % 256 ∷ n % 256 ∷ []
-unfolding bigEndianBytes digits tabulate
+pub four-of : (n : ℕ) → big_endian_bytes 4 n ≡ n / 16777216 % 256 ∷ n / 65536 % 256 ∷ n / 256 % 256 ∷ n % 256 ∷ []
+unfolding big_endian_bytes digits tabulate
 four-of n = ap (λ (m : ℕ). n / 16777216 % 256 ∷ n / 65536 % 256 ∷ n / 256 % 256 ∷ m % 256 ∷ []) (div-one n)
 
 -- the head's bytes: its numbers fit them, and the kind is among them where the version has it
-pub head_bytes : (s : Shape) (n a b d hi lo l m : ℕ) (row : List ℕ) → shapeOk (resolved s) ≡ true → a ≡ s.tau % 256 → b ≡ s.k % 256 → d ≡ s.w % 256 → hi ≡ s.t / 256 % 256
-    → lo ≡ s.t % 256 → l ≡ s.level / 8 % 256 → m ≡ s.kind % 256 → row ≡ bigEndianBytes 4 n
-    → take (headBytes (versionFor s)) (a ∷ b ∷ d ∷ hi ∷ lo ∷ get_or row 0 0 ∷ get_or row 1 0 ∷ get_or row 2 0 ∷ get_or row 3 0 ∷ l ∷ m ∷ []) ≡ headFor s n
-unfolding headBytes versionFor headFor
-head_bytes s n a b d hi lo l m row ok e₁ e₂ e₃ e₄ e₅ e₆ e₇ e₈ =
+pub head_bytes_lem : (s : Shape) (n a b d hi lo l m : ℕ) (row : List ℕ) → shape_ok (resolved s) ≡ true → a ≡ s.tau % 256 → b ≡ s.k % 256 → d ≡ s.w % 256 → hi ≡ s.t / 256 % 256
+    → lo ≡ s.t % 256 → l ≡ s.level / 8 % 256 → m ≡ s.kind % 256 → row ≡ big_endian_bytes 4 n
+    → take (head_bytes (version_for s)) (a ∷ b ∷ d ∷ hi ∷ lo ∷ get_or row 0 0 ∷ get_or row 1 0 ∷ get_or row 2 0 ∷ get_or row 3 0 ∷ l ∷ m ∷ []) ≡ head_for s n
+unfolding head_bytes version_for head_for
+head_bytes_lem s n a b d hi lo l m row ok e₁ e₂ e₃ e₄ e₅ e₆ e₇ e₈ =
     let f = given-small s ok in
     let g₁ : a ≡ s.tau = omega arith in
     let g₂ : b ≡ s.k = omega arith in
@@ -78,31 +78,31 @@ head_bytes s n a b d hi lo l m row ok e₁ e₂ e₃ e₄ e₅ e₆ e₇ e₈ =
     rw (g₁, g₂, g₃, e₄, e₅, g₄, g₅, e₈, two-of s.t, four-of n) (go (ordinary s) _ _ _ _ _ _ _ _ _ _)
   where
     go : (o : Bool) (x₀ x₁ x₂ x₃ x₄ x₅ x₆ x₇ x₈ x₉ : ℕ)
-        → take (headBytes (cond o 2 3)) (x₀ ∷ x₁ ∷ x₂ ∷ x₃ ∷ x₄ ∷ x₅ ∷ x₆ ∷ x₇ ∷ x₈ ∷ x₉ ∷ s.kind ∷ []) ≡ x₀ ∷ x₁ ∷ x₂ ∷ x₃ ∷ x₄ ∷ x₅ ∷ x₆ ∷ x₇ ∷ x₈ ∷ x₉ ∷ cond o [] (s.kind ∷ [])
+        → take (head_bytes (cond o 2 3)) (x₀ ∷ x₁ ∷ x₂ ∷ x₃ ∷ x₄ ∷ x₅ ∷ x₆ ∷ x₇ ∷ x₈ ∷ x₉ ∷ s.kind ∷ []) ≡ x₀ ∷ x₁ ∷ x₂ ∷ x₃ ∷ x₄ ∷ x₅ ∷ x₆ ∷ x₇ ∷ x₈ ∷ x₉ ∷ cond o [] (s.kind ∷ [])
     go true x₀ x₁ x₂ x₃ x₄ x₅ x₆ x₇ x₈ x₉ = refl
     go false x₀ x₁ x₂ x₃ x₄ x₅ x₆ x₇ x₈ x₉ = refl
 
 -- ---- the whole
 
 -- a version v and a head h
-pub put-version : (s : Shape) (n : ℕ) {v : ℕ} {h x y z : List ℕ} → v ≡ versionFor s → h ≡ headFor s n → Put (v ∷ []) 0 x y → Put (field_of h) 1 y z → Put (versionFor s ∷ field_of (headFor s n)) 0 x z
+pub put-version : (s : Shape) (n : ℕ) {v : ℕ} {h x y z : List ℕ} → v ≡ version_for s → h ≡ head_for s n → Put (v ∷ []) 0 x y → Put (field_of h) 1 y z → Put (version_for s ∷ field_of (head_for s n)) 0 x z
 put-version s n e f p q = put_then 1 refl (rw e at p) (rw f at q)
 
 -- a₁, .., a₅ are the places behind fields one to five
-pub put_record : (c : Contents) (a₁ a₂ a₃ a₄ a₅ : ℕ) {x x₁ x₂ x₃ x₄ x₅ y : List ℕ} → a₁ ≡ 5 + length (headFor c.shape c.row) → a₂ ≡ a₁ + 4 + length c.iv
+pub put_record : (c : Contents) (a₁ a₂ a₃ a₄ a₅ : ℕ) {x x₁ x₂ x₃ x₄ x₅ y : List ℕ} → a₁ ≡ 5 + length (head_for c.shape c.row) → a₂ ≡ a₁ + 4 + length c.iv
     → a₃ ≡ a₂ + 4 + length c.challenge → a₄ ≡ a₃ + 4 + length c.corrections → a₅ ≡ a₄ + 4 + length c.opening
-    → Put (versionFor c.shape ∷ field_of (headFor c.shape c.row)) 0 x x₁ → Put (field_of c.iv) a₁ x₁ x₂ → Put (field_of c.challenge) a₂ x₂ x₃
-    → Put (field_of c.corrections) a₃ x₃ x₄ → Put (field_of c.opening) a₄ x₄ x₅ → Put (field_of c.commitment) a₅ x₅ y → Put (recordOf c) 0 x y
-unfolding recordOf
+    → Put (version_for c.shape ∷ field_of (head_for c.shape c.row)) 0 x x₁ → Put (field_of c.iv) a₁ x₁ x₂ → Put (field_of c.challenge) a₂ x₂ x₃
+    → Put (field_of c.corrections) a₃ x₃ x₄ → Put (field_of c.opening) a₄ x₄ x₅ → Put (field_of c.commitment) a₅ x₅ y → Put (record_of c) 0 x y
+unfolding record_of
 put_record c a₁ a₂ a₃ a₄ a₅ e₁ e₂ e₃ e₄ e₅ p₀ p₁ p₂ p₃ p₄ p₅ =
-    let l = length-field (headFor c.shape c.row) in
+    let l = length-field (head_for c.shape c.row) in
     let z : a₁ ≡ 0 + a₁ = omega arith in
     put_then a₁ (omega arith) p₀
     (rw z at (put_next c.iv e₂ p₁ (put_next c.challenge e₃ p₂ (put_next c.corrections e₄ p₃ (put_next c.opening e₅ p₄ p₅)))))
 
 -- its length, by the lengths of the fields
 pub length-record : (c : Contents)
-    → length (recordOf c)
-    ≡ 25 + length (headFor c.shape c.row) + length c.iv + length c.challenge + length c.corrections + length c.opening + length c.commitment
-unfolding recordOf
+    → length (record_of c)
+    ≡ 25 + length (head_for c.shape c.row) + length c.iv + length c.challenge + length c.corrections + length c.opening + length c.commitment
+unfolding record_of
 length-record c = simp (length-append, length-field) (omega arith)

@@ -1,10 +1,12 @@
 // The record maker's public calls: write_record, and how long a record is. Nothing here depends on either half.
+#![tactic(auto)]
+
 ghost use Rattle.std.specs.Prelude.{◌≡◌, true, [], ◌∷◌, ◌+◌, ◌%◌, ◌<◌, ◌≤◌, length, take};
-ghost use Rattle.spec.specs.Shapes.{resolved, challengeBytes, hashBytes, shapeOk, openingBytes, correctionsBytes};
+ghost use Rattle.spec.specs.Shapes.{resolved, challenge_bytes, hash_bytes, shape_ok, opening_bytes, corrections_bytes};
 ghost use Rattle.spec.specs.Calls.{fits};
 ghost use Rattle.record.specs.Fields.{field_of};
-ghost use Rattle.spec.specs.Bytes.{bigEndianBytes};
-ghost use Rattle.record.specs.Record.{headBytes, versionFor, headFor, recordOf, recordBytes};
+ghost use Rattle.spec.specs.Bytes.{big_endian_bytes};
+ghost use Rattle.record.specs.Record.{head_bytes, version_for, head_for, record_of, record_bytes};
 ghost use Rattle.record.specs.RecordCalls.{LengthOf, WriteRecord};
 ghost use Rattle.record_writer.specs.Put.{Put};
 
@@ -19,7 +21,7 @@ fn low_byte(n: usize) -> u8
 
 // A number in four bytes, most significant first.
 fn four_bytes(n: usize) -> [u8; 4]
-    ensures { result ≡ bigEndianBytes 4 n }
+    ensures { result ≡ big_endian_bytes 4 n }
 {
     [
         low_byte(n / 16777216),
@@ -31,8 +33,8 @@ fn four_bytes(n: usize) -> [u8; 4]
 
 // The head: the shape as given, the row length, the level in bytes and the leaf kind, which is the head's last byte only where it is not 0.
 fn head_of(s: Shape, n: usize) -> [u8; 11]
-    requires { shapeOk (resolved s) ≡ true }
-    ensures { take (headBytes (versionFor s)) result ≡ headFor s n }
+    requires { shape_ok (resolved s) ≡ true }
+    ensures { take (head_bytes (version_for s)) result ≡ head_for s n }
 {
     let row = four_bytes(n);
     [
@@ -71,8 +73,8 @@ fn put_version(out: &mut [u8], version: u8)
 
 // The version byte and the head; answers the place behind them.
 fn put_front(out: &mut [u8], s: Shape, n: usize) -> usize
-    requires { (shapeOk (resolved s) ≡ true) × (5 + length (headFor s n) ≤ length out.old) }
-    ensures { (result ≡ 5 + length (headFor s n)) × Put (versionFor s ∷ field_of (headFor s n)) 0 out.old out.new }
+    requires { (shape_ok (resolved s) ≡ true) × (5 + length (head_for s n) ≤ length out.old) }
+    ensures { (result ≡ 5 + length (head_for s n)) × Put (version_for s ∷ field_of (head_for s n)) 0 out.old out.new }
 {
     let head = head_of(s, n);
     let version = record_fields::version_for(s);
@@ -92,8 +94,8 @@ fn write_fields(
     commitment: &[u8],
     record: &mut [u8],
 )
-    requires { (shapeOk (resolved shape) ≡ true) × (length «record».old ≡ 25 + length (headFor shape row_bits) + length iv.now + length challenge.now + length corrections.now + length opening.now + length commitment.now) }
-    ensures { «record».new ≡ recordOf
+    requires { (shape_ok (resolved shape) ≡ true) × (length «record».old ≡ 25 + length (head_for shape row_bits) + length iv.now + length challenge.now + length corrections.now + length opening.now + length commitment.now) }
+    ensures { «record».new ≡ record_of
         (record { shape = shape; row = row_bits; iv = iv.now; challenge = challenge.now; corrections = corrections.now; opening = opening.now; commitment = commitment.now }) }
 {
     let two = put_front(record, shape, row_bits);
@@ -115,8 +117,8 @@ fn write_lengths(
     commitment: usize,
     record: usize,
 ) -> bool
-    requires { (shapeOk s ≡ true) × (b ≤ 8192) }
-    ensures { result ≡ fits ((iv, 16) ∷ (challenge, challengeBytes s) ∷ (corrections, correctionsBytes s b) ∷ (opening, openingBytes s) ∷ (commitment, hashBytes s) ∷ («record», recordBytes s b) ∷ []) }
+    requires { (shape_ok s ≡ true) × (b ≤ 8192) }
+    ensures { result ≡ fits ((iv, 16) ∷ (challenge, challenge_bytes s) ∷ (corrections, corrections_bytes s b) ∷ (opening, opening_bytes s) ∷ (commitment, hash_bytes s) ∷ («record», record_bytes s b) ∷ []) }
 {
     let a = record_fields::challenge_length(s);
     let c = lengths::corrections_bytes(s, b);

@@ -11,155 +11,155 @@ use borrow.Author.Tests.{leb-true}
 use Rattle.spec.specs.declared.Shape.{Shape}
 use Rattle.spec.specs.declared.Stretch.{Stretch}
 use Rattle.spec.specs.declared.Answer.{Answer}
-use Rattle.spec.specs.Bytes.{allZero}
-use Rattle.spec.specs.Shapes.{nodeBytes, leafCommitmentBytes, shapeOk, grindingOk, plannedCount}
-use Rattle.spec.specs.Verifier.{slotsOk}
-use Rattle.spec.specs.Calls.{fits, countWith, nodesOk, decodeNumber, planNumber, commitStretchNumber, reconstructStretchNumber}
+use Rattle.spec.specs.Bytes.{all_zero}
+use Rattle.spec.specs.Shapes.{node_bytes, leaf_commitment_bytes, shape_ok, grinding_ok, planned_count}
+use Rattle.spec.specs.Verifier.{slots_ok}
+use Rattle.spec.specs.Calls.{fits, count_with, nodes_ok, decode_number, plan_number, commit_stretch_number, reconstruct_stretch_number}
 use Rattle.laws.specs.Lengths.{Sized}
 use Rattle.laws.proofs.Lengths.{fits-sized}
 use Rattle.rules.proofs.RowLength.{row-max, stretch-max}
-use Rattle.refusals.specs.Numbers.{frontTests, frontNumber, sizeTests, sizeNumber, challengeTests, challengeNumber, openingTests, openingNumber, Answered}
+use Rattle.refusals.specs.Numbers.{front_tests, front_number, size_tests, size_number, challenge_tests, challenge_number, opening_tests, opening_number, Answered}
 use Rattle.refusals.proofs.Lists.{passed-all, stops, decides, answer-stops, answer-decides}
 
 -- ---- commit, and what reconstruct begins with
 
 module _ (s : Shape) (n : ℕ) (z : Stretch) (k : ℕ) where
-  module _ (e : k ≡ frontNumber s n z) where
+  module _ (e : k ≡ front_number s n z) where
     -- neither a row nor its stretch has more than 8,192 bytes
-    pub front-passed : k ≡ 0 → (shapeOk s ≡ true) × (n / 8 ≤ 8192) × (z.width ≤ 8192)
-    unfolding frontNumber
+    pub front-passed : k ≡ 0 → (shape_ok s ≡ true) × (n / 8 ≤ 8192) × (z.width ≤ 8192)
+    unfolding front_number
     front-passed h =
-        let q = passed-all (frontTests s n z) (refl, (refl, (refl, tt))) k e h in
+        let q = passed-all (front_tests s n z) (refl, (refl, (refl, tt))) k e h in
         let long = stretch-max n z q.1.0 q.1.1.0 in
         (q.0, row-max n q.1.0, omega arith)
 
     module _ (ls : List (ℕ × ℕ)) where
-      pub front-stops : (k ≡ 0 → ⊥) → k ≡ commitStretchNumber s n z ls
-      unfolding frontNumber commitStretchNumber
-      front-stops = stops (frontTests s n z) (refl, (refl, (refl, tt))) k e ((fits ls, 3) ∷ [])
+      pub front-stops : (k ≡ 0 → ⊥) → k ≡ commit_stretch_number s n z ls
+      unfolding front_number commit_stretch_number
+      front-stops = stops (front_tests s n z) (refl, (refl, (refl, tt))) k e ((fits ls, 3) ∷ [])
 
-      pub lengths-decide : (r : ℕ) → k ≡ 0 → r ≡ cond (fits ls) 0 3 → r ≡ commitStretchNumber s n z ls
-      unfolding frontNumber commitStretchNumber
-      lengths-decide = decides (frontTests s n z) (refl, (refl, (refl, tt))) k e ((fits ls, 3) ∷ [])
+      pub lengths-decide : (r : ℕ) → k ≡ 0 → r ≡ cond (fits ls) 0 3 → r ≡ commit_stretch_number s n z ls
+      unfolding front_number commit_stretch_number
+      lengths-decide = decides (front_tests s n z) (refl, (refl, (refl, tt))) k e ((fits ls, 3) ∷ [])
 
-  module _ (ls : List (ℕ × ℕ)) (e : k ≡ commitStretchNumber s n z ls) where
-    pub lengths-passed : k ≡ 0 → (shapeOk s ≡ true) × (z.first + z.width ≤ 8192) × Sized ls
-    unfolding commitStretchNumber
+  module _ (ls : List (ℕ × ℕ)) (e : k ≡ commit_stretch_number s n z ls) where
+    pub lengths-passed : k ≡ 0 → (shape_ok s ≡ true) × (z.first + z.width ≤ 8192) × Sized ls
+    unfolding commit_stretch_number
     lengths-passed h =
-        let q = passed-all (frontTests s n z ++ (fits ls, 3) ∷ []) (refl, (refl, (refl, (refl, tt)))) k e h in
+        let q = passed-all (front_tests s n z ++ (fits ls, 3) ∷ []) (refl, (refl, (refl, (refl, tt)))) k e h in
         (q.0, stretch-max n z q.1.0 q.1.1.0, fits-sized ls q.1.1.1.0)
 
     -- reconstruct
     module _ (ch op : List ℕ) (r : Answer) where
-      pub reconstruct-stops : (k ≡ 0 → ⊥) → (r.number ≡ k) × (r.count ≡ 0) → Answered (reconstructStretchNumber s n z ch op ls) (plannedCount s ch) r
-      unfolding commitStretchNumber reconstructStretchNumber
-      reconstruct-stops = answer-stops (frontTests s n z ++ (fits ls, 3) ∷ []) (refl, (refl, (refl, (refl, tt)))) k e (openingTests s ch op) (plannedCount s ch) r (refl, (refl, (refl, (refl, tt))))
+      pub reconstruct-stops : (k ≡ 0 → ⊥) → (r.number ≡ k) × (r.count ≡ 0) → Answered (reconstruct_stretch_number s n z ch op ls) (planned_count s ch) r
+      unfolding commit_stretch_number reconstruct_stretch_number
+      reconstruct-stops = answer-stops (front_tests s n z ++ (fits ls, 3) ∷ []) (refl, (refl, (refl, (refl, tt)))) k e (opening_tests s ch op) (planned_count s ch) r (refl, (refl, (refl, (refl, tt))))
 
-      pub opening-decides : k ≡ 0 → Answered (openingNumber s ch op) (plannedCount s ch) r → Answered (reconstructStretchNumber s n z ch op ls) (plannedCount s ch) r
-      unfolding commitStretchNumber openingNumber reconstructStretchNumber
-      opening-decides = answer-decides (frontTests s n z ++ (fits ls, 3) ∷ []) (refl, (refl, (refl, (refl, tt)))) k e (openingTests s ch op) (plannedCount s ch) r
+      pub opening-decides : k ≡ 0 → Answered (opening_number s ch op) (planned_count s ch) r → Answered (reconstruct_stretch_number s n z ch op ls) (planned_count s ch) r
+      unfolding commit_stretch_number opening_number reconstruct_stretch_number
+      opening-decides = answer-decides (front_tests s n z ++ (fits ls, 3) ∷ []) (refl, (refl, (refl, (refl, tt)))) k e (opening_tests s ch op) (planned_count s ch) r
 
 -- ---- decode, plan and open
 
 module _ (s : Shape) (ls : List (ℕ × ℕ)) where
-  pub shape-stops : shapeOk s ≡ false → 1 ≡ sizeNumber s ls
-  unfolding sizeNumber
+  pub shape-stops : shape_ok s ≡ false → 1 ≡ size_number s ls
+  unfolding size_number
   shape-stops h = rw h refl
 
-  pub sizes-decide : (r : ℕ) → shapeOk s ≡ true → r ≡ cond (fits ls) 0 3 → r ≡ sizeNumber s ls
-  unfolding sizeNumber
+  pub sizes-decide : (r : ℕ) → shape_ok s ≡ true → r ≡ cond (fits ls) 0 3 → r ≡ size_number s ls
+  unfolding size_number
   sizes-decide r h e = rw h e
 
-  module _ (k : ℕ) (e : k ≡ sizeNumber s ls) where
-    pub sizes-passed : k ≡ 0 → (shapeOk s ≡ true) × Sized ls
-    unfolding sizeNumber
-    sizes-passed h = (let q = passed-all (sizeTests s ls) (refl, (refl, tt)) k e h in (q.0, fits-sized ls q.1.0))
+  module _ (k : ℕ) (e : k ≡ size_number s ls) where
+    pub sizes-passed : k ≡ 0 → (shape_ok s ≡ true) × Sized ls
+    unfolding size_number
+    sizes-passed h = (let q = passed-all (size_tests s ls) (refl, (refl, tt)) k e h in (q.0, fits-sized ls q.1.0))
 
     module _ (ch : List ℕ) where
-      pub decode-stops : (k ≡ 0 → ⊥) → k ≡ decodeNumber s ch ls
-      unfolding sizeNumber decodeNumber
-      decode-stops = stops (sizeTests s ls) (refl, (refl, tt)) k e ((grindingOk s ch, 4) ∷ [])
+      pub decode-stops : (k ≡ 0 → ⊥) → k ≡ decode_number s ch ls
+      unfolding size_number decode_number
+      decode-stops = stops (size_tests s ls) (refl, (refl, tt)) k e ((grinding_ok s ch, 4) ∷ [])
 
-      pub grinding-decides : (r : ℕ) → k ≡ 0 → r ≡ cond (grindingOk s ch) 0 4 → r ≡ decodeNumber s ch ls
-      unfolding sizeNumber decodeNumber
-      grinding-decides = decides (sizeTests s ls) (refl, (refl, tt)) k e ((grindingOk s ch, 4) ∷ [])
+      pub grinding-decides : (r : ℕ) → k ≡ 0 → r ≡ cond (grinding_ok s ch) 0 4 → r ≡ decode_number s ch ls
+      unfolding size_number decode_number
+      grinding-decides = decides (size_tests s ls) (refl, (refl, tt)) k e ((grinding_ok s ch, 4) ∷ [])
 
       module _ (r : Answer) where
-        pub plan-stops : (k ≡ 0 → ⊥) → (r.number ≡ k) × (r.count ≡ 0) → Answered (planNumber s ch ls) (plannedCount s ch) r
-        unfolding sizeNumber planNumber
-        plan-stops = answer-stops (sizeTests s ls) (refl, (refl, tt)) k e (challengeTests s ch) (plannedCount s ch) r (refl, (refl, tt))
+        pub plan-stops : (k ≡ 0 → ⊥) → (r.number ≡ k) × (r.count ≡ 0) → Answered (plan_number s ch ls) (planned_count s ch) r
+        unfolding size_number plan_number
+        plan-stops = answer-stops (size_tests s ls) (refl, (refl, tt)) k e (challenge_tests s ch) (planned_count s ch) r (refl, (refl, tt))
 
-        pub challenge-decides : k ≡ 0 → Answered (challengeNumber s ch) (plannedCount s ch) r → Answered (planNumber s ch ls) (plannedCount s ch) r
-        unfolding sizeNumber challengeNumber planNumber
-        challenge-decides = answer-decides (sizeTests s ls) (refl, (refl, tt)) k e (challengeTests s ch) (plannedCount s ch) r
+        pub challenge-decides : k ≡ 0 → Answered (challenge_number s ch) (planned_count s ch) r → Answered (plan_number s ch ls) (planned_count s ch) r
+        unfolding size_number challenge_number plan_number
+        challenge-decides = answer-decides (size_tests s ls) (refl, (refl, tt)) k e (challenge_tests s ch) (planned_count s ch) r
 
 -- with 0 every test of the call is passed
 
-pub decode-accepted : (s : Shape) (ch : List ℕ) (ls : List (ℕ × ℕ)) (k : ℕ) → k ≡ decodeNumber s ch ls → k ≡ 0 → (shapeOk s ≡ true) × Sized ls
-unfolding decodeNumber
-decode-accepted s ch ls k e h = (let q = passed-all (sizeTests s ls ++ (grindingOk s ch, 4) ∷ []) (refl, (refl, (refl, tt))) k e h in (q.0, fits-sized ls q.1.0))
+pub decode-accepted : (s : Shape) (ch : List ℕ) (ls : List (ℕ × ℕ)) (k : ℕ) → k ≡ decode_number s ch ls → k ≡ 0 → (shape_ok s ≡ true) × Sized ls
+unfolding decode_number
+decode-accepted s ch ls k e h = (let q = passed-all (size_tests s ls ++ (grinding_ok s ch, 4) ∷ []) (refl, (refl, (refl, tt))) k e h in (q.0, fits-sized ls q.1.0))
 
 module _ (s : Shape) (ch : List ℕ) (r : Answer) where
-  given : r.number ≡ 0 → r.count ≡ countWith r.number (plannedCount s ch) → r.count ≡ plannedCount s ch
-  unfolding countWith
+  given : r.number ≡ 0 → r.count ≡ count_with r.number (planned_count s ch) → r.count ≡ planned_count s ch
+  unfolding count_with
   given h c = rw h at c
 
-  pub plan-accepted : (ls : List (ℕ × ℕ)) → Answered (planNumber s ch ls) (plannedCount s ch) r → r.number ≡ 0 → (shapeOk s ≡ true) × Sized ls × (r.count ≡ plannedCount s ch) × (r.count ≤ s.t)
-  unfolding planNumber nodesOk
+  pub plan-accepted : (ls : List (ℕ × ℕ)) → Answered (plan_number s ch ls) (planned_count s ch) r → r.number ≡ 0 → (shape_ok s ≡ true) × Sized ls × (r.count ≡ planned_count s ch) × (r.count ≤ s.t)
+  unfolding plan_number nodes_ok
   plan-accepted ls a h =
-      let q = passed-all (sizeTests s ls ++ challengeTests s ch) (refl, (refl, (refl, (refl, tt)))) r.number a.0 h in
+      let q = passed-all (size_tests s ls ++ challenge_tests s ch) (refl, (refl, (refl, (refl, tt)))) r.number a.0 h in
       let count = given h a.1 in
-      (q.0, fits-sized ls q.1.0, count, rw count (leb-true (plannedCount s ch) s.t q.1.1.1.0))
+      (q.0, fits-sized ls q.1.0, count, rw count (leb-true (planned_count s ch) s.t q.1.1.1.0))
 
-  pub reconstruct-accepted : (n : ℕ) (z : Stretch) (op : List ℕ) (ls : List (ℕ × ℕ)) → Answered (reconstructStretchNumber s n z ch op ls) (plannedCount s ch) r → r.number ≡ 0
-      → ((shapeOk s ≡ true) × (z.first + z.width ≤ 8192) × (r.count ≡ plannedCount s ch) × (r.count ≤ s.t)) × Sized ls
-  unfolding reconstructStretchNumber nodesOk
+  pub reconstruct-accepted : (n : ℕ) (z : Stretch) (op : List ℕ) (ls : List (ℕ × ℕ)) → Answered (reconstruct_stretch_number s n z ch op ls) (planned_count s ch) r → r.number ≡ 0
+      → ((shape_ok s ≡ true) × (z.first + z.width ≤ 8192) × (r.count ≡ planned_count s ch) × (r.count ≤ s.t)) × Sized ls
+  unfolding reconstruct_stretch_number nodes_ok
   reconstruct-accepted n z op ls a h =
-      let q = passed-all (frontTests s n z ++ (fits ls, 3) ∷ openingTests s ch op) (refl, (refl, (refl, (refl, (refl, (refl, (refl, tt))))))) r.number a.0 h in
+      let q = passed-all (front_tests s n z ++ (fits ls, 3) ∷ opening_tests s ch op) (refl, (refl, (refl, (refl, (refl, (refl, (refl, tt))))))) r.number a.0 h in
       let count = given h a.1 in
-      ((q.0, stretch-max n z q.1.0 q.1.1.0, count, rw count (leb-true (plannedCount s ch) s.t q.1.1.1.1.1.0)), fits-sized ls q.1.1.1.0)
+      ((q.0, stretch-max n z q.1.0 q.1.1.0, count, rw count (leb-true (planned_count s ch) s.t q.1.1.1.1.1.0)), fits-sized ls q.1.1.1.0)
 
 -- ---- the challenge, and an opening; m is the count
 
 module _ (s : Shape) (ch : List ℕ) (r : Answer) where
-  pub grinding-refused : grindingOk s ch ≡ false → (r.number ≡ 4) × (r.count ≡ 0) → Answered (challengeNumber s ch) (plannedCount s ch) r
-  unfolding challengeNumber countWith
+  pub grinding-refused : grinding_ok s ch ≡ false → (r.number ≡ 4) × (r.count ≡ 0) → Answered (challenge_number s ch) (planned_count s ch) r
+  unfolding challenge_number count_with
   grinding-refused g a = (rw g a.0, rw a.0 a.1)
 
   -- the count goes with 0 and with 5
-  pub allowance-decides : (m k : ℕ) → grindingOk s ch ≡ true → m ≡ plannedCount s ch → k ≡ cond (leb m s.t) 0 5 → (r.number ≡ k) × (r.count ≡ m) → Answered (challengeNumber s ch) (plannedCount s ch) r
-  unfolding challengeNumber countWith nodesOk
+  pub allowance-decides : (m k : ℕ) → grinding_ok s ch ≡ true → m ≡ planned_count s ch → k ≡ cond (leb m s.t) 0 5 → (r.number ≡ k) × (r.count ≡ m) → Answered (challenge_number s ch) (planned_count s ch) r
+  unfolding challenge_number count_with nodes_ok
   allowance-decides m k g e i a =
       let number = a.0 ∙ i in
       (rw g (rw e at number), a.1 ∙ e ∙ sym (rw number (with-both (leb m s.t))))
     where
-      with-both : (b : Bool) → countWith (cond b 0 5) (plannedCount s ch) ≡ plannedCount s ch
+      with-both : (b : Bool) → count_with (cond b 0 5) (planned_count s ch) ≡ planned_count s ch
       with-both true = refl
       with-both false = refl
 
-  pub challenge-passed : Answered (challengeNumber s ch) (plannedCount s ch) r → r.number ≡ 0 → (r.count ≡ plannedCount s ch) × (r.count ≤ s.t)
-  unfolding challengeNumber nodesOk
+  pub challenge-passed : Answered (challenge_number s ch) (planned_count s ch) r → r.number ≡ 0 → (r.count ≡ planned_count s ch) × (r.count ≤ s.t)
+  unfolding challenge_number nodes_ok
   challenge-passed a h =
-      let q = passed-all (challengeTests s ch) (refl, (refl, tt)) r.number a.0 h in
+      let q = passed-all (challenge_tests s ch) (refl, (refl, tt)) r.number a.0 h in
       let count = given s ch r h a.1 in
-      (count, rw count (leb-true (plannedCount s ch) s.t q.1.0))
+      (count, rw count (leb-true (planned_count s ch) s.t q.1.0))
 
 -- the opening behind its challenge, whose answer is r
-module _ (s : Shape) (ch op : List ℕ) (r : Answer) (a : Answered (challengeNumber s ch) (plannedCount s ch) r) where
-  pub challenge-stops : (r.number ≡ 0 → ⊥) → Answered (openingNumber s ch op) (plannedCount s ch) r
-  unfolding challengeNumber openingNumber
-  challenge-stops h = (stops (challengeTests s ch) (refl, (refl, tt)) r.number a.0 ((slotsOk s ch op, 6) ∷ []) h, a.1)
+module _ (s : Shape) (ch op : List ℕ) (r : Answer) (a : Answered (challenge_number s ch) (planned_count s ch) r) where
+  pub challenge-stops : (r.number ≡ 0 → ⊥) → Answered (opening_number s ch op) (planned_count s ch) r
+  unfolding challenge_number opening_number
+  challenge-stops h = (stops (challenge_tests s ch) (refl, (refl, tt)) r.number a.0 ((slots_ok s ch op, 6) ∷ []) h, a.1)
 
   -- the count goes with 0 and with 6
-  pub slots-decide : (b : Bool) (k : ℕ) (r' : Answer) → r.number ≡ 0 → b ≡ allZero (drop (leafCommitmentBytes s * s.tau + nodeBytes s * r.count) op) → k ≡ cond b 0 6
-      → (r'.number ≡ k) × (r'.count ≡ r.count) → Answered (openingNumber s ch op) (plannedCount s ch) r'
-  unfolding challengeNumber openingNumber slotsOk countWith
+  pub slots-decide : (b : Bool) (k : ℕ) (r' : Answer) → r.number ≡ 0 → b ≡ all_zero (drop (leaf_commitment_bytes s * s.tau + node_bytes s * r.count) op) → k ≡ cond b 0 6
+      → (r'.number ≡ k) × (r'.count ≡ r.count) → Answered (opening_number s ch op) (planned_count s ch) r'
+  unfolding challenge_number opening_number slots_ok count_with
   slots-decide b k r' h f i a' =
       let count = given s ch r h a.1 in
       let number = a'.0 ∙ i in
-      let clear : b ≡ slotsOk s ch op = rw count at f in
-      (decides (challengeTests s ch) (refl, (refl, tt)) r.number a.0 ((slotsOk s ch op, 6) ∷ []) r'.number h (rw clear at number), a'.1 ∙ count ∙ sym (rw number (with-both b)))
+      let clear : b ≡ slots_ok s ch op = rw count at f in
+      (decides (challenge_tests s ch) (refl, (refl, tt)) r.number a.0 ((slots_ok s ch op, 6) ∷ []) r'.number h (rw clear at number), a'.1 ∙ count ∙ sym (rw number (with-both b)))
     where
-      with-both : (b : Bool) → countWith (cond b 0 6) (plannedCount s ch) ≡ plannedCount s ch
+      with-both : (b : Bool) → count_with (cond b 0 6) (planned_count s ch) ≡ planned_count s ch
       with-both true = refl
       with-both false = refl

@@ -1,36 +1,36 @@
--- The lengths of the buffers of commit, open and reconstruct, each beside what it must be: with the lengths of lists, commitLengths, openLengths and reconstructLengths of
+-- The lengths of the buffers of commit, open and reconstruct, each beside what it must be: with the lengths of lists, commit_lengths, open_lengths and reconstruct_lengths of
 -- spec's Calls.
 use Rattle.std.specs.Prelude.{ℕ, List, [], ◌∷◌}
 use Rattle.spec.specs.declared.Shape.{Shape}
-use Rattle.spec.specs.Shapes.{nodeBytes, challengeBytes, hashBytes, ivBytes, treeBytes, leafCommitmentsBytes, openingBytes, matrixBytes, correctionsBytes}
+use Rattle.spec.specs.Shapes.{node_bytes, challenge_bytes, hash_bytes, iv_bytes, tree_bytes, leaf_commitments_bytes, opening_bytes, matrix_bytes, corrections_bytes}
 use Rattle.refusals.specs.declared.CommitLengths.{CommitLengths}
 use Rattle.refusals.specs.declared.OpenLengths.{OpenLengths}
 use Rattle.refusals.specs.declared.ReconstructLengths.{ReconstructLengths}
 
 -- b is the width of the stretch, here and below
-abbrev pub commitSizes : Shape → ℕ → CommitLengths → List (ℕ × ℕ)
-commitSizes s b x =
-    (x.root, nodeBytes s)
-    ∷ (x.iv, ivBytes)
-    ∷ (x.commitment, hashBytes s)
-    ∷ (x.tree, treeBytes s)
-    ∷ (x.leaf_commitments, leafCommitmentsBytes s)
+abbrev pub commit_sizes : Shape → ℕ → CommitLengths → List (ℕ × ℕ)
+commit_sizes s b x =
+    (x.root, node_bytes s)
+    ∷ (x.iv, iv_bytes)
+    ∷ (x.commitment, hash_bytes s)
+    ∷ (x.tree, tree_bytes s)
+    ∷ (x.leaf_commitments, leaf_commitments_bytes s)
     ∷ (x.u, b)
-    ∷ (x.v, matrixBytes s b)
-    ∷ (x.corrections, correctionsBytes s b)
+    ∷ (x.v, matrix_bytes s b)
+    ∷ (x.corrections, corrections_bytes s b)
     ∷ []
 
-abbrev pub openSizes : Shape → OpenLengths → List (ℕ × ℕ)
-openSizes s x = (x.challenge, challengeBytes s) ∷ (x.tree, treeBytes s) ∷ (x.leaf_commitments, leafCommitmentsBytes s) ∷ (x.opening, openingBytes s) ∷ []
+abbrev pub open_sizes : Shape → OpenLengths → List (ℕ × ℕ)
+open_sizes s x = (x.challenge, challenge_bytes s) ∷ (x.tree, tree_bytes s) ∷ (x.leaf_commitments, leaf_commitments_bytes s) ∷ (x.opening, opening_bytes s) ∷ []
 
-abbrev pub reconstructSizes : Shape → ℕ → ReconstructLengths → List (ℕ × ℕ)
-reconstructSizes s b x =
-    (x.iv, ivBytes)
-    ∷ (x.challenge, challengeBytes s)
-    ∷ (x.corrections, correctionsBytes s b)
-    ∷ (x.opening, openingBytes s)
-    ∷ (x.commitment, hashBytes s)
-    ∷ (x.tree, treeBytes s)
-    ∷ (x.leaf_commitments, leafCommitmentsBytes s)
-    ∷ (x.q, matrixBytes s b)
+abbrev pub reconstruct_sizes : Shape → ℕ → ReconstructLengths → List (ℕ × ℕ)
+reconstruct_sizes s b x =
+    (x.iv, iv_bytes)
+    ∷ (x.challenge, challenge_bytes s)
+    ∷ (x.corrections, corrections_bytes s b)
+    ∷ (x.opening, opening_bytes s)
+    ∷ (x.commitment, hash_bytes s)
+    ∷ (x.tree, tree_bytes s)
+    ∷ (x.leaf_commitments, leaf_commitments_bytes s)
+    ∷ (x.q, matrix_bytes s b)
     ∷ []

@@ -1,6 +1,8 @@
 // The tests that calls begin with, as expressions: a list of tests gives the number of the first that fails.
+#![tactic(auto)]
+
 ghost use Rattle.std.specs.Prelude.{◌≡◌, cond};
-ghost use Rattle.refusals.specs.Numbers.{frontNumber};
+ghost use Rattle.refusals.specs.Numbers.{front_number};
 
 use spec::{Shape, Stretch};
 
@@ -20,7 +22,7 @@ pub const SLOTS: usize = 6;
 pub const STRETCH: usize = 8;
 
 // The lengths of the buffers of commit, of either version.
-#[derive(Drop)]
+#[derive(Clone, Copy)]
 pub struct CommitLengths {
     pub root: usize,
     pub iv: usize,
@@ -33,7 +35,7 @@ pub struct CommitLengths {
 }
 
 // The lengths of the buffers of open, of either version.
-#[derive(Drop)]
+#[derive(Clone, Copy)]
 pub struct OpenLengths {
     pub challenge: usize,
     pub tree: usize, // in version 1 the trees
@@ -42,7 +44,7 @@ pub struct OpenLengths {
 }
 
 // The lengths of the buffers of reconstruct, of either version.
-#[derive(Drop)]
+#[derive(Clone, Copy)]
 pub struct ReconstructLengths {
     pub iv: usize,
     pub challenge: usize,
@@ -63,7 +65,7 @@ pub fn refusal(ok: bool, number: usize, rest: usize) -> usize
 
 // The number of the tests that commit and reconstruct begin with: 1 for the shape, 2 for the row length, 8 for the stretch.
 pub fn front_number(s: Shape, row_bits: usize, z: Stretch) -> usize
-    ensures { result ≡ frontNumber s row_bits z }
+    ensures { result ≡ front_number s row_bits z }
 {
     let stretch = refusal(rules::is_stretch(row_bits / 8, z), STRETCH, 0);
     let row = refusal(rules::is_row_length(row_bits), ROW_LENGTH, stretch);

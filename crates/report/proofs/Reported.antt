@@ -9,8 +9,8 @@ use lib.Seq.{drop-drop, length-take-le}
 use Rattle.listing_text.specs.Put.{Put}
 use Rattle.listing_text.proofs.Writing.{put_next}
 use Rattle.report_text.specs.declared.Entry.{Entry}
-use Rattle.report_text.specs.Entries.{entry_of, entriesWithin, entries, sum_of, accepted, nodesTotal, unusedTotal}
-use Rattle.report_text.specs.Text.{lineText, lines_from, totalText, entriesText}
+use Rattle.report_text.specs.Entries.{entry_of, entries_within, entries, sum_of, accepted, nodes_total, unused_total}
+use Rattle.report_text.specs.Text.{line_text, lines_from, total_text, entries_text}
 use Rattle.report_text.proofs.Entries.{Bounds, bounds, entries_next, totals-next}
 
 pub record Reported (input out : List ℕ) (nodes unused place end at : ℕ) : Type 0 where
@@ -22,8 +22,8 @@ pub record Reported (input out : List ℕ) (nodes unused place end at : ℕ) : T
   pub room : end ≤ at + 28
   pub early : at < length input → end ≤ at
   pub lines : take end out ++ lines_from place (entries (drop at input)) ≡ lines_from 1 (entries input)
-  pub nodes-left : nodes + nodesTotal (entries (drop at input)) ≡ nodesTotal (entries input)
-  pub unused-left : unused + unusedTotal (entries (drop at input)) ≡ unusedTotal (entries input)
+  pub nodes-left : nodes + nodes_total (entries (drop at input)) ≡ nodes_total (entries input)
+  pub unused-left : unused + unused_total (entries (drop at input)) ≡ unused_total (entries input)
 
 pub reported-none : (input out : List ℕ) → Reported input out 0 0 1 0 0
 reported-none input out =
@@ -52,10 +52,10 @@ module _ (input out : List ℕ) (nodes unused place end at : ℕ) (q : Reported 
         ∙ ap (λ (x : Entry). x ∷ entries (drop x.bytes (drop at input))) (sym is)
         ∙ ap (λ (l : List ℕ). e ∷ entries l) (drop-drop e.bytes at input)
 
-    totals : (es : List Entry) → (nodesTotal (e ∷ es) ≡ e.count + nodesTotal es) × (unusedTotal (e ∷ es) ≡ e.unused + unusedTotal es)
+    totals : (es : List Entry) → (nodes_total (e ∷ es) ≡ e.count + nodes_total es) × (unused_total (e ∷ es) ≡ e.unused + unused_total es)
     totals es = rw is (totals-next (drop at input) es)
 
-    pub reported-more : (out' : List ℕ) (r : ℕ) → Put (lineText place e) end out out' r → r ≤ end + 28
+    pub reported-more : (out' : List ℕ) (r : ℕ) → Put (line_text place e) end out out' r → r ≤ end + 28
         → Reported input out' (nodes + e.count) (unused + e.unused) (place + 1) r (at + e.bytes)
     unfolding lines_from
     reported-more out' r p l =
@@ -65,8 +65,8 @@ module _ (input out : List ℕ) (nodes unused place end at : ℕ) (q : Reported 
         let t = totals rest in
         let n = q.nodes-left in
         let u = q.unused-left in
-        let m = ap nodesTotal next in
-        let v = ap unusedTotal next in
+        let m = ap nodes_total next in
+        let v = ap unused_total next in
         let some = b.some (omega arith) in
         record {
           within = omega (arith, b.within);
@@ -77,7 +77,7 @@ module _ (input out : List ℕ) (nodes unused place end at : ℕ) (q : Reported 
           early = λ h. omega (arith, q.early more, b.long (omega arith));
           lines =
               ap₂ (λ (x : List ℕ) (k : ℕ). x ++ lines_from k rest) p.front (add-one place)
-              ∙ append_assoc (take end out) (lineText place e) (lines_from (suc place) rest)
+              ∙ append_assoc (take end out) (line_text place e) (lines_from (suc place) rest)
               ∙ ap (λ (es : List Entry). take end out ++ lines_from place es) (sym next)
               ∙ q.lines;
           nodes-left = omega arith;
@@ -87,16 +87,16 @@ module _ (input out : List ℕ) (nodes unused place end at : ℕ) (q : Reported 
   -- no record is left, and the totals are put
   module _ (done : length input ≤ at) where
     none : entries (drop at input) ≡ []
-    unfolding entriesWithin
+    unfolding entries_within
     none = ap entries (drop_of_length-le input {i = at} done)
 
-    pub reported-all : (out₀ out' : List ℕ) (r : ℕ) → end ≤ length out → drop end out ≡ drop end out₀ → Put (totalText nodes unused) end out out' r
-        → Put (entriesText (entries input)) 0 out₀ out' r
-    unfolding entriesText lines_from sum_of accepted nodesTotal unusedTotal
+    pub reported-all : (out₀ out' : List ℕ) (r : ℕ) → end ≤ length out → drop end out ≡ drop end out₀ → Put (total_text nodes unused) end out out' r
+        → Put (entries_text (entries input)) 0 out₀ out' r
+    unfolding entries_text lines_from sum_of accepted nodes_total unused_total
     reported-all out₀ out' r h kept p =
         let front : take end out ≡ lines_from 1 (entries input) =
         sym (append-nil (take end out)) ∙ ap (λ (es : List Entry). take end out ++ lines_from place es) (sym none) ∙ q.lines in
-        let n : nodes ≡ nodesTotal (entries input) = (let z = q.nodes-left in let e = ap nodesTotal none in omega arith) in
-        let u : unused ≡ unusedTotal (entries input) = (let z = q.unused-left in let e = ap unusedTotal none in omega arith) in
+        let n : nodes ≡ nodes_total (entries input) = (let z = q.nodes-left in let e = ap nodes_total none in omega arith) in
+        let u : unused ≡ unused_total (entries input) = (let z = q.unused-left in let e = ap unused_total none in omega arith) in
         let put : Put (lines_from 1 (entries input)) 0 out₀ out end = record { end = (let a = ap length front in let b = length-take-le end out h in omega arith); front = front; rest = kept } in
         rw (← n, ← u) (put_next put p)

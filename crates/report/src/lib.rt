@@ -1,11 +1,13 @@
 // The opening report (document 02, E14), from the bytes of its input to the bytes of its output. It reads records and plans openings; nothing here depends on either half.
+#![tactic(auto)]
+
 ghost use Rattle.std.specs.Prelude.{◌≡◌, true, ◌≤◌, length, take, drop};
-ghost use Rattle.spec.specs.Shapes.{challengeBytes, openingBytes, shapeOk, plannedCount};
-ghost use Rattle.record.specs.Record.{fieldsNumber, end_of};
+ghost use Rattle.spec.specs.Shapes.{challenge_bytes, opening_bytes, shape_ok, planned_count};
+ghost use Rattle.record.specs.Record.{fields_number, end_of};
 ghost use Rattle.record_reading.specs.Front.{FrontOf, SizesOf};
 ghost use Rattle.listing_text.specs.Put.{Put};
-ghost use Rattle.report_text.specs.Entries.{entry_of, openedEntry, entries};
-ghost use Rattle.report_text.specs.Text.{entriesText, reportText};
+ghost use Rattle.report_text.specs.Entries.{entry_of, opened_entry, entries};
+ghost use Rattle.report_text.specs.Text.{entries_text, report_text};
 
 use record_reading::{Front, Sizes};
 use report_text::Entry;
@@ -13,8 +15,8 @@ use spec::Shape;
 
 // The count of revealed nodes. The list has room for one node, and is not read.
 fn count_nodes(s: Shape, challenge: &[u8]) -> usize
-    requires { (shapeOk s ≡ true) × (length challenge.now ≡ challengeBytes s) }
-    ensures { result ≡ plannedCount s challenge.now }
+    requires { (shape_ok s ≡ true) × (length challenge.now ≡ challenge_bytes s) }
+    ensures { result ≡ planned_count s challenge.now }
 {
     let mut none = [0u32; 1];
     planning::revealed_nodes(s, challenge, &mut none)
@@ -34,8 +36,8 @@ fn refused(number: usize, bytes: usize) -> Entry
 
 // The entry of an opening in a record of that many bytes: 4, 5 and 6 are tested, and nothing is reconstructed.
 fn opened<'a>(f: Front, challenge: &'a [u8], opening: &'a [u8], bytes: usize) -> Entry
-    requires { (shapeOk f.resolved ≡ true) × (length challenge.now ≡ challengeBytes f.resolved) × (length opening.now ≡ openingBytes f.resolved) }
-    ensures { result ≡ openedEntry f.resolved challenge.now opening.now bytes }
+    requires { (shape_ok f.resolved ≡ true) × (length challenge.now ≡ challenge_bytes f.resolved) × (length opening.now ≡ opening_bytes f.resolved) }
+    ensures { result ≡ opened_entry f.resolved challenge.now opening.now bytes }
 {
     let s = f.resolved;
     if !challenge::grinding_ok(s, challenge) {
@@ -58,7 +60,7 @@ fn opened<'a>(f: Front, challenge: &'a [u8], opening: &'a [u8], bytes: usize) ->
 
 // The entry of a record whose fields are there, up to its end: the fields are handed out by one reader, and two of them passed on.
 fn open_fields(bytes: &[u8], f: Front, z: Sizes, end: usize) -> Entry
-    requires { FrontOf bytes.now f × SizesOf bytes.now z × (fieldsNumber bytes.now ≡ 0) × (end ≡ end_of bytes.now) }
+    requires { FrontOf bytes.now f × SizesOf bytes.now z × (fields_number bytes.now ≡ 0) × (end ≡ end_of bytes.now) }
     ensures { result ≡ entry_of bytes.now }
 {
     let p = record_reader::fields_of(
@@ -92,7 +94,7 @@ fn entry(bytes: &[u8]) -> Entry
 // Puts a line for each record of the input, and the totals behind them.
 fn put_entries(input: &[u8], out: &mut [u8]) -> usize
     requires { (length input.now ≤ 65536) × (65600 ≤ length out.old) }
-    ensures { Put (entriesText (entries input.now)) 0 out.old out.new result }
+    ensures { Put (entries_text (entries input.now)) 0 out.old out.new result }
 {
     let mut nodes: usize = 0;
     let mut unused: usize = 0;
@@ -113,7 +115,7 @@ fn put_entries(input: &[u8], out: &mut [u8]) -> usize
 // Writes the report of an input to the front of `out`, and answers its length.
 pub fn report(input: &[u8], out: &mut [u8]) -> usize
     requires { 65600 ≤ length out.old }
-    ensures { (result ≤ length out.new) × (take result out.new ≡ reportText input.now) × (drop result out.new ≡ drop result out.old) }
+    ensures { (result ≤ length out.new) × (take result out.new ≡ report_text input.now) × (drop result out.new ≡ drop result out.old) }
 {
     if 65536 < input.len() {
         return listing_text::put_refused(out, 7);

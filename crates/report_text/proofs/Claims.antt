@@ -12,28 +12,28 @@ use lib.Seq.{drop-drop, take_all, take-length, length-take-le}
 use borrow.Author.Tests.{lt-leb, ne_eqb}
 use Rattle.spec.specs.declared.Answer.{Answer}
 use Rattle.spec.specs.Bytes.{part}
-use Rattle.spec.specs.Shapes.{resolved, grindingOk, plannedCount}
+use Rattle.spec.specs.Shapes.{resolved, grinding_ok, planned_count}
 use Rattle.spec.specs.Primitives.{Primitives}
-use Rattle.spec.specs.Verifier.{slotsOk}
-use Rattle.spec.specs.Calls.{firstRefusal, fits, nodesOk, countWith, written}
+use Rattle.spec.specs.Verifier.{slots_ok}
+use Rattle.spec.specs.Calls.{first_refusal, fits, nodes_ok, count_with, written}
 use Rattle.laws.proofs.Refusals.{then}
 use Rattle.laws.proofs.Conjunctions.{refuted, contrary}
-use Rattle.record.specs.Record.{Contents, contentsOf, fieldsTests, fieldsNumber, end_of, readNumber}
-use Rattle.record.specs.RecordCalls.{Work, workLengths, made, sameBytes, openingTests, recordNumber, answered, CheckRecord}
+use Rattle.record.specs.Record.{Contents, contents_of, fields_tests, fields_number, end_of, read_number}
+use Rattle.record.specs.RecordCalls.{Work, work_lengths, made, same_bytes, opening_tests, record_number, answered, CheckRecord}
 use Rattle.record.proofs.Cut.{cut-read, cut-contents}
 use Rattle.record.proofs.Reconstructing.{number-refused, number_read}
 use Rattle.report_text.specs.declared.Entry.{Entry}
-use Rattle.report_text.specs.Entries.{entryNumber, stops, entry_of, entriesWithin, entries, sum_of}
-use Rattle.report_text.specs.Text.{reportText}
-use Rattle.report_text.specs.Claims.{beginOf, Consecutive, AsChecked, Claims}
+use Rattle.report_text.specs.Entries.{entry_number, stops, entry_of, entries_within, entries, sum_of}
+use Rattle.report_text.specs.Text.{report_text}
+use Rattle.report_text.specs.Claims.{begin_of, Consecutive, AsChecked, Claims}
 use Rattle.report_text.proofs.Entries.{Bounds, bounds, number-stops, number-opened, entry-stops, not-eleven, entry-stopping, entry-end, entries_next, stopped}
 
 -- an entry that does not stop has its fields, and is read up to its end
 read_first : (xs : List ℕ) → stops (entry_of xs).number ≡ false
-    → (readNumber (take (entry_of xs).bytes xs) ≡ 0) × (contentsOf (take (entry_of xs).bytes xs) ≡ contentsOf xs)
-read_first xs h = go (ℕ_discrete (fieldsNumber xs) 0)
+    → (read_number (take (entry_of xs).bytes xs) ≡ 0) × (contents_of (take (entry_of xs).bytes xs) ≡ contents_of xs)
+read_first xs h = go (ℕ_discrete (fields_number xs) 0)
   where
-    go : Dec (fieldsNumber xs ≡ 0) → (readNumber (take (entry_of xs).bytes xs) ≡ 0) × (contentsOf (take (entry_of xs).bytes xs) ≡ contentsOf xs)
+    go : Dec (fields_number xs ≡ 0) → (read_number (take (entry_of xs).bytes xs) ≡ 0) × (contents_of (take (entry_of xs).bytes xs) ≡ contents_of xs)
     go (yes ok) = rw (entry-end xs ok) (cut-read xs ok, cut-contents xs ok)
     go (no bad) = contrary (entry-stopping xs bad) h
 
@@ -54,11 +54,11 @@ module _ (xs : List ℕ) (es : List Entry) (some : 0 < length xs) (next : Consec
       let d = length-drop e.bytes xs in
       record { each = each; begins = begins; goes_on = goes_on; whole = (let w = next.whole in omega arith); read = read }
     where
-      each : (i : ℕ) (d : Entry) → i < length (e ∷ es) → get_or (e ∷ es) i d ≡ entry_of (drop (beginOf (e ∷ es) i) xs)
+      each : (i : ℕ) (d : Entry) → i < length (e ∷ es) → get_or (e ∷ es) i d ≡ entry_of (drop (begin_of (e ∷ es) i) xs)
       each zero d h = refl
-      each (suc i) d h = next.each i d (omega arith) ∙ ap entry_of (further (beginOf es i))
+      each (suc i) d h = next.each i d (omega arith) ∙ ap entry_of (further (begin_of es i))
 
-      begins : (i : ℕ) → i < length (e ∷ es) → beginOf (e ∷ es) i < length xs
+      begins : (i : ℕ) → i < length (e ∷ es) → begin_of (e ∷ es) i < length xs
       begins zero h = some
       begins (suc i) h = (let n = next.begins i (omega arith) in let d = length-drop e.bytes xs in omega arith)
 
@@ -67,10 +67,10 @@ module _ (xs : List ℕ) (es : List Entry) (some : 0 < length xs) (next : Consec
       goes_on (suc i) d h = next.goes_on i d (omega arith)
 
       read : (i : ℕ) (d : Entry) → i < length (e ∷ es) → stops (get_or (e ∷ es) i d).number ≡ false
-          → (readNumber (part xs (beginOf (e ∷ es) i) (get_or (e ∷ es) i d).bytes) ≡ 0)
-          × (contentsOf (part xs (beginOf (e ∷ es) i) (get_or (e ∷ es) i d).bytes) ≡ contentsOf (drop (beginOf (e ∷ es) i) xs))
+          → (read_number (part xs (begin_of (e ∷ es) i) (get_or (e ∷ es) i d).bytes) ≡ 0)
+          × (contents_of (part xs (begin_of (e ∷ es) i) (get_or (e ∷ es) i d).bytes) ≡ contents_of (drop (begin_of (e ∷ es) i) xs))
       read zero d h s = read_first xs s
-      read (suc i) d h s = rw (sym (further (beginOf es i))) (next.read i d (omega arith) s)
+      read (suc i) d h s = rw (sym (further (begin_of es i))) (next.read i d (omega arith) s)
 
 none : Consecutive [] []
 unfolding sum_of
@@ -84,7 +84,7 @@ none =
     }
 
 within : (n : ℕ) (xs : List ℕ) → length xs ≤ n → Consecutive xs (entries xs)
-unfolding entriesWithin
+unfolding entries_within
 within zero [] h = none
 within zero (x ∷ xs) h = absurd (omega arith)
 within (suc n) [] h = none
@@ -98,8 +98,8 @@ within (suc n) (x ∷ xs) h =
 -- ---- the number and the count of check_record
 
 -- where the lengths fit, and without the comparison, the tests of the opening decide
-by : (t a b c same : Bool) → ((let k = cond t (firstRefusal ((a, 4) ∷ (b, 5) ∷ (c, 6) ∷ [])) 3 in cond (eqb k 0) (cond same 0 11) k) ≡ 3 → ⊥)
-    → firstRefusal ((a, 4) ∷ (b, 5) ∷ (c, 6) ∷ []) ≡ answered (let k = cond t (firstRefusal ((a, 4) ∷ (b, 5) ∷ (c, 6) ∷ [])) 3 in cond (eqb k 0) (cond same 0 11) k)
+by : (t a b c same : Bool) → ((let k = cond t (first_refusal ((a, 4) ∷ (b, 5) ∷ (c, 6) ∷ [])) 3 in cond (eqb k 0) (cond same 0 11) k) ≡ 3 → ⊥)
+    → first_refusal ((a, 4) ∷ (b, 5) ∷ (c, 6) ∷ []) ≡ answered (let k = cond t (first_refusal ((a, 4) ∷ (b, 5) ∷ (c, 6) ∷ [])) 3 in cond (eqb k 0) (cond same 0 11) k)
 by false a b c same fit = absurd (fit refl)
 by true false b c same fit = refl
 by true true false c same fit = refl
@@ -108,73 +108,73 @@ by true true true true true fit = refl
 by true true true true false fit = refl
 
 -- where a field is missing or the front is refused, reading says so too
-read-refused : (xs : List ℕ) → (fieldsNumber xs ≡ 0 → ⊥) → readNumber xs ≡ fieldsNumber xs
-unfolding readNumber fieldsNumber
+read-refused : (xs : List ℕ) → (fields_number xs ≡ 0 → ⊥) → read_number xs ≡ fields_number xs
+unfolding read_number fields_number
 read-refused xs bad =
-    then (fieldsTests xs) ((eqb (length xs) (end_of xs), 10) ∷ []) (refl, (refl, (refl, (refl, (refl, tt)))))
-    ∙ ap (λ (t : Bool). cond t (cond (eqb (length xs) (end_of xs)) 0 10) (fieldsNumber xs)) (ne_eqb (fieldsNumber xs) 0 bad)
+    then (fields_tests xs) ((eqb (length xs) (end_of xs), 10) ∷ []) (refl, (refl, (refl, (refl, (refl, tt)))))
+    ∙ ap (λ (t : Bool). cond t (cond (eqb (length xs) (end_of xs)) 0 10) (fields_number xs)) (ne_eqb (fields_number xs) 0 bad)
 
-module _ (P : Primitives) (xs : List ℕ) (lengths : List (ℕ × ℕ)) (fit : recordNumber P (take (entry_of xs).bytes xs) lengths ≡ 3 → ⊥) where
-  checked-number : entryNumber xs ≡ answered (recordNumber P (take (entry_of xs).bytes xs) lengths)
-  checked-number = go (ℕ_discrete (fieldsNumber xs) 0)
+module _ (P : Primitives) (xs : List ℕ) (lengths : List (ℕ × ℕ)) (fit : record_number P (take (entry_of xs).bytes xs) lengths ≡ 3 → ⊥) where
+  checked-number : entry_number xs ≡ answered (record_number P (take (entry_of xs).bytes xs) lengths)
+  checked-number = go (ℕ_discrete (fields_number xs) 0)
     where
       -- behind reading: the lengths decide, and then the opening and the comparison
-      opened : fieldsNumber xs ≡ 0 → (t : Bool) → fits lengths ≡ t → entryNumber xs ≡ answered (recordNumber P (take (end_of xs) xs) lengths)
+      opened : fields_number xs ≡ 0 → (t : Bool) → fits lengths ≡ t → entry_number xs ≡ answered (record_number P (take (end_of xs) xs) lengths)
       opened ok t e =
           let p = take (end_of xs) xs in
-          let c = contentsOf p in
+          let c = contents_of p in
           let s = resolved c.shape in
-          let same = sameBytes (made P c).commitment c.commitment in
-          let number : recordNumber P p lengths ≡ (let k = cond t (firstRefusal (openingTests c)) 3 in cond (eqb k 0) (cond same 0 11) k) =
-          number_read P p lengths (cut-read xs ok) ∙ ap (λ (b : Bool). let k = cond b (firstRefusal (openingTests c)) 3 in cond (eqb k 0) (cond same 0 11) k) e in
-          number-opened xs ok ∙ ap (λ (x : Contents). firstRefusal (openingTests x)) (sym (cut-contents xs ok))
-          ∙ by t (grindingOk s c.challenge) (nodesOk s c.challenge) (slotsOk s c.challenge c.opening) same
-          (λ z. fit (ap (λ (n : ℕ). recordNumber P (take n xs) lengths) (entry-end xs ok) ∙ number ∙ z)) ∙ sym (ap answered number)
+          let same = same_bytes (made P c).commitment c.commitment in
+          let number : record_number P p lengths ≡ (let k = cond t (first_refusal (opening_tests c)) 3 in cond (eqb k 0) (cond same 0 11) k) =
+          number_read P p lengths (cut-read xs ok) ∙ ap (λ (b : Bool). let k = cond b (first_refusal (opening_tests c)) 3 in cond (eqb k 0) (cond same 0 11) k) e in
+          number-opened xs ok ∙ ap (λ (x : Contents). first_refusal (opening_tests x)) (sym (cut-contents xs ok))
+          ∙ by t (grinding_ok s c.challenge) (nodes_ok s c.challenge) (slots_ok s c.challenge c.opening) same
+          (λ z. fit (ap (λ (n : ℕ). record_number P (take n xs) lengths) (entry-end xs ok) ∙ number ∙ z)) ∙ sym (ap answered number)
 
-      go : Dec (fieldsNumber xs ≡ 0) → entryNumber xs ≡ answered (recordNumber P (take (entry_of xs).bytes xs) lengths)
+      go : Dec (fields_number xs ≡ 0) → entry_number xs ≡ answered (record_number P (take (entry_of xs).bytes xs) lengths)
       go (yes ok) = rw (entry-end xs ok) (opened ok (fits lengths) refl)
       go (no bad) =
           rw (entry-stops xs bad, take-length xs)
           (number-stops xs bad
           ∙ sym (ap answered (number-refused P xs lengths (λ z. bad (sym (read-refused xs bad) ∙ z)) ∙ read-refused xs bad)
-          ∙ ap (λ (t : Bool). cond t 0 (fieldsNumber xs)) (not-eleven xs bad)))
+          ∙ ap (λ (t : Bool). cond t 0 (fields_number xs)) (not-eleven xs bad)))
 
 -- the lengths of the work buffers, and those that a record asks for
-abbrev workOfRecord : List ℕ → Work → List (ℕ × ℕ)
-workOfRecord rec = workLengths (resolved (contentsOf rec).shape) ((contentsOf rec).row / 8)
+abbrev work_of_record : List ℕ → Work → List (ℕ × ℕ)
+work_of_record rec = work_lengths (resolved (contents_of rec).shape) ((contents_of rec).row / 8)
 
 -- an entry beside check_record on the bytes that it takes
 checked-first : (P : Primitives) (xs : List ℕ) (entry : Entry) (before after : Work) (r : Answer) → entry ≡ entry_of xs
     → CheckRecord P (take entry.bytes xs) before after r
     → (r.number ≡ 3 → ⊥)
     → (entry.number ≡ answered r.number) × (entry.number ≡ 0 → entry.count ≡ r.count)
-unfolding entry_of countWith
+unfolding entry_of count_with
 checked-first P xs entry before after r is k fit = (number, count)
   where
-    entry-number : entry.number ≡ entryNumber xs
+    entry-number : entry.number ≡ entry_number xs
     entry-number = ap (λ (x : Entry). x.number) is
 
-    same_number : recordNumber P (take (entry_of xs).bytes xs) (workOfRecord (take entry.bytes xs) before) ≡ r.number
-    same_number = ap (λ (n : ℕ). recordNumber P (take n xs) (workOfRecord (take entry.bytes xs) before)) (sym (ap (λ (x : Entry). x.bytes) is)) ∙ sym k.number
+    same_number : record_number P (take (entry_of xs).bytes xs) (work_of_record (take entry.bytes xs) before) ≡ r.number
+    same_number = ap (λ (n : ℕ). record_number P (take n xs) (work_of_record (take entry.bytes xs) before)) (sym (ap (λ (x : Entry). x.bytes) is)) ∙ sym k.number
 
     number : entry.number ≡ answered r.number
-    number = entry-number ∙ checked-number P xs (workOfRecord (take entry.bytes xs) before) (λ z. fit (sym same_number ∙ z)) ∙ ap answered same_number
+    number = entry-number ∙ checked-number P xs (work_of_record (take entry.bytes xs) before) (λ z. fit (sym same_number ∙ z)) ∙ ap answered same_number
 
     count : entry.number ≡ 0 → entry.count ≡ r.count
     count z =
-        let same : contentsOf (take entry.bytes xs) ≡ contentsOf xs = rw is (read_first xs (ap stops (sym entry-number ∙ z))).1 in
-        let c = contentsOf xs in
-        let planned : ℕ = plannedCount (resolved c.shape) c.challenge in
+        let same : contents_of (take entry.bytes xs) ≡ contents_of xs = rw is (read_first xs (ap stops (sym entry-number ∙ z))).1 in
+        let c = contents_of xs in
+        let planned : ℕ = planned_count (resolved c.shape) c.challenge in
         let here : entry.count ≡ planned = ap (λ (x : Entry). x.count) is ∙ ap (λ (n : ℕ). written n planned 0) (sym entry-number ∙ z) in
         let there : r.count ≡ planned = k.count ∙ rw (same, sym number ∙ z) refl in
         here ∙ sym there
 
-first-bytes : (input : List ℕ) → reportText (take 65537 input) ≡ reportText input
-unfolding reportText
+first-bytes : (input : List ℕ) → report_text (take 65537 input) ≡ report_text input
+unfolding report_text
 first-bytes input = go (dec_lt 65536 (length input))
   where
-    go : Dec (65536 < length input) → reportText (take 65537 input) ≡ reportText input
-    go (no h) = ap reportText (take_all 65537 input (omega arith))
+    go : Dec (65536 < length input) → report_text (take 65537 input) ≡ report_text input
+    go (no h) = ap report_text (take_all 65537 input (omega arith))
     go (yes h) =
         let l = length-take-le 65537 input (omega arith) in
         rw (lt-leb (length (take 65537 input)) 65536 (omega arith), lt-leb (length input) 65536 h) refl

@@ -11,33 +11,33 @@ use lib.ListN.{length, take, drop, length-drop}
 use lib.Seq.{length-take-le, drop-length}
 use borrow.Author.Tests.{leb-true, ne_eqb, eqb-true}
 use Rattle.spec.specs.declared.Shape.{Shape}
-use Rattle.spec.specs.Shapes.{resolved, grindingOk, plannedCount, shapeOk}
-use Rattle.spec.specs.Verifier.{slotsOk}
-use Rattle.spec.specs.Calls.{firstRefusal, row_ok, nodesOk, written}
+use Rattle.spec.specs.Shapes.{resolved, grinding_ok, planned_count, shape_ok}
+use Rattle.spec.specs.Verifier.{slots_ok}
+use Rattle.spec.specs.Calls.{first_refusal, row_ok, nodes_ok, written}
 use Rattle.laws.proofs.Refusals.{then}
 use Rattle.planning_laws.proofs.ShapeFacts.{shape-facts}
-use Rattle.record.specs.Fields.{fieldOk}
-use Rattle.record.specs.Record.{versionOf, headBytes, versionOk, restOk, Contents, contentsOf, fieldsTests, fieldsNumber, end_of, readNumber, kindFits}
-use Rattle.record.specs.RecordCalls.{openingTests}
+use Rattle.record.specs.Fields.{field_ok}
+use Rattle.record.specs.Record.{version_of, head_bytes, version_ok, rest_ok, Contents, contents_of, fields_tests, fields_number, end_of, read_number, kind_fits}
+use Rattle.record.specs.RecordCalls.{opening_tests}
 use Rattle.record.proofs.Reading.{front-shape, fields-front}
 use Rattle.record.proofs.Cut.{end-least, end-within}
 use Rattle.report_text.specs.declared.Entry.{Entry}
-use Rattle.report_text.specs.Entries.{entryNumber, stops, entry_of, openedEntry, entriesWithin, entries, accepted, sum_of, nodesTotal, unusedTotal}
+use Rattle.report_text.specs.Entries.{entry_number, stops, entry_of, opened_entry, entries_within, entries, accepted, sum_of, nodes_total, unused_total}
 
 -- ---- the number
 
 -- a number of the fields is 0, or stops
 abbrev fields : Bool → Bool → Bool → Bool → Bool → ℕ
-fields a b c d e = firstRefusal ((a, 9) ∷ (b, 10) ∷ (c, 1) ∷ (d, 2) ∷ (e, 10) ∷ [])
+fields a b c d e = first_refusal ((a, 9) ∷ (b, 10) ∷ (c, 1) ∷ (d, 2) ∷ (e, 10) ∷ [])
 
 abbrev Stopping : ℕ → Type 0
 Stopping n = (n ≡ 0 → ⊥) → (stops n ≡ true) × (eqb n 0 ≡ false) × (n ≤ 10)
 
-fields-stop : (xs : List ℕ) → Stopping (fieldsNumber xs)
-unfolding fieldsNumber
+fields-stop : (xs : List ℕ) → Stopping (fields_number xs)
+unfolding fields_number
 fields-stop xs =
-    let s = resolved (contentsOf xs).shape in
-    go (versionOk xs) (fieldOk xs 1 (headBytes (versionOf xs))) (shapeOk s && kindFits (versionOf xs) (contentsOf xs).shape.kind) (row_ok (contentsOf xs).row) (restOk (headBytes (versionOf xs)) s ((contentsOf xs).row / 8) xs)
+    let s = resolved (contents_of xs).shape in
+    go (version_ok xs) (field_ok xs 1 (head_bytes (version_of xs))) (shape_ok s && kind_fits (version_of xs) (contents_of xs).shape.kind) (row_ok (contents_of xs).row) (rest_ok (head_bytes (version_of xs)) s ((contents_of xs).row / 8) xs)
   where
     go : (a b c d e : Bool) → Stopping (fields a b c d e)
     go false b c d e bad = (refl, refl, omega arith)
@@ -49,7 +49,7 @@ fields-stop xs =
 
 -- a number of the opening does not
 abbrev opened : Bool → Bool → Bool → ℕ
-opened a b c = firstRefusal ((a, 4) ∷ (b, 5) ∷ (c, 6) ∷ [])
+opened a b c = first_refusal ((a, 4) ∷ (b, 5) ∷ (c, 6) ∷ [])
 
 opened-goes-on : (a b c : Bool) → (stops (opened a b c) ≡ false) × (opened a b c ≤ 10) × (opened a b c ≡ 0 → b ≡ true)
 opened-goes-on false b c = (refl, omega arith, λ z. absurd (omega arith))
@@ -58,43 +58,43 @@ opened-goes-on true true false = (refl, omega arith, λ z. absurd (omega arith))
 opened-goes-on true true true = (refl, omega arith, λ z. refl)
 
 module _ (xs : List ℕ) where
-  number_is : entryNumber xs ≡ cond (eqb (fieldsNumber xs) 0) (firstRefusal (openingTests (contentsOf xs))) (fieldsNumber xs)
-  unfolding entryNumber fieldsNumber
-  number_is = then (fieldsTests xs) (openingTests (contentsOf xs)) (refl, (refl, (refl, (refl, (refl, tt)))))
+  number_is : entry_number xs ≡ cond (eqb (fields_number xs) 0) (first_refusal (opening_tests (contents_of xs))) (fields_number xs)
+  unfolding entry_number fields_number
+  number_is = then (fields_tests xs) (opening_tests (contents_of xs)) (refl, (refl, (refl, (refl, (refl, tt)))))
 
   -- a field is missing, or the front is refused
-  module _ (bad : fieldsNumber xs ≡ 0 → ⊥) where
-    pub number-stops : entryNumber xs ≡ fieldsNumber xs
+  module _ (bad : fields_number xs ≡ 0 → ⊥) where
+    pub number-stops : entry_number xs ≡ fields_number xs
     number-stops = number_is ∙ rw (fields-stop xs bad).1 refl
 
     -- such an entry has nothing but its number, and takes all that is left
-    pub entry-stops : entry_of xs ≡ record { number = fieldsNumber xs; count = 0; unused = 0; bytes = length xs }
+    pub entry-stops : entry_of xs ≡ record { number = fields_number xs; count = 0; unused = 0; bytes = length xs }
     unfolding entry_of
     entry-stops = rw (number-stops, (fields-stop xs bad).0, (fields-stop xs bad).1) refl
 
-    pub not-eleven : eqb (fieldsNumber xs) 11 ≡ false
-    not-eleven = ne_eqb (fieldsNumber xs) 11 (λ z. let n = (fields-stop xs bad).2 in omega arith)
+    pub not-eleven : eqb (fields_number xs) 11 ≡ false
+    not-eleven = ne_eqb (fields_number xs) 11 (λ z. let n = (fields-stop xs bad).2 in omega arith)
 
     pub entry-stopping : stops (entry_of xs).number ≡ true
     entry-stopping = ap (λ (e : Entry). stops e.number) entry-stops ∙ (fields-stop xs bad).0
 
   -- the fields are there
-  module _ (ok : fieldsNumber xs ≡ 0) where
-    pub number-opened : entryNumber xs ≡ firstRefusal (openingTests (contentsOf xs))
+  module _ (ok : fields_number xs ≡ 0) where
+    pub number-opened : entry_number xs ≡ first_refusal (opening_tests (contents_of xs))
     number-opened = number_is ∙ rw ok refl
 
-    goes_on : (stops (entryNumber xs) ≡ false) × (entryNumber xs ≤ 10) × (entryNumber xs ≡ 0 → nodesOk (resolved (contentsOf xs).shape) (contentsOf xs).challenge ≡ true)
+    goes_on : (stops (entry_number xs) ≡ false) × (entry_number xs ≤ 10) × (entry_number xs ≡ 0 → nodes_ok (resolved (contents_of xs).shape) (contents_of xs).challenge ≡ true)
     goes_on =
-        let c = contentsOf xs in
+        let c = contents_of xs in
         let s = resolved c.shape in
-        rw number-opened (opened-goes-on (grindingOk s c.challenge) (nodesOk s c.challenge) (slotsOk s c.challenge c.opening))
+        rw number-opened (opened-goes-on (grinding_ok s c.challenge) (nodes_ok s c.challenge) (slots_ok s c.challenge c.opening))
 
     pub entry-end : (entry_of xs).bytes ≡ end_of xs
     unfolding entry_of
     entry-end = rw goes_on.0 refl
 
 -- the entry of a record whose fields are there is that of its opening
-pub entry-opened : (xs : List ℕ) → fieldsNumber xs ≡ 0 → entry_of xs ≡ openedEntry (resolved (contentsOf xs).shape) (contentsOf xs).challenge (contentsOf xs).opening (end_of xs)
+pub entry-opened : (xs : List ℕ) → fields_number xs ≡ 0 → entry_of xs ≡ opened_entry (resolved (contents_of xs).shape) (contents_of xs).challenge (contents_of xs).opening (end_of xs)
 unfolding entry_of
 entry-opened xs ok = rw ((goes_on xs ok).0, number-opened xs ok) refl
 
@@ -117,19 +117,19 @@ counted k x h = at (eqb k 0) refl
     at true z = h (eqb-true k 0 z)
     at false z = omega arith
 
-opened-small : (xs : List ℕ) → fieldsNumber xs ≡ 0 → ((entry_of xs).number ≤ 10) × ((entry_of xs).count ≤ 512) × ((entry_of xs).unused ≤ 512)
-unfolding entry_of nodesOk
+opened-small : (xs : List ℕ) → fields_number xs ≡ 0 → ((entry_of xs).number ≤ 10) × ((entry_of xs).count ≤ 512) × ((entry_of xs).unused ≤ 512)
+unfolding entry_of nodes_ok
 opened-small xs ok =
     let q = goes_on xs ok in
-    let s = resolved (contentsOf xs).shape in
-    let n = plannedCount s (contentsOf xs).challenge in
+    let s = resolved (contents_of xs).shape in
+    let n = planned_count s (contents_of xs).challenge in
     let t = (shape-facts s (front-shape xs (fields-front xs ok))).t-max in
-    (q.1, counted (entryNumber xs) n (λ z. let m = leb-true n s.t (q.2 z) in omega arith), counted (entryNumber xs) (s.t - n) (λ z. omega arith))
+    (q.1, counted (entry_number xs) n (λ z. let m = leb-true n s.t (q.2 z) in omega arith), counted (entry_number xs) (s.t - n) (λ z. omega arith))
 
 pub bounds : (xs : List ℕ) → Bounds xs (entry_of xs)
-bounds xs = go (ℕ_discrete (fieldsNumber xs) 0)
+bounds xs = go (ℕ_discrete (fields_number xs) 0)
   where
-    go : Dec (fieldsNumber xs ≡ 0) → Bounds xs (entry_of xs)
+    go : Dec (fields_number xs ≡ 0) → Bounds xs (entry_of xs)
     go (no bad) =
         let q = (fields-stop xs bad).2 in
         rw (entry-stops xs bad) (
@@ -144,7 +144,7 @@ bounds xs = go (ℕ_discrete (fieldsNumber xs) 0)
     go (yes ok) =
         let q = opened-small xs ok in
         let e = entry-end xs ok in
-        let l = end-least (headBytes (versionOf xs)) (resolved (contentsOf xs).shape) ((contentsOf xs).row / 8) in
+        let l = end-least (head_bytes (version_of xs)) (resolved (contents_of xs).shape) ((contents_of xs).row / 8) in
         let w = end-within xs ok in
         record {
           number = q.0;
@@ -158,8 +158,8 @@ bounds xs = go (ℕ_discrete (fieldsNumber xs) 0)
 -- ---- the entries of a string
 
 -- as many records as there are bytes are enough
-enough : (n m : ℕ) (xs : List ℕ) → length xs ≤ n → length xs ≤ m → entriesWithin n xs ≡ entriesWithin m xs
-unfolding entriesWithin
+enough : (n m : ℕ) (xs : List ℕ) → length xs ≤ n → length xs ≤ m → entries_within n xs ≡ entries_within m xs
+unfolding entries_within
 enough zero zero [] h l = refl
 enough zero (suc m) [] h l = refl
 enough (suc n) zero [] h l = refl
@@ -178,7 +178,7 @@ unfolding entry_of
 stopped xs h = rw h (drop-length xs)
 
 pub entries_next : (xs : List ℕ) → 0 < length xs → entries xs ≡ entry_of xs ∷ entries (drop (entry_of xs).bytes xs)
-unfolding entriesWithin
+unfolding entries_within
 entries_next [] h = absurd (omega arith)
 entries_next (x ∷ xs) h = go (stops e.number) refl
   where
@@ -188,7 +188,7 @@ entries_next (x ∷ xs) h = go (stops e.number) refl
     rest : List ℕ
     rest = drop e.bytes (x ∷ xs)
 
-    go : (b : Bool) → stops e.number ≡ b → e ∷ cond b [] (entriesWithin (length xs) rest) ≡ e ∷ entries rest
+    go : (b : Bool) → stops e.number ≡ b → e ∷ cond b [] (entries_within (length xs) rest) ≡ e ∷ entries rest
     go true z = ap (λ (ys : List ℕ). e ∷ entries ys) (sym (stopped (x ∷ xs) z))
     go false z =
         let b = (bounds (x ∷ xs)).some (omega arith) in
@@ -198,11 +198,11 @@ entries_next (x ∷ xs) h = go (stops e.number) refl
 -- ---- the totals: a refused entry has no count and no unused slots
 
 pub totals-next : (xs : List ℕ) (es : List Entry)
-    → (nodesTotal (entry_of xs ∷ es) ≡ (entry_of xs).count + nodesTotal es) × (unusedTotal (entry_of xs ∷ es) ≡ (entry_of xs).unused + unusedTotal es)
-unfolding entry_of accepted sum_of nodesTotal unusedTotal
-totals-next xs es = go (eqb (entryNumber xs) 0) refl
+    → (nodes_total (entry_of xs ∷ es) ≡ (entry_of xs).count + nodes_total es) × (unused_total (entry_of xs ∷ es) ≡ (entry_of xs).unused + unused_total es)
+unfolding entry_of accepted sum_of nodes_total unused_total
+totals-next xs es = go (eqb (entry_number xs) 0) refl
   where
-    go : (b : Bool) → eqb (entryNumber xs) 0 ≡ b
-        → (nodesTotal (entry_of xs ∷ es) ≡ (entry_of xs).count + nodesTotal es) × (unusedTotal (entry_of xs ∷ es) ≡ (entry_of xs).unused + unusedTotal es)
+    go : (b : Bool) → eqb (entry_number xs) 0 ≡ b
+        → (nodes_total (entry_of xs ∷ es) ≡ (entry_of xs).count + nodes_total es) × (unused_total (entry_of xs ∷ es) ≡ (entry_of xs).unused + unused_total es)
     go true z = rw z (refl, refl)
     go false z = rw z (omega arith, omega arith)

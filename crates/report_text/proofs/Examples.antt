@@ -3,19 +3,19 @@ use Prim.Native.Nat.{ℕ}
 use mathlib.Core.Path.{◌≡◌, refl}
 use mathlib.Core.List.{List, [], ◌∷◌, ◌++◌}
 use lib.ListN.{take, drop, set}
-use Rattle.spec.specs.Bytes.{tabulate, zeros, allZero, number}
-use Rattle.spec.specs.Tree.{parent, isAncestorWithin, isAncestor, some, covered, siblingToReveal, revealedFrom, revealed, nodeCount}
-use Rattle.spec.specs.Challenge.{bit_at, bits_at, index_at, clearAt}
-use Rattle.spec.specs.Shapes.{faest128f, resolved, level, nodeBytes, challengeBytes, leafCommitmentBytes, hashBytes, deeper, depth_of, firstBit, leaves, leafOf, shapeOk, hiddenIndex, hiddenLeaf, hiddenLeaves, grindingOk, plannedCount, openingBytes, correctionsBytes}
-use Rattle.spec.specs.Verifier.{slotsOk}
-use Rattle.spec.specs.Calls.{row_ok, nodesOk}
-use Rattle.record.specs.Fields.{fieldOk}
-use Rattle.spec.specs.Bytes.{bigEndian}
-use Rattle.record.specs.Record.{headBytes, versionOk, shapeIn, row_in, correctionsPlace, openingPlace, commitmentPlace, recordEnd, restOk, contentsOf}
-use Rattle.listing_text.specs.Text.{decimalWithin, decimal, refusedText, pairText}
+use Rattle.spec.specs.Bytes.{tabulate, zeros, all_zero, number}
+use Rattle.spec.specs.Tree.{parent, is_ancestor_within, is_ancestor, some, covered, sibling_to_reveal, revealed_from, revealed, node_count}
+use Rattle.spec.specs.Challenge.{bit_at, bits_at, index_at, clear_at}
+use Rattle.spec.specs.Shapes.{faest128f, resolved, level, node_bytes, challenge_bytes, leaf_commitment_bytes, hash_bytes, deeper, depth_of, first_bit, leaves, leaf_of, shape_ok, hidden_index, hidden_leaf, hidden_leaves, grinding_ok, planned_count, opening_bytes, corrections_bytes}
+use Rattle.spec.specs.Verifier.{slots_ok}
+use Rattle.spec.specs.Calls.{row_ok, nodes_ok}
+use Rattle.record.specs.Fields.{field_ok}
+use Rattle.spec.specs.Bytes.{big_endian}
+use Rattle.record.specs.Record.{head_bytes, version_ok, shape_in, row_in, corrections_place, opening_place, commitment_place, record_end, rest_ok, contents_of}
+use Rattle.listing_text.specs.Text.{decimal_within, decimal, refused_text, pair_text}
 use Rattle.report_text.specs.declared.Entry.{Entry}
-use Rattle.report_text.specs.Entries.{entryNumber, entry_of, entriesWithin, entries, accepted, sum_of, nodesTotal, unusedTotal}
-use Rattle.report_text.specs.Text.{lineText, lines_from, totalText, entriesText, reportText}
+use Rattle.report_text.specs.Entries.{entry_number, entry_of, entries_within, entries, accepted, sum_of, nodes_total, unused_total}
+use Rattle.report_text.specs.Text.{line_text, lines_from, total_text, entries_text, report_text}
 
 -- a field of n zeros, n below 256
 field : ℕ → List ℕ
@@ -34,16 +34,16 @@ full : List ℕ
 full = (1 ∷ 0 ∷ 0 ∷ 0 ∷ 9 ∷ 1 ∷ 2 ∷ 126 ∷ 0 ∷ 1 ∷ 0 ∷ 0 ∷ 0 ∷ 8 ∷ []) ++ (field 16 ++ (field 16 ++ (field 0 ++ (field 64 ++ field 32))))
 
 -- `total 0 0`; `1 refused 9` and `total 0 0`
-none : (reportText [] ≡ 116 ∷ 111 ∷ 116 ∷ 97 ∷ 108 ∷ 32 ∷ 48 ∷ 32 ∷ 48 ∷ 10 ∷ [])
-    × (reportText (7 ∷ [])
+none : (report_text [] ≡ 116 ∷ 111 ∷ 116 ∷ 97 ∷ 108 ∷ 32 ∷ 48 ∷ 32 ∷ 48 ∷ 10 ∷ [])
+    × (report_text (7 ∷ [])
     ≡ 49 ∷ 32 ∷ 114 ∷ 101 ∷ 102 ∷ 117 ∷ 115 ∷ 101 ∷ 100 ∷ 32 ∷ 57 ∷ 10 ∷ 116 ∷ 111 ∷ 116 ∷ 97 ∷ 108 ∷ 32 ∷ 48 ∷ 32 ∷ 48 ∷ 10 ∷ [])
-unfolding headBytes versionOk decimalWithin decimal refusedText pairText entryNumber entry_of entriesWithin accepted sum_of nodesTotal unusedTotal lineText lines_from totalText entriesText reportText
+unfolding head_bytes version_ok decimal_within decimal refused_text pair_text entry_number entry_of entries_within accepted sum_of nodes_total unused_total line_text lines_from total_text entries_text report_text
 none = (refl, refl)
 
 -- two records and a cut one: `1 1 1`, `2 1 1`, `3 refused 10`, `total 2 2`
-cut : reportText (one ++ (two ++ take 100 one))
+cut : report_text (one ++ (two ++ take 100 one))
     ≡ 49 ∷ 32 ∷ 49 ∷ 32 ∷ 49 ∷ 10 ∷ 50 ∷ 32 ∷ 49 ∷ 32 ∷ 49 ∷ 10 ∷ 51 ∷ 32 ∷ 114 ∷ 101 ∷ 102 ∷ 117 ∷ 115 ∷ 101 ∷ 100 ∷ 32 ∷ 49 ∷ 48 ∷ 10 ∷ 116 ∷ 111 ∷ 116 ∷ 97 ∷ 108 ∷ 32 ∷ 50 ∷ 32 ∷ 50 ∷ 10 ∷ []
-unfolding field one two tabulate zeros allZero number parent isAncestorWithin isAncestor some covered siblingToReveal revealedFrom revealed nodeCount bit_at bits_at index_at clearAt faest128f resolved level nodeBytes challengeBytes leafCommitmentBytes hashBytes deeper depth_of firstBit leaves leafOf shapeOk hiddenIndex hiddenLeaf hiddenLeaves grindingOk plannedCount openingBytes correctionsBytes slotsOk row_ok nodesOk bigEndian fieldOk headBytes versionOk shapeIn row_in correctionsPlace openingPlace commitmentPlace recordEnd restOk contentsOf decimalWithin decimal refusedText pairText entryNumber entry_of entriesWithin accepted sum_of nodesTotal unusedTotal lineText lines_from totalText entriesText reportText
+unfolding field one two tabulate zeros all_zero number parent is_ancestor_within is_ancestor some covered sibling_to_reveal revealed_from revealed node_count bit_at bits_at index_at clear_at faest128f resolved level node_bytes challenge_bytes leaf_commitment_bytes hash_bytes deeper depth_of first_bit leaves leaf_of shape_ok hidden_index hidden_leaf hidden_leaves grinding_ok planned_count opening_bytes corrections_bytes slots_ok row_ok nodes_ok big_endian field_ok head_bytes version_ok shape_in row_in corrections_place opening_place commitment_place record_end rest_ok contents_of decimal_within decimal refused_text pair_text entry_number entry_of entries_within accepted sum_of nodes_total unused_total line_text lines_from total_text entries_text report_text
 cut = refl
 
 numbers : List Entry → List ℕ
@@ -54,8 +54,8 @@ numbers (e ∷ es) = e.number ∷ numbers es
 refused : List ℕ
 refused = set one 53 128 ++ (full ++ (set one 141 1 ++ two))
 
-go_on : (numbers (entries refused) ≡ 4 ∷ 5 ∷ 6 ∷ 0 ∷ []) × (nodesTotal (entries refused) ≡ 1) × (unusedTotal (entries refused) ≡ 1)
-unfolding numbers refused field one two full tabulate zeros allZero number parent isAncestorWithin isAncestor some covered siblingToReveal revealedFrom revealed nodeCount bit_at bits_at index_at clearAt faest128f resolved level nodeBytes challengeBytes leafCommitmentBytes hashBytes deeper depth_of firstBit leaves leafOf shapeOk hiddenIndex hiddenLeaf hiddenLeaves grindingOk plannedCount openingBytes correctionsBytes slotsOk row_ok nodesOk bigEndian fieldOk headBytes versionOk shapeIn row_in correctionsPlace openingPlace commitmentPlace recordEnd restOk contentsOf entryNumber entry_of entriesWithin accepted sum_of nodesTotal unusedTotal
+go_on : (numbers (entries refused) ≡ 4 ∷ 5 ∷ 6 ∷ 0 ∷ []) × (nodes_total (entries refused) ≡ 1) × (unused_total (entries refused) ≡ 1)
+unfolding numbers refused field one two full tabulate zeros all_zero number parent is_ancestor_within is_ancestor some covered sibling_to_reveal revealed_from revealed node_count bit_at bits_at index_at clear_at faest128f resolved level node_bytes challenge_bytes leaf_commitment_bytes hash_bytes deeper depth_of first_bit leaves leaf_of shape_ok hidden_index hidden_leaf hidden_leaves grinding_ok planned_count opening_bytes corrections_bytes slots_ok row_ok nodes_ok big_endian field_ok head_bytes version_ok shape_in row_in corrections_place opening_place commitment_place record_end rest_ok contents_of entry_number entry_of entries_within accepted sum_of nodes_total unused_total
 go_on = (refl, refl, refl)
 
 -- tau 0, a row of 12 bits, another version and another length of the head, each before a record that is not read
@@ -63,5 +63,5 @@ stop : (numbers (entries (set one 5 0 ++ one)) ≡ 1 ∷ [])
     × (numbers (entries (one ++ (set one 13 12 ++ one))) ≡ 0 ∷ 2 ∷ [])
     × (numbers (entries (set one 0 9 ++ one)) ≡ 9 ∷ [])
     × (numbers (entries (set one 4 10 ++ one)) ≡ 10 ∷ [])
-unfolding numbers field one tabulate zeros allZero number parent isAncestorWithin isAncestor some covered siblingToReveal revealedFrom revealed nodeCount bit_at bits_at index_at clearAt faest128f resolved level nodeBytes challengeBytes leafCommitmentBytes hashBytes deeper depth_of firstBit leaves leafOf shapeOk hiddenIndex hiddenLeaf hiddenLeaves grindingOk plannedCount openingBytes correctionsBytes slotsOk row_ok nodesOk bigEndian fieldOk headBytes versionOk shapeIn row_in correctionsPlace openingPlace commitmentPlace recordEnd restOk contentsOf entryNumber entry_of entriesWithin
+unfolding numbers field one tabulate zeros all_zero number parent is_ancestor_within is_ancestor some covered sibling_to_reveal revealed_from revealed node_count bit_at bits_at index_at clear_at faest128f resolved level node_bytes challenge_bytes leaf_commitment_bytes hash_bytes deeper depth_of first_bit leaves leaf_of shape_ok hidden_index hidden_leaf hidden_leaves grinding_ok planned_count opening_bytes corrections_bytes slots_ok row_ok nodes_ok big_endian field_ok head_bytes version_ok shape_in row_in corrections_place opening_place commitment_place record_end rest_ok contents_of entry_number entry_of entries_within
 stop = (refl, refl, refl, refl)

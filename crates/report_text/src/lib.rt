@@ -1,10 +1,12 @@
 // The opening report, document 02, E14: the definitions stand in ../specs. Each function here puts a text of it at a place of the output and answers the place behind it.
+#![tactic(auto)]
+
 ghost use Rattle.std.specs.Prelude.{◌+◌, ◌<◌, ◌≤◌, length};
 ghost use Rattle.listing_text.specs.Put.{Put};
-ghost use Rattle.report_text.specs.Text.{lineText, totalText};
+ghost use Rattle.report_text.specs.Text.{line_text, total_text};
 
 // What the record that begins a string gives: 0 or the number of its refusal; with 0 its node count and its unused slots; and the bytes that it takes.
-#[derive(Drop)]
+#[derive(Clone, Copy)]
 pub struct Entry {
     pub number: usize,
     pub count: usize,
@@ -15,7 +17,7 @@ pub struct Entry {
 // A line: the place, a space, then the node count, a space and the unused slots, or the refusal.
 pub fn put_entry(out: &mut [u8], at: usize, place: usize, e: Entry) -> usize
     requires { (place < 100000) × (e.number < 100000) × (e.count < 10000000000) × (e.unused < 10000000000) × (at + 28 ≤ length out.old) }
-    ensures { Put (lineText place e) at out.old out.new result × (result ≤ at + 28) }
+    ensures { Put (line_text place e) at out.old out.new result × (result ≤ at + 28) }
 {
     let end = listing_text::put_decimal(out, at, place);
     let next = listing_text::put_byte(out, end, b' ');
@@ -28,7 +30,7 @@ pub fn put_entry(out: &mut [u8], at: usize, place: usize, e: Entry) -> usize
 // The last line: `total `, the nodes, a space and the unused slots.
 pub fn put_total(out: &mut [u8], at: usize, nodes: usize, unused: usize) -> usize
     requires { (nodes < 10000000000) × (unused < 10000000000) × (at + 28 ≤ length out.old) }
-    ensures { Put (totalText nodes unused) at out.old out.new result }
+    ensures { Put (total_text nodes unused) at out.old out.new result }
 {
     let end = listing_text::put_bytes(out, at, b"total ");
     listing_text::put_pair(out, end, nodes, unused)

@@ -1,11 +1,13 @@
 // Demand 3 over the three calls: commit, open and reconstruct, of whole rows or of a stretch of them, made one after another on lent buffers, each lent what the
 // calls before it wrote.
+#![tactic(auto)]
+
 ghost use Rattle.round_trip.specs.RoundTrip.{RoundTrip, RoundTripStretch};
 
 use spec::{Answer, Shape, Stretch};
 
 // The answers of the three calls.
-#[derive(Drop)]
+#[derive(Clone, Copy)]
 pub struct Answers {
     pub made: Answer,
     pub opened: Answer,
@@ -32,11 +34,11 @@ pub fn round_trip(
     q: &mut [u8],
 ) -> Answers
     ensures { RoundTrip shape row_bits root.now iv.now challenge.now
-        (record { commitment = commitment.entry.now; tree = tree.old; leafCommitments = leaf_commitments.old; u = u.old; v = v.old; corrections = corrections.old })
-        (record { commitment = commitment.exit.now; tree = tree.new; leafCommitments = leaf_commitments.new; u = u.new; v = v.new; corrections = corrections.new })
+        (record { commitment = commitment.entry.now; tree = tree.old; leaf_commitments = leaf_commitments.old; u = u.old; v = v.old; corrections = corrections.old })
+        (record { commitment = commitment.exit.now; tree = tree.new; leaf_commitments = leaf_commitments.new; u = u.new; v = v.new; corrections = corrections.new })
         opening.old opening.new
-        (record { commitment = commitment2.old; tree = tree2.old; leafCommitments = leaf_commitments2.old; q = q.old })
-        (record { commitment = commitment2.new; tree = tree2.new; leafCommitments = leaf_commitments2.new; q = q.new })
+        (record { commitment = commitment2.old; tree = tree2.old; leaf_commitments = leaf_commitments2.old; q = q.old })
+        (record { commitment = commitment2.new; tree = tree2.new; leaf_commitments = leaf_commitments2.new; q = q.new })
         result.made result.opened result.checked }
 {
     let made = signer::commit(
@@ -92,11 +94,11 @@ pub fn round_trip_stretch(
     q: &mut [u8],
 ) -> Answers
     ensures { RoundTripStretch shape row_bits stretch root.now iv.now challenge.now
-        (record { commitment = commitment.entry.now; tree = tree.old; leafCommitments = leaf_commitments.old; u = u.old; v = v.old; corrections = corrections.old })
-        (record { commitment = commitment.exit.now; tree = tree.new; leafCommitments = leaf_commitments.new; u = u.new; v = v.new; corrections = corrections.new })
+        (record { commitment = commitment.entry.now; tree = tree.old; leaf_commitments = leaf_commitments.old; u = u.old; v = v.old; corrections = corrections.old })
+        (record { commitment = commitment.exit.now; tree = tree.new; leaf_commitments = leaf_commitments.new; u = u.new; v = v.new; corrections = corrections.new })
         opening.old opening.new
-        (record { commitment = commitment2.old; tree = tree2.old; leafCommitments = leaf_commitments2.old; q = q.old })
-        (record { commitment = commitment2.new; tree = tree2.new; leafCommitments = leaf_commitments2.new; q = q.new })
+        (record { commitment = commitment2.old; tree = tree2.old; leaf_commitments = leaf_commitments2.old; q = q.old })
+        (record { commitment = commitment2.new; tree = tree2.new; leaf_commitments = leaf_commitments2.new; q = q.new })
         result.made result.opened result.checked }
 {
     let made = signer::commit_stretch(

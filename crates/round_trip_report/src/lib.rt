@@ -1,5 +1,7 @@
 // What a round trip found, as text on standard output: the answers of the three calls, the commitment of both halves, how many columns agree, and the
 // opened nodes.
+#![tactic(auto)]
+
 ghost use Rattle.std.specs.Prelude.{◌≤◌};
 
 use round_trip::Answers;

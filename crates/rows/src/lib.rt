@@ -1,5 +1,7 @@
 // The row of a seed, section 5.5.2 of document 000: added block by block to a sum of rows, so that outside the lent buffers no array has
 // more than 16 bytes of a row.
+#![tactic(auto)]
+
 ghost use Rattle.std.specs.Prelude.{◌≡◌, ℕ, ◌+◌, ◌-◌, ◌*◌, ◌%◌, ◌≤◌, ◌<◌, min, length, get_or};
 ghost use Rattle.spec.specs.Gf256.{SboxTable};
 ghost use Rattle.job.specs.Versions.{byte_of};

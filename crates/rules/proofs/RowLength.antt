@@ -6,7 +6,7 @@ use native.Mathlib.Omega.{arith}
 use lib.Dec.{eqb, leb}
 use borrow.Author.Tests.{leb-true}
 use Rattle.spec.specs.declared.Stretch.{Stretch}
-use Rattle.spec.specs.Calls.{row_ok, stretchOk}
+use Rattle.spec.specs.Calls.{row_ok, stretch_ok}
 use Rattle.laws.proofs.Calls.{stretch-within}
 use Rattle.laws.proofs.Conjunctions.{both_true}
 
@@ -18,5 +18,5 @@ row-max n h =
     let l = leb-true n 65536 (both_true (leb 8 n) (leb n 65536) q.1).1 in
     omega arith
 
-pub stretch-max : (n : ℕ) (z : Stretch) → row_ok n ≡ true → stretchOk (n / 8) z ≡ true → z.first + z.width ≤ 8192
+pub stretch-max : (n : ℕ) (z : Stretch) → row_ok n ≡ true → stretch_ok (n / 8) z ≡ true → z.first + z.width ≤ 8192
 stretch-max n z r h = (let a = row-max n r in let b = stretch-within (n / 8) z h in omega arith)

@@ -1,7 +1,9 @@
 // The shape rules of documents 01 and 02, and the numbers that a shape gives; and an answer made.
+#![tactic(auto)]
+
 ghost use Rattle.std.specs.Prelude.{◌≡◌, true, ◌+◌, ◌-◌, ◌*◌, ◌^◌, ◌<◌, ◌≤◌};
-ghost use Rattle.spec.specs.Shapes.{ordinary, resolved, level, nodeBytes, leafCommitmentBytes, hashBytes, rate, levelOk, shapeOk, deeper, depth_of, entriesOf, firstBit, firstEntry, leaves, leafOf};
-ghost use Rattle.spec.specs.Calls.{row_ok, stretchOk};
+ghost use Rattle.spec.specs.Shapes.{ordinary, resolved, level, node_bytes, leaf_commitment_bytes, hash_bytes, rate, level_ok, shape_ok, deeper, depth_of, entries_of, first_bit, first_entry, leaves, leaf_of};
+ghost use Rattle.spec.specs.Calls.{row_ok, stretch_ok};
 
 use spec::{Answer, Shape, Stretch};
 
@@ -33,14 +35,14 @@ pub fn resolve(s: Shape) -> Shape
 
 // Whether n is a level.
 fn is_level(n: usize) -> bool
-    ensures { result ≡ levelOk n }
+    ensures { result ≡ level_ok n }
 {
     (n == 128) | ((n == 192) | (n == 256))
 }
 
 // Whether the shape rules hold. The limits come first, so that the sum cannot overflow.
 pub fn is_shape(s: Shape) -> bool
-    ensures { result ≡ shapeOk s }
+    ensures { result ≡ shape_ok s }
 {
     let n = s.level;
     if 1 < s.kind {
@@ -90,7 +92,7 @@ pub fn is_row_length(n: usize) -> bool
 
 // Whether the stretch has a byte at least and lies within a row of b bytes. Nothing is added, so no numbers overflow.
 pub fn is_stretch(b: usize, z: Stretch) -> bool
-    ensures { result ≡ stretchOk b z }
+    ensures { result ≡ stretch_ok b z }
 {
     let f = z.first;
     let g = z.width;
@@ -110,7 +112,7 @@ fn power(d: usize) -> usize
 
 // The level in bits, which is also the number of columns of V and Q.
 pub fn level_bits(s: Shape) -> usize
-    requires { shapeOk s ≡ true }
+    requires { shape_ok s ≡ true }
     ensures { (result ≡ level s) × (result ≤ 256) }
 {
     s.level
@@ -118,8 +120,8 @@ pub fn level_bits(s: Shape) -> usize
 
 // The bytes of a node, of a seed and of a challenge.
 pub fn node_bytes(s: Shape) -> usize
-    requires { shapeOk s ≡ true }
-    ensures { (result ≡ nodeBytes s) × (16 ≤ result) × (result ≤ 32) }
+    requires { shape_ok s ≡ true }
+    ensures { (result ≡ node_bytes s) × (16 ≤ result) × (result ≤ 32) }
 {
     level_bits(s) / 8
 }
@@ -133,8 +135,8 @@ pub fn is_ordinary(s: Shape) -> bool
 
 // The bytes of a leaf commitment, and of a hash key where there is one.
 pub fn commitment_bytes(s: Shape) -> usize
-    requires { shapeOk s ≡ true }
-    ensures { (result ≡ leafCommitmentBytes s) × (result ≤ 96) }
+    requires { shape_ok s ≡ true }
+    ensures { (result ≡ leaf_commitment_bytes s) × (result ≤ 96) }
 {
     let n = node_bytes(s);
     if is_ordinary(s) { 3 * n } else { 2 * n }
@@ -142,15 +144,15 @@ pub fn commitment_bytes(s: Shape) -> usize
 
 // The bytes of a hash of leaf commitments and of the commitment.
 pub fn hash_bytes(s: Shape) -> usize
-    requires { shapeOk s ≡ true }
-    ensures { (result ≡ hashBytes s) × (result ≤ 64) }
+    requires { shape_ok s ≡ true }
+    ensures { (result ≡ hash_bytes s) × (result ≤ 64) }
 {
     2 * node_bytes(s)
 }
 
 // The rate of SHAKE in bytes.
 pub fn rate_bytes(s: Shape) -> usize
-    requires { shapeOk s ≡ true }
+    requires { shape_ok s ≡ true }
     ensures { (result ≡ rate s) × (0 < result) × (result ≤ 168) }
 {
     if s.level == 128 { 168 } else { 136 }
@@ -158,7 +160,7 @@ pub fn rate_bytes(s: Shape) -> usize
 
 // How many vectors are deeper than the others: r, the first r.
 pub fn deeper_count(s: Shape) -> usize
-    requires { shapeOk s ≡ true }
+    requires { shape_ok s ≡ true }
     ensures { (result ≡ deeper s) × (result < s.tau) }
 {
     level_bits(s) - s.w - s.tau * s.k
@@ -166,7 +168,7 @@ pub fn deeper_count(s: Shape) -> usize
 
 // The depth of vector i, the number of its bits and of its columns.
 pub fn depth_of(s: Shape, i: usize) -> usize
-    requires { shapeOk s ≡ true }
+    requires { shape_ok s ≡ true }
     ensures { (result ≡ depth_of s i) × (result ≤ 12) }
 {
     if i < deeper_count(s) { s.k + 1 } else { s.k }
@@ -174,24 +176,24 @@ pub fn depth_of(s: Shape, i: usize) -> usize
 
 // The number of entries of vector i.
 pub fn entry_count(s: Shape, i: usize) -> usize
-    requires { shapeOk s ≡ true }
-    ensures { (result ≡ entriesOf s i) × (1 ≤ result) × (result ≤ 4096) }
+    requires { shape_ok s ≡ true }
+    ensures { (result ≡ entries_of s i) × (1 ≤ result) × (result ≤ 4096) }
 {
     power(depth_of(s, i))
 }
 
 // The first bit, and the first column, of vector i; behind the last vector, those of the grinding bits.
 pub fn first_bit(s: Shape, i: usize) -> usize
-    requires { (shapeOk s ≡ true) × (i ≤ s.tau) }
-    ensures { (result ≡ firstBit s i) × (result ≤ level s) × (result ≤ 256) }
+    requires { (shape_ok s ≡ true) × (i ≤ s.tau) }
+    ensures { (result ≡ first_bit s i) × (result ≤ level s) × (result ≤ 256) }
 {
     i * s.k + numbers::min(i, deeper_count(s))
 }
 
 // The place of the first entry of vector i among the entries of all vectors, one vector after another.
 pub fn first_entry(s: Shape, i: usize) -> usize
-    requires { (shapeOk s ≡ true) × (i ≤ s.tau) }
-    ensures { (result ≡ firstEntry s i) × (result ≤ leaves s) × (result ≤ 86016) }
+    requires { (shape_ok s ≡ true) × (i ≤ s.tau) }
+    ensures { (result ≡ first_entry s i) × (result ≤ leaves s) × (result ≤ 86016) }
 {
     let k = s.k;
     (i + numbers::min(i, deeper_count(s))) << k
@@ -199,7 +201,7 @@ pub fn first_entry(s: Shape, i: usize) -> usize
 
 // L, the number of leaves.
 pub fn leaf_count(s: Shape) -> usize
-    requires { shapeOk s ≡ true }
+    requires { shape_ok s ≡ true }
     ensures { (result ≡ leaves s) × (1 ≤ result) × (result ≤ 86016) }
 {
     let n = s.tau;
@@ -208,8 +210,8 @@ pub fn leaf_count(s: Shape) -> usize
 
 // The place of entry j of vector i among the leaves of the tree: the entries below 2^k of all vectors are interleaved, and behind them those of the deeper vectors.
 fn leaf_place(s: Shape, i: usize, j: usize) -> usize
-    requires { (shapeOk s ≡ true) × (i < s.tau) × (j < entriesOf s i) }
-    ensures { (leafOf s i j ≡ leaves s - 1 + result) × (result < leaves s) × (result < 86016) }
+    requires { (shape_ok s ≡ true) × (i < s.tau) × (j < entries_of s i) }
+    ensures { (leaf_of s i j ≡ leaves s - 1 + result) × (result < leaves s) × (result < 86016) }
 {
     let near = power(s.k);
     if j < near {
@@ -220,16 +222,16 @@ fn leaf_place(s: Shape, i: usize, j: usize) -> usize
 
 // The node of entry j of vector i.
 pub fn leaf_of(s: Shape, i: usize, j: usize) -> usize
-    requires { (shapeOk s ≡ true) × (i < s.tau) × (j < entriesOf s i) }
-    ensures { (result ≡ leafOf s i j) × (leaves s ≤ result + 1) × (result + 1 < 2 * leaves s) × (result < 172032) }
+    requires { (shape_ok s ≡ true) × (i < s.tau) × (j < entries_of s i) }
+    ensures { (result ≡ leaf_of s i j) × (leaves s ≤ result + 1) × (result + 1 < 2 * leaves s) × (result < 172032) }
 {
     leaf_count(s) - 1 + leaf_place(s, i, j)
 }
 
 // The place of entry j of vector i among the entries of all vectors, one vector after another.
 pub fn entry_of(s: Shape, i: usize, j: usize) -> usize
-    requires { (shapeOk s ≡ true) × (i < s.tau) × (j < entriesOf s i) }
-    ensures { (result ≡ firstEntry s i + j) × (result < leaves s) × (result < 86016) }
+    requires { (shape_ok s ≡ true) × (i < s.tau) × (j < entries_of s i) }
+    ensures { (result ≡ first_entry s i + j) × (result < leaves s) × (result < 86016) }
 {
     first_entry(s, i) + j
 }

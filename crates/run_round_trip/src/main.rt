@@ -1,5 +1,7 @@
 // Commit, open and reconstruct at FAEST-128s and at two small shapes, and of a stretch of the rows at FAEST-128s, by the proved round trip: the answers, the
 // commitment of both halves, how many columns agree, and the opened nodes. `stdout` holds what reference/ derives (reference/round_trip.py).
+#![tactic(auto)]
+
 use spec::Shape;
 use test_support::lengths::{part, whole};
 use test_support::parts::words;

@@ -10,30 +10,30 @@ use lib.Seq.{take_all, take-append-le, drop-append-le, get_or-drop}
 use Rattle.laws.proofs.Division.{quotient, remainder}
 use Rattle.laws.proofs.Lists.{length-tabulate, length-zeros}
 use Rattle.laws.proofs.Numbers.{Digits}
-use Rattle.laws.proofs.Strings.{digits_append, length-xorBytes}
+use Rattle.laws.proofs.Strings.{digits_append, length-xor_bytes}
 use Rattle.spec.specs.Bytes.{part, zeros}
-use Rattle.spec.specs.Keccak.{theta, rho, pi, chi, iota, round, firstRounds, keccakF}
-use Rattle.spec.specs.Sponge.{xorIn, absorbed, padding, padded, absorbedAll}
+use Rattle.spec.specs.Keccak.{theta, rho, pi, chi, iota, round, first_rounds, keccak_f}
+use Rattle.spec.specs.Sponge.{xor_in, absorbed, padding, padded, absorbed_all}
 use Rattle.shake.specs.Absorbing.{Holds, Took}
-use Rattle.shake.proofs.XorIn.{xorIn-none, xorIn-more}
+use Rattle.shake.proofs.XorIn.{xor_in-none, xor_in-more}
 
 -- the permutation leaves 25 lanes
-rounds-length : (n : ℕ) (a : List ℕ) → length (firstRounds (suc n) a) ≡ 25
-unfolding firstRounds round iota chi
-rounds-length n a = length-set (chi (pi (rho (theta (firstRounds n a))))) 0 _ ∙ length-tabulate 25 _
+rounds-length : (n : ℕ) (a : List ℕ) → length (first_rounds (suc n) a) ≡ 25
+unfolding first_rounds round iota chi
+rounds-length n a = length-set (chi (pi (rho (theta (first_rounds n a))))) 0 _ ∙ length-tabulate 25 _
 
-keccak-length : (a : List ℕ) → length (keccakF a) ≡ 25
-unfolding keccakF
+keccak-length : (a : List ℕ) → length (keccak_f a) ≡ 25
+unfolding keccak_f
 keccak-length a = rounds-length 23 a
 
 absorbed-length : (r n : ℕ) (m : List ℕ) → length (absorbed r n m) ≡ 25
 unfolding absorbed
 absorbed-length r zero m = length-zeros 25
-absorbed-length r (suc n) m = keccak-length (xorIn (absorbed r n m) (part m (r * n) r))
+absorbed-length r (suc n) m = keccak-length (xor_in (absorbed r n m) (part m (r * n) r))
 
 -- the full blocks of m, with nothing behind them xored in
-blocks_end : (r n : ℕ) (m : List ℕ) → length m ≤ r * n → xorIn (absorbed r n m) (drop (r * n) m) ≡ absorbed r n m
-blocks_end r n m h = ap (xorIn (absorbed r n m)) (drop_of_length-le m h) ∙ xorIn-none (absorbed r n m) (absorbed-length r n m)
+blocks_end : (r n : ℕ) (m : List ℕ) → length m ≤ r * n → xor_in (absorbed r n m) (drop (r * n) m) ≡ absorbed r n m
+blocks_end r n m h = ap (xor_in (absorbed r n m)) (drop_of_length-le m h) ∙ xor_in-none (absorbed r n m) (absorbed-length r n m)
 
 -- what comes behind the first n blocks does not change their state
 absorbed-more : (r n : ℕ) (m p : List ℕ) → r * n ≤ length m → absorbed r n (m ++ p) ≡ absorbed r n m
@@ -43,7 +43,7 @@ absorbed-more r (suc n) m p h =
     let e : r * suc n ≡ r * n + r = mul-suc r n in
     let before : r * n ≤ length m = omega arith in
     let whole : r ≤ length (drop (r * n) m) = rw length-drop (omega arith) in
-    ap₂ (λ (a b : List ℕ). keccakF (xorIn a b)) (absorbed-more r n m p before)
+    ap₂ (λ (a b : List ℕ). keccak_f (xor_in a b)) (absorbed-more r n m p before)
     (ap (take r) (drop-append-le (r * n) m p before) ∙ take-append-le r (drop (r * n) m) p whole)
 
 -- nothing yet
@@ -61,16 +61,16 @@ holds-none r h =
 -- a part p comes in: it is xored in behind fill zeros, with n zeros behind it
 module _ (r : ℕ) (m lanes : List ℕ) (fill : ℕ) (p : List ℕ) (n : ℕ) (h : Holds r m lanes fill) (hp : Digits 8 p) where
   abbrev next : List ℕ
-  next = xorIn lanes (zeros fill ++ (p ++ zeros n))
+  next = xor_in lanes (zeros fill ++ (p ++ zeros n))
 
-  after : next ≡ xorIn (absorbed r h.full (m ++ p)) (drop (r * h.full) (m ++ p))
+  after : next ≡ xor_in (absorbed r h.full (m ++ p)) (drop (r * h.full) (m ++ p))
   after =
       let q = r * h.full in
       let le : q ≤ length m = omega (arith, h.count) in
       let e : length (drop q m) ≡ fill = rw length-drop (omega (arith, h.count)) in
-      ap₂ (λ (a b : List ℕ). xorIn a (b ++ (p ++ zeros n))) h.state (ap zeros (sym e))
-      ∙ xorIn-more (absorbed r h.full m) (drop q m) p n (λ i. rw get_or-drop (h.small (q + i))) hp
-      ∙ ap₂ xorIn (sym (absorbed-more r h.full m p le)) (sym (drop-append-le q m p le))
+      ap₂ (λ (a b : List ℕ). xor_in a (b ++ (p ++ zeros n))) h.state (ap zeros (sym e))
+      ∙ xor_in-more (absorbed r h.full m) (drop q m) p n (λ i. rw get_or-drop (h.small (q + i))) hp
+      ∙ ap₂ xor_in (sym (absorbed-more r h.full m p le)) (sym (drop-append-le q m p le))
 
   -- the block stays open
   holds-part : fill + length p < r → Holds r (m ++ p) next (fill + length p)
@@ -84,7 +84,7 @@ module _ (r : ℕ) (m lanes : List ℕ) (fill : ℕ) (p : List ℕ) (n : ℕ) (h
       }
 
   -- the part ends the block
-  holds-full : fill + length p ≡ r → Holds r (m ++ p) (keccakF next) 0
+  holds-full : fill + length p ≡ r → Holds r (m ++ p) (keccak_f next) 0
   unfolding absorbed
   holds-full fits =
       let q = h.full in
@@ -97,16 +97,16 @@ module _ (r : ℕ) (m lanes : List ℕ) (fill : ℕ) (p : List ℕ) (n : ℕ) (h
         room = omega (arith, h.room);
         small = digits_append 8 m p h.small hp;
         state =
-            ap keccakF (after ∙ ap (xorIn (absorbed r q (m ++ p))) (sym (take_all r (drop (r * q) (m ++ p)) last)))
+            ap keccak_f (after ∙ ap (xor_in (absorbed r q (m ++ p))) (sym (take_all r (drop (r * q) (m ++ p)) last)))
             ∙ sym (blocks_end r (suc q) (m ++ p) (omega arith));
       }
 
 -- the same, whatever m is
 module _ {r : ℕ} {lanes : List ℕ} {fill : ℕ} {p lanes' : List ℕ} (n : ℕ) (hp : Digits 8 p) where
-  pub took-part : fill + length p < r → lanes' ≡ xorIn lanes (zeros fill ++ (p ++ zeros n)) → Took r lanes fill p lanes' (fill + length p)
+  pub took-part : fill + length p < r → lanes' ≡ xor_in lanes (zeros fill ++ (p ++ zeros n)) → Took r lanes fill p lanes' (fill + length p)
   took-part fits e = record { room = fits; holds = λ m h. rw e (holds-part r m lanes fill p n h hp fits) }
 
-  pub took-full : {fill' : ℕ} → fill + length p ≡ r → 0 < r → lanes' ≡ keccakF (xorIn lanes (zeros fill ++ (p ++ zeros n))) → fill' ≡ 0
+  pub took-full : {fill' : ℕ} → fill + length p ≡ r → 0 < r → lanes' ≡ keccak_f (xor_in lanes (zeros fill ++ (p ++ zeros n))) → fill' ≡ 0
       → Took r lanes fill p lanes' fill'
   took-full fits pos e e' = record { room = rw e' pos; holds = λ m h. rw (e, e') (holds-full r m lanes fill p n h hp fits) }
 
@@ -122,11 +122,11 @@ pub length-padding : (suffix n : ℕ) → 0 < n → length (padding suffix n) �
 unfolding padding
 length-padding suffix n h =
     let e : suc (length (zeros (n - 1))) ≡ n = rw length-zeros (omega arith) in
-    length-xorBytes (suffix ∷ zeros (n - 1)) (zeros (n - 1) ++ (128 ∷ [])) (rw length-append (omega arith)) ∙ e
+    length-xor_bytes (suffix ∷ zeros (n - 1)) (zeros (n - 1) ++ (128 ∷ [])) (rw length-append (omega arith)) ∙ e
 
 module _ (r suffix : ℕ) (m lanes : List ℕ) (fill : ℕ) (h : Holds r m lanes fill) where
-  pub holds-all : (lanes' : List ℕ) (fill' : ℕ) → Holds r (m ++ padding suffix (r - fill)) lanes' fill' → lanes' ≡ absorbedAll r suffix m
-  unfolding absorbedAll padded
+  pub holds-all : (lanes' : List ℕ) (fill' : ℕ) → Holds r (m ++ padding suffix (r - fill)) lanes' fill' → lanes' ≡ absorbed_all r suffix m
+  unfolding absorbed_all padded
   holds-all lanes' fill' h' =
       let p : List ℕ = m ++ padding suffix (r - fill) in
       let rest : length m % r ≡ fill = ap (λ (n : ℕ). n % r) h.count ∙ remainder r h.full h.room in

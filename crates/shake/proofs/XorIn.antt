@@ -10,16 +10,16 @@ use Rattle.laws.proofs.Numbers.{Digits}
 use Rattle.laws.proofs.Strings.{digits-zeros, digits_append, number-xor, append-xor}
 use Rattle.laws.proofs.Xor.{xor_assoc}
 use Rattle.spec.specs.Bytes.{zeros, number}
-use Rattle.spec.specs.Sponge.{lane_of, xorIn}
+use Rattle.spec.specs.Sponge.{lane_of, xor_in}
 
 -- a lane past the end of the string
 pub lane-none : (p : List ℕ) (j : ℕ) → length p ≤ 8 * j → lane_of p j ≡ 0
 unfolding lane_of number
 lane-none p j h = rw (drop_of_length-le p h)
 
-pub xorIn-none : (s : List ℕ) → length s ≡ 25 → xorIn s [] ≡ s
-unfolding xorIn
-xorIn-none s e =
+pub xor_in-none : (s : List ℕ) → length s ≡ 25 → xor_in s [] ≡ s
+unfolding xor_in
+xor_in-none s e =
     sym (is-tabulate 25 (λ j. bit_xor (get_or s j 0) (lane_of [] j)) 0 s e
     (λ j lt. sym (ap (bit_xor (get_or s j 0)) (lane-none [] j (omega arith)) ∙ xor_zero_r (get_or s j 0))))
 
@@ -35,10 +35,10 @@ module _ (s t p : List ℕ) (n : ℕ) (ht : Digits 8 t) (hp : Digits 8 p) where
       (digits_append 8 (zeros (length t)) (p ++ zeros n) (digits-zeros 8 (length t)) (digits_append 8 p (zeros n) hp (digits-zeros 8 n)))
       (append-xor t p n) (8 * j) 8
 
-  pub xorIn-more : xorIn (xorIn s t) later ≡ xorIn s (t ++ p)
-  unfolding xorIn
-  xorIn-more =
-      tabulate-same 25 (λ j. bit_xor (get_or (xorIn s t) j 0) (lane_of later j)) (λ j. bit_xor (get_or s j 0) (lane_of (t ++ p) j))
+  pub xor_in-more : xor_in (xor_in s t) later ≡ xor_in s (t ++ p)
+  unfolding xor_in
+  xor_in-more =
+      tabulate-same 25 (λ j. bit_xor (get_or (xor_in s t) j 0) (lane_of later j)) (λ j. bit_xor (get_or s j 0) (lane_of (t ++ p) j))
       (λ j lt.
       ap (λ (x : ℕ). bit_xor x (lane_of later j)) (get_d_tabulate 25 (λ j. bit_xor (get_or s j 0) (lane_of t j)) j 0 lt)
       ∙ xor_assoc (get_or s j 0) (lane_of t j) (lane_of later j)

@@ -1,6 +1,6 @@
 -- FIPS 202, Algorithm 8, between the parts of a message: what a sponge at the rate r has absorbed when its last block is not full yet.
 use Rattle.std.specs.Prelude.{ℕ, ◌+◌, ◌*◌, ◌<◌, ◌≡◌, List, ◌++◌, length, get_or, drop}
-use Rattle.spec.specs.Sponge.{xorIn, absorbed}
+use Rattle.spec.specs.Sponge.{xor_in, absorbed}
 
 -- the sponge (lanes, fill) has absorbed the bytes m: the full blocks are permuted, the last fill bytes only xored in
 pub record Holds (r : ℕ) (m lanes : List ℕ) (fill : ℕ) : Type 0 where
@@ -8,7 +8,7 @@ pub record Holds (r : ℕ) (m lanes : List ℕ) (fill : ℕ) : Type 0 where
   pub count : length m ≡ r * full + fill
   pub room : fill < r
   pub small : (i : ℕ) → get_or m i 0 < 256
-  pub state : lanes ≡ xorIn (absorbed r full m) (drop (r * full) m)
+  pub state : lanes ≡ xor_in (absorbed r full m) (drop (r * full) m)
 
 -- the sponge (lanes, fill) has become (lanes', fill') by absorbing the bytes p, whatever it had absorbed before
 pub record Took (r : ℕ) (lanes : List ℕ) (fill : ℕ) (p lanes' : List ℕ) (fill' : ℕ) : Type 0 where

@@ -1,14 +1,16 @@
 // The sponge of FIPS 202, section 4, with the suffix and padding of SHAKE (section 6.2), and the hashes H0 and H1 of document 000, section 3.3.
 // The rate, in bytes, is a parameter: 168 is SHAKE128, 136 SHAKE256. A block has room for the larger; at rate 136 its last 32 bytes stay zeros.
+#![tactic(auto)]
+
 ghost use Rattle.std.specs.Prelude.{◌≡◌, List, [], ◌∷◌, ◌++◌, ℕ, ◌+◌, ◌-◌, ◌<◌, ◌≤◌, length, take};
 ghost use Rattle.spec.specs.Bytes.{tabulate, zeros, number, digits};
-ghost use Rattle.spec.specs.Keccak.{keccakF};
-ghost use Rattle.spec.specs.Sponge.{xorIn, stateByte, padding, absorbedAll, outputByte, shakeSuffix, shake};
+ghost use Rattle.spec.specs.Keccak.{keccak_f};
+ghost use Rattle.spec.specs.Sponge.{xor_in, state_byte, padding, absorbed_all, output_byte, shake_suffix, shake};
 ghost use Rattle.spec.specs.Hashes.{hash0, hash1};
 ghost use Rattle.shake.specs.Absorbing.{Holds, Took};
 
 // The state, and how many bytes of a block that is not full yet are xored into it.
-#[derive(Drop)]
+#[derive(Clone, Copy)]
 pub struct Sponge {
     pub lanes: [u64; 25],
     pub fill: usize,
@@ -39,7 +41,7 @@ fn load_lane(p: &[u8]) -> u64
 
 // The lanes xored with a block.
 fn xor_block(s: [u64; 25], block: [u8; 168]) -> [u64; 25]
-    ensures { result ≡ xorIn s block }
+    ensures { result ≡ xor_in s block }
 {
     let mut t = s;
     let mut j = 0;
@@ -65,7 +67,7 @@ fn place(at: usize, part: &[u8]) -> [u8; 168]
 
 // The state permuted, with nothing of the next block in it.
 fn permute(s: Sponge) -> Sponge
-    ensures { (result.lanes ≡ keccakF s.lanes) × (result.fill ≡ 0) }
+    ensures { (result.lanes ≡ keccak_f s.lanes) × (result.fill ≡ 0) }
 {
     let lanes = s.lanes;
     let permuted = keccak::keccak_f(lanes);
@@ -129,7 +131,7 @@ pub fn absorb(s: Sponge, rate: usize, message: &[u8]) -> Sponge
 // A block whose first n bytes are the suffix of SHAKE and the padding.
 fn padding_block(n: usize) -> [u8; 168]
     requires { (0 < n) × (n ≤ 168) }
-    ensures { take n result ≡ padding shakeSuffix n }
+    ensures { take n result ≡ padding shake_suffix n }
 {
     let mut block = [0u8; 168];
     block[0] = 0x1f;
@@ -142,7 +144,7 @@ fn padding_block(n: usize) -> [u8; 168]
 // Absorbs the suffix and the padding.
 pub fn finish(s: Sponge, rate: usize) -> Sponge
     requires { (rate ≤ 168) × (s.fill < rate) }
-    ensures { (m : List ℕ) → Holds rate m s.lanes s.fill → result.lanes ≡ absorbedAll rate shakeSuffix m }
+    ensures { (m : List ℕ) → Holds rate m s.lanes s.fill → result.lanes ≡ absorbed_all rate shake_suffix m }
 {
     let fill = s.fill;
     let n = rate - fill;
@@ -164,7 +166,7 @@ fn store_lane(x: u64, out: &mut [u8])
 
 // The first 168 bytes of the state.
 fn state_bytes(s: [u64; 25]) -> [u8; 168]
-    ensures { result ≡ tabulate 168 (stateByte s) }
+    ensures { result ≡ tabulate 168 (state_byte s) }
 {
     let mut block = [0u8; 168];
     let mut j = 0;
@@ -180,7 +182,7 @@ fn state_bytes(s: [u64; 25]) -> [u8; 168]
 // Fills out, a block at most, with the first bytes of the state.
 fn squeeze_part(s: Sponge, out: &mut [u8])
     requires { length out.old ≤ 168 }
-    ensures { out.new ≡ tabulate (length out.old) (stateByte s.lanes) }
+    ensures { out.new ≡ tabulate (length out.old) (state_byte s.lanes) }
 {
     let lanes = s.lanes;
     let block = state_bytes(lanes);
@@ -191,7 +193,7 @@ fn squeeze_part(s: Sponge, out: &mut [u8])
 // Fills out with the output of a sponge that is finished.
 pub fn squeeze(s: Sponge, rate: usize, out: &mut [u8])
     requires { (rate ≤ 168) × (0 < rate) }
-    ensures { out.new ≡ tabulate (length out.old) (outputByte rate s.lanes) }
+    ensures { out.new ≡ tabulate (length out.old) (output_byte rate s.lanes) }
 {
     let mut t = s;
     let mut at = 0;

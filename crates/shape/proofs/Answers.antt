@@ -7,23 +7,23 @@ use lib.ListN.{take, drop}
 use borrow.Author.Tests.{ne_eqb}
 use Rattle.spec.specs.declared.Shape.{Shape}
 use Rattle.spec.specs.declared.Answer.{Answer}
-use Rattle.spec.specs.Shapes.{resolved, hiddenIndices, planned, plannedCount}
-use Rattle.spec.specs.Calls.{decodeLengths, decodeNumber, Decode, planLengths, planNumber, Plan}
+use Rattle.spec.specs.Shapes.{resolved, hidden_indices, planned, planned_count}
+use Rattle.spec.specs.Calls.{decode_lengths, decode_number, Decode, plan_lengths, plan_number, Plan}
 use Rattle.refusals.specs.Numbers.{Answered}
 
 module _ (s t : Shape) (e : t ≡ resolved s) (ch xs : List ℕ) (r : Answer) where
-  module _ (k : ℕ) (d : k ≡ decodeNumber t ch (decodeLengths t ch xs)) where
+  module _ (k : ℕ) (d : k ≡ decode_number t ch (decode_lengths t ch xs)) where
     pub decode-refused : (k ≡ 0 → ⊥) → (r.number ≡ k) × (r.count ≡ 0) → Decode s ch xs xs r
     decode-refused h a = record { number = rw e at (a.0 ∙ d); count = a.1; indices = rw (a.0, ne_eqb k 0 h) refl }
 
-    pub decode-written : (ys : List ℕ) → k ≡ 0 → ys ≡ hiddenIndices t ch → (r.number ≡ 0) × (r.count ≡ 0) → Decode s ch xs ys r
+    pub decode-written : (ys : List ℕ) → k ≡ 0 → ys ≡ hidden_indices t ch → (r.number ≡ 0) × (r.count ≡ 0) → Decode s ch xs ys r
     decode-written ys z w a = record { number = rw e at (a.0 ∙ sym z ∙ d); count = a.1; indices = rw a.0 (rw e at w) }
 
-  module _ (a : Answered (planNumber t ch (planLengths t ch xs)) (plannedCount t ch) r) where
+  module _ (a : Answered (plan_number t ch (plan_lengths t ch xs)) (planned_count t ch) r) where
     pub plan-refused : (r.number ≡ 0 → ⊥) → Plan s ch xs xs r
     plan-refused h = record { number = rw e at a.0; count = rw e at a.1; nodes = rw (ne_eqb r.number 0 h) refl }
 
-    pub plan-written : (ys list : List ℕ) → r.number ≡ 0 → r.count ≡ plannedCount t ch → take r.count list ≡ planned t ch → ys ≡ take r.count list ++ drop r.count xs → Plan s ch xs ys r
+    pub plan-written : (ys list : List ℕ) → r.number ≡ 0 → r.count ≡ planned_count t ch → take r.count list ≡ planned t ch → ys ≡ take r.count list ++ drop r.count xs → Plan s ch xs ys r
     plan-written ys list z c l w =
-        let new : ys ≡ planned t ch ++ drop (plannedCount t ch) xs = w ∙ ap (λ (zs : List ℕ). zs ++ drop r.count xs) l ∙ ap (λ (m : ℕ). planned t ch ++ drop m xs) c in
+        let new : ys ≡ planned t ch ++ drop (planned_count t ch) xs = w ∙ ap (λ (zs : List ℕ). zs ++ drop r.count xs) l ∙ ap (λ (m : ℕ). planned t ch ++ drop m xs) c in
         record { number = rw e at a.0; count = rw e at a.1; nodes = rw z (rw e at new) }

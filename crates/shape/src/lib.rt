@@ -1,4 +1,6 @@
 // The public calls decode and plan.
+#![tactic(auto)]
+
 ghost use Rattle.std.specs.Prelude.{◌≡◌, ◌≤◌, length, take, drop, ◌++◌};
 ghost use Rattle.spec.specs.Calls.{Decode, Plan};
 

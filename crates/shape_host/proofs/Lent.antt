@@ -8,9 +8,9 @@ use lib.Dec.{eqb}
 use lib.ListN.{length}
 use borrow.Author.Tests.{eqb-true, eq-eqb}
 use Rattle.spec.specs.declared.Shape.{Shape}
-use Rattle.spec.specs.Shapes.{shapeOk, challengeBytes}
-use Rattle.spec.specs.Calls.{fits, countGiven}
-use Rattle.spec.specs.HostCalls.{withCount, hostListLengths}
+use Rattle.spec.specs.Shapes.{shape_ok, challenge_bytes}
+use Rattle.spec.specs.Calls.{fits, count_given}
+use Rattle.spec.specs.HostCalls.{with_count, host_list_lengths}
 use Rattle.laws.proofs.Lengths.{fits-sized}
 
 -- what `numbers_in` ensures
@@ -24,40 +24,40 @@ reordered false true c = refl
 reordered false false c = refl
 
 -- where the count is given, shape and lengths have been tested
-both-passed : (a b : Bool) (x : ℕ) → countGiven (cond a (cond b x 3) 1) ≡ true → (a ≡ true) × (b ≡ true)
+both-passed : (a b : Bool) (x : ℕ) → count_given (cond a (cond b x 3) 1) ≡ true → (a ≡ true) × (b ≡ true)
 both-passed true true x h = (refl, refl)
 both-passed true false x h = absurd (true≢false (sym h))
 both-passed false b x h = absurd (true≢false (sym h))
 
 -- a call whose slices have their lengths, with a list of `room` numbers
 pub record Right (s : Shape) (before count : List ℕ) (n room : ℕ) : Type 0 where
-  pub shape : shapeOk s ≡ true
+  pub shape : shape_ok s ≡ true
   pub counted : length count ≡ 4
   pub long : length before ≡ 4 * room
   pub numbers : n ≡ room
 
 -- `later` is the number of the tests after that of the lengths
-module _ (s : Shape) (ch before count xs : List ℕ) (n most room later : ℕ) (l : length xs ≡ n) (f : Lent before count n most) (small : shapeOk s ≡ true → room < most) where
+module _ (s : Shape) (ch before count xs : List ℕ) (n most room later : ℕ) (l : length xs ≡ n) (f : Lent before count n most) (small : shape_ok s ≡ true → room < most) where
   abbrev Lengths : List (ℕ × ℕ)
-  Lengths = withCount count (hostListLengths s room ch before)
+  Lengths = with_count count (host_list_lengths s room ch before)
 
   -- what the call beneath compares
   abbrev Beneath : List (ℕ × ℕ)
-  Beneath = (length ch, challengeBytes s) ∷ (length xs, room) ∷ []
+  Beneath = (length ch, challenge_bytes s) ∷ (length xs, room) ∷ []
 
   same-fit : room < most → fits Beneath ≡ fits Lengths
-  same-fit h = rw (l, f room h) (reordered (eqb (length count) 4) (eqb (length ch) (challengeBytes s)) (eqb (length before) (4 * room)))
+  same-fit h = rw (l, f room h) (reordered (eqb (length count) 4) (eqb (length ch) (challenge_bytes s)) (eqb (length before) (4 * room)))
 
-  pub same_number : cond (shapeOk s) (cond (fits Beneath) later 3) 1 ≡ cond (shapeOk s) (cond (fits Lengths) later 3) 1
-  same_number = go (shapeOk s) refl
+  pub same_number : cond (shape_ok s) (cond (fits Beneath) later 3) 1 ≡ cond (shape_ok s) (cond (fits Lengths) later 3) 1
+  same_number = go (shape_ok s) refl
     where
-      go : (b : Bool) → shapeOk s ≡ b → cond (shapeOk s) (cond (fits Beneath) later 3) 1 ≡ cond (shapeOk s) (cond (fits Lengths) later 3) 1
+      go : (b : Bool) → shape_ok s ≡ b → cond (shape_ok s) (cond (fits Beneath) later 3) 1 ≡ cond (shape_ok s) (cond (fits Lengths) later 3) 1
       go false e = rw e refl
-      go true e = ap (λ (x : Bool). cond (shapeOk s) (cond x later 3) 1) (same-fit (small e))
+      go true e = ap (λ (x : Bool). cond (shape_ok s) (cond x later 3) 1) (same-fit (small e))
 
-  pub right : (number : ℕ) → number ≡ cond (shapeOk s) (cond (fits Lengths) later 3) 1 → countGiven number ≡ true → Right s before count n room
+  pub right : (number : ℕ) → number ≡ cond (shape_ok s) (cond (fits Lengths) later 3) 1 → count_given number ≡ true → Right s before count n room
   right number e h =
-      let q = both-passed (shapeOk s) (fits Lengths) later (rw e at h) in
+      let q = both-passed (shape_ok s) (fits Lengths) later (rw e at h) in
       let z = fits-sized Lengths q.1 in
       record {
         shape = q.0;

@@ -2,22 +2,22 @@
 -- call's name is the exported call's contract, as in `HostCalls`.
 use Rattle.std.specs.Prelude.{ℕ, ◌*◌, ◌/◌, ◌≡◌, List, [], ◌∷◌, length}
 use Rattle.spec.specs.declared.Shape.{Shape}
-use Rattle.spec.specs.Shapes.{resolved, leaves, nodeBytes, hashBytes, treeBytes, leafCommitmentsBytes, openingBytes, matrixBytes, correctionsBytes}
-use Rattle.spec.specs.Calls.{written, commitNumber}
+use Rattle.spec.specs.Shapes.{resolved, leaves, node_bytes, hash_bytes, tree_bytes, leaf_commitments_bytes, opening_bytes, matrix_bytes, corrections_bytes}
+use Rattle.spec.specs.Calls.{written, commit_number}
 use Rattle.spec.specs.HostCalls.{word_bytes}
 
 -- s is a resolved shape and b the length of a row: the leaves; the bytes of a node, of the commitment, of the lists of indices and of nodes, of the tree, of the leaf
 -- commitments, of u, of V and Q, of the corrections, of the opening
-abbrev pub lengthWords : Shape → ℕ → List ℕ
-lengthWords s b =
+abbrev pub length_words : Shape → ℕ → List ℕ
+length_words s b =
     leaves s
-    ∷ nodeBytes s
-    ∷ hashBytes s
+    ∷ node_bytes s
+    ∷ hash_bytes s
     ∷ 4 * s.tau
     ∷ 4 * s.t
-    ∷ treeBytes s ∷ leafCommitmentsBytes s ∷ b ∷ matrixBytes s b ∷ correctionsBytes s b ∷ openingBytes s ∷ []
+    ∷ tree_bytes s ∷ leaf_commitments_bytes s ∷ b ∷ matrix_bytes s b ∷ corrections_bytes s b ∷ opening_bytes s ∷ []
 
 -- the tests are those of commit, with one slice
 pub record HostLengths (s : Shape) (n : ℕ) (before after : List ℕ) (r : ℕ) : Type 0 where
-  pub number : r ≡ commitNumber (resolved s) n ((length before, 44) ∷ [])
-  pub lengths : after ≡ written r (word_bytes (lengthWords (resolved s) (n / 8))) before
+  pub number : r ≡ commit_number (resolved s) n ((length before, 44) ∷ [])
+  pub lengths : after ≡ written r (word_bytes (length_words (resolved s) (n / 8))) before

@@ -1,9 +1,11 @@
 // Planning for a C host: decode and plan on numbers and byte slices, and the lengths of a shape's buffers. The call beneath is lent the front of a local list, as long as the slice says, and a front that no
 // shape has where a slice has another length.
+#![tactic(auto)]
+
 ghost use Rattle.std.specs.Prelude.{◌≡◌, true, ◌≤◌, length};
-ghost use Rattle.spec.specs.Shapes.{shapeOk};
+ghost use Rattle.spec.specs.Shapes.{shape_ok};
 ghost use Rattle.spec.specs.HostCalls.{HostDecode, HostPlan};
-ghost use Rattle.shape_host.specs.LengthCalls.{lengthWords, HostLengths};
+ghost use Rattle.shape_host.specs.LengthCalls.{length_words, HostLengths};
 
 use spec::Shape;
 
@@ -107,8 +109,8 @@ pub extern "C" fn rachnoel_plan(
 
 // The lengths of a resolved shape with rows of b bytes, in the order of the call.
 fn length_words(s: Shape, b: usize) -> [u32; 11]
-    requires { (shapeOk s ≡ true) × (b ≤ 8192) }
-    ensures { result ≡ lengthWords s b }
+    requires { (shape_ok s ≡ true) × (b ≤ 8192) }
+    ensures { result ≡ length_words s b }
 {
     [
         rules::leaf_count(s) as u32,

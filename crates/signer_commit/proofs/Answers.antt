@@ -9,13 +9,13 @@ use Rattle.spec.specs.declared.Stretch.{Stretch}
 use Rattle.spec.specs.declared.Answer.{Answer}
 use Rattle.spec.specs.Shapes.{resolved}
 use Rattle.spec.specs.Primitives.{faest}
-use Rattle.spec.specs.Leaves.{leafCommitments, commitmentOf}
-use Rattle.spec.specs.Rows.{stretchByte, matrixOf}
-use Rattle.spec.specs.Signer.{signerTree, signerLeafCommitment, signerU, signerColumn, corrections}
-use Rattle.spec.specs.Calls.{Committed, committed, commitLengths, commitStretchNumber, CommitStretch}
+use Rattle.spec.specs.Leaves.{leaf_commitments, commitment_of}
+use Rattle.spec.specs.Rows.{stretch_byte, matrix_of}
+use Rattle.spec.specs.Signer.{signer_tree, signer_leaf_commitment, signer_u, signer_column, corrections}
+use Rattle.spec.specs.Calls.{Committed, committed, commit_lengths, commit_stretch_number, CommitStretch}
 
 module _ (s t : Shape) (e : t ≡ resolved s) (n : ℕ) (z : Stretch) (root iv : List ℕ) (x : Committed) (r : Answer) where
-  module _ (k : ℕ) (d : k ≡ commitStretchNumber t n z (commitLengths t z.width root iv x)) where
+  module _ (k : ℕ) (d : k ≡ commit_stretch_number t n z (commit_lengths t z.width root iv x)) where
     pub refused : (k ≡ 0 → ⊥) → (r.number ≡ k) × (r.count ≡ 0) → CommitStretch faest s n z root iv x x r
     refused h a = record { number = rw e at (a.0 ∙ d); count = a.1; buffers = rw (a.0, ne_eqb k 0 h) refl }
 
@@ -26,22 +26,22 @@ module _ (s t : Shape) (e : t ≡ resolved s) (n : ℕ) (z : Stretch) (root iv :
 
 module _ (s : Shape) (z : Stretch) (root iv : List ℕ) where
   abbrev Row : List ℕ → ℕ → ℕ → ℕ → ℕ
-  Row tree = stretchByte faest s z iv tree
+  Row tree = stretch_byte faest s z iv tree
 
   -- the buffers of a tree
   from : List ℕ → Committed
   from tree =
       record {
-        commitment = commitmentOf faest s (signerLeafCommitment faest s iv tree);
+        commitment = commitment_of faest s (signer_leaf_commitment faest s iv tree);
         tree = tree;
-        leafCommitments = leafCommitments s (signerLeafCommitment faest s iv tree);
-        u = signerU s z.width (Row tree);
-        v = matrixOf s z.width (signerColumn s z.width (Row tree));
+        leaf_commitments = leaf_commitments s (signer_leaf_commitment faest s iv tree);
+        u = signer_u s z.width (Row tree);
+        v = matrix_of s z.width (signer_column s z.width (Row tree));
         corrections = corrections s z.width (Row tree);
       }
 
-  pub commit-writes : (c tree l u v k : List ℕ) → tree ≡ signerTree faest s root iv → c ≡ commitmentOf faest s (signerLeafCommitment faest s iv tree)
-      → l ≡ leafCommitments s (signerLeafCommitment faest s iv tree) → u ≡ signerU s z.width (Row tree) → v ≡ matrixOf s z.width (signerColumn s z.width (Row tree)) → k ≡ corrections s z.width (Row tree)
-      → ◌≡◌ {A = Committed} (record { commitment = c; tree = tree; leafCommitments = l; u = u; v = v; corrections = k }) (committed faest s z root iv)
+  pub commit-writes : (c tree l u v k : List ℕ) → tree ≡ signer_tree faest s root iv → c ≡ commitment_of faest s (signer_leaf_commitment faest s iv tree)
+      → l ≡ leaf_commitments s (signer_leaf_commitment faest s iv tree) → u ≡ signer_u s z.width (Row tree) → v ≡ matrix_of s z.width (signer_column s z.width (Row tree)) → k ≡ corrections s z.width (Row tree)
+      → ◌≡◌ {A = Committed} (record { commitment = c; tree = tree; leaf_commitments = l; u = u; v = v; corrections = k }) (committed faest s z root iv)
   unfolding committed from
   commit-writes c tree l u v k et ec el eu ev ek = rw (ec, el, eu, ev, ek) (ap from et)

@@ -1,6 +1,8 @@
 // The signing half's public calls commit and commit_stretch.
+#![tactic(auto)]
+
 ghost use Rattle.std.specs.Prelude.{◌≡◌, true, ◌+◌, ◌*◌, ◌≤◌, length};
-ghost use Rattle.spec.specs.Shapes.{nodeBytes, leafCommitmentBytes, hashBytes, ivBytes, shapeOk, treeBytes, leafCommitmentsBytes, matrixBytes, correctionsBytes};
+ghost use Rattle.spec.specs.Shapes.{node_bytes, leaf_commitment_bytes, hash_bytes, iv_bytes, shape_ok, tree_bytes, leaf_commitments_bytes, matrix_bytes, corrections_bytes};
 ghost use Rattle.spec.specs.Primitives.{faest};
 ghost use Rattle.spec.specs.Calls.{Committed, committed, Commit, CommitStretch};
 
@@ -23,9 +25,9 @@ fn write_all(
     v: &mut [u8],
     corrections: &mut [u8],
 )
-    requires s_value { (shapeOk s ≡ true) × (z.first + z.width ≤ 8192) × (length root.now ≡ nodeBytes s) × (length iv.now ≡ ivBytes) × (length keys.old ≡ leafCommitmentBytes s * s.tau) × (length hashes.old ≡ hashBytes s * s.tau) }
-    requires commitment_len { (length commitment.old ≡ hashBytes s) × (length tree.old ≡ treeBytes s) × (length lcs.old ≡ leafCommitmentsBytes s) × (length u.old ≡ z.width) × (length v.old ≡ matrixBytes s z.width) × (length corrections.old ≡ correctionsBytes s z.width) }
-    ensures { ◌≡◌ {A = Committed} (record { commitment = commitment.exit.now; tree = tree.new; leafCommitments = lcs.new; u = u.new; v = v.new; corrections = corrections.new })
+    requires s_value { (shape_ok s ≡ true) × (z.first + z.width ≤ 8192) × (length root.now ≡ node_bytes s) × (length iv.now ≡ iv_bytes) × (length keys.old ≡ leaf_commitment_bytes s * s.tau) × (length hashes.old ≡ hash_bytes s * s.tau) }
+    requires commitment_len { (length commitment.old ≡ hash_bytes s) × (length tree.old ≡ tree_bytes s) × (length lcs.old ≡ leaf_commitments_bytes s) × (length u.old ≡ z.width) × (length v.old ≡ matrix_bytes s z.width) × (length corrections.old ≡ corrections_bytes s z.width) }
+    ensures { ◌≡◌ {A = Committed} (record { commitment = commitment.exit.now; tree = tree.new; leaf_commitments = lcs.new; u = u.new; v = v.new; corrections = corrections.new })
         (committed faest s z root.now iv.now) }
 {
     let r = rules::rate_bytes(s);
@@ -56,9 +58,9 @@ fn write_commitment(
     v: &mut [u8],
     corrections: &mut [u8],
 )
-    requires s_value { (shapeOk s ≡ true) × (z.first + z.width ≤ 8192) × (length root.now ≡ nodeBytes s) × (length iv.now ≡ ivBytes) }
-    requires commitment_len { (length commitment.old ≡ hashBytes s) × (length tree.old ≡ treeBytes s) × (length lcs.old ≡ leafCommitmentsBytes s) × (length u.old ≡ z.width) × (length v.old ≡ matrixBytes s z.width) × (length corrections.old ≡ correctionsBytes s z.width) }
-    ensures { ◌≡◌ {A = Committed} (record { commitment = commitment.exit.now; tree = tree.new; leafCommitments = lcs.new; u = u.new; v = v.new; corrections = corrections.new })
+    requires s_value { (shape_ok s ≡ true) × (z.first + z.width ≤ 8192) × (length root.now ≡ node_bytes s) × (length iv.now ≡ iv_bytes) }
+    requires commitment_len { (length commitment.old ≡ hash_bytes s) × (length tree.old ≡ tree_bytes s) × (length lcs.old ≡ leaf_commitments_bytes s) × (length u.old ≡ z.width) × (length v.old ≡ matrix_bytes s z.width) × (length corrections.old ≡ corrections_bytes s z.width) }
+    ensures { ◌≡◌ {A = Committed} (record { commitment = commitment.exit.now; tree = tree.new; leaf_commitments = lcs.new; u = u.new; v = v.new; corrections = corrections.new })
         (committed faest s z root.now iv.now) }
 {
     let tau = s.tau;
@@ -98,8 +100,8 @@ pub fn commit_stretch(
     corrections: &mut [u8],
 ) -> Answer
     ensures { CommitStretch faest shape row_bits stretch root.now iv.now
-        (record { commitment = commitment.entry.now; tree = tree.old; leafCommitments = leaf_commitments.old; u = u.old; v = v.old; corrections = corrections.old })
-        (record { commitment = commitment.exit.now; tree = tree.new; leafCommitments = leaf_commitments.new; u = u.new; v = v.new; corrections = corrections.new })
+        (record { commitment = commitment.entry.now; tree = tree.old; leaf_commitments = leaf_commitments.old; u = u.old; v = v.old; corrections = corrections.old })
+        (record { commitment = commitment.exit.now; tree = tree.new; leaf_commitments = leaf_commitments.new; u = u.new; v = v.new; corrections = corrections.new })
         result }
 {
     let s = rules::resolve(shape);
@@ -146,8 +148,8 @@ pub fn commit(
     corrections: &mut [u8],
 ) -> Answer
     ensures { Commit faest shape row_bits root.now iv.now
-        (record { commitment = commitment.entry.now; tree = tree.old; leafCommitments = leaf_commitments.old; u = u.old; v = v.old; corrections = corrections.old })
-        (record { commitment = commitment.exit.now; tree = tree.new; leafCommitments = leaf_commitments.new; u = u.new; v = v.new; corrections = corrections.new })
+        (record { commitment = commitment.entry.now; tree = tree.old; leaf_commitments = leaf_commitments.old; u = u.old; v = v.old; corrections = corrections.old })
+        (record { commitment = commitment.exit.now; tree = tree.new; leaf_commitments = leaf_commitments.new; u = u.new; v = v.new; corrections = corrections.new })
         result }
 {
     let whole = Stretch {

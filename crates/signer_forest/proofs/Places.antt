@@ -10,8 +10,8 @@ use lib.ListN.{length, take}
 use lib.Pow.{pow_pos}
 use Rattle.spec.specs.declared.Shape.{Shape}
 use Rattle.spec.specs.Bytes.{part, concat}
-use Rattle.spec.specs.Shapes.{nodeBytes, depth_of, entriesOf, leaves, shapeOk}
-use Rattle.spec.specs.Version1.{firstNode, trees1Bytes}
+use Rattle.spec.specs.Shapes.{node_bytes, depth_of, entries_of, leaves, shape_ok}
+use Rattle.spec.specs.Version1.{first_node, trees1_bytes}
 use Rattle.laws.proofs.Concat.{mul-within, mul-limit}
 use Rattle.laws.proofs.Lists.{length_part}
 use Rattle.laws.proofs.Putting.{put_next}
@@ -21,29 +21,29 @@ use Rattle.planning_laws.proofs.Forest.{node-next, node-all}
 
 -- vector i, with nodes of n bytes, e entries and f nodes before its tree: its tree in d bytes of trees, and its root in r bytes of roots
 pub record Placed (s : Shape) (i n e f d r : ℕ) : Type 0 where
-  pub next : n * f + n * (2 * (e - 1) + 1) ≡ nodeBytes s * firstNode s (i + 1)
+  pub next : n * f + n * (2 * (e - 1) + 1) ≡ node_bytes s * first_node s (i + 1)
   pub room : n * f + n * (2 * (e - 1) + 1) ≤ d
   pub small : d ≤ 5505024
   pub root : n * i + n ≤ r
   pub few : r ≤ 1024
 
-pub placed : (s : Shape) (i n e f d r : ℕ) → shapeOk s ≡ true → i < s.tau → n ≡ nodeBytes s → e ≡ entriesOf s i → f ≡ firstNode s i → d ≡ trees1Bytes s → r ≡ nodeBytes s * s.tau → Placed s i n e f d r
-unfolding trees1Bytes entriesOf
+pub placed : (s : Shape) (i n e f d r : ℕ) → shape_ok s ≡ true → i < s.tau → n ≡ node_bytes s → e ≡ entries_of s i → f ≡ first_node s i → d ≡ trees1_bytes s → r ≡ node_bytes s * s.tau → Placed s i n e f d r
+unfolding trees1_bytes entries_of
 placed s i n e f d r ok h en ee ef ed er =
     let facts = shape-facts s ok in
     let w = widths s facts in
     let all = node-all s facts in
     let most = leaves-max s facts in
     let pos = pow_pos (depth_of s i) in
-    let before = segment-before (firstNode s) (λ i. 2 * entriesOf s i - 1) s.tau i (λ m q. node-next s facts m) h in
-    let here = ap (firstNode s) (add-one i) ∙ node-next s facts i in
-    let size : f + (2 * (e - 1) + 1) ≡ firstNode s (i + 1) = omega arith in
-    let end : n * f + n * (2 * (e - 1) + 1) ≡ nodeBytes s * firstNode s (i + 1) = sym (mul-add n f (2 * (e - 1) + 1)) ∙ ap₂ ◌*◌ en size in
-    let inside : nodeBytes s * firstNode s (i + 1) ≤ nodeBytes s * (2 * leaves s - s.tau) = mul-le-mul (le_refl (nodeBytes s)) (omega arith) in
-    let bytes = mul-limit (nodeBytes s) (2 * leaves s - s.tau) 32 172032 w.node-max (omega arith) in
-    let own = mul-within (nodeBytes s) i s.tau h in
-    let at : n * i ≡ nodeBytes s * i = ap (λ (m : ℕ). m * i) en in
-    let roots = mul-limit (nodeBytes s) s.tau 32 32 w.node-max facts.tau-max in
+    let before = segment-before (first_node s) (λ i. 2 * entries_of s i - 1) s.tau i (λ m q. node-next s facts m) h in
+    let here = ap (first_node s) (add-one i) ∙ node-next s facts i in
+    let size : f + (2 * (e - 1) + 1) ≡ first_node s (i + 1) = omega arith in
+    let end : n * f + n * (2 * (e - 1) + 1) ≡ node_bytes s * first_node s (i + 1) = sym (mul-add n f (2 * (e - 1) + 1)) ∙ ap₂ ◌*◌ en size in
+    let inside : node_bytes s * first_node s (i + 1) ≤ node_bytes s * (2 * leaves s - s.tau) = mul-le-mul (le_refl (node_bytes s)) (omega arith) in
+    let bytes = mul-limit (node_bytes s) (2 * leaves s - s.tau) 32 172032 w.node-max (omega arith) in
+    let own = mul-within (node_bytes s) i s.tau h in
+    let at : n * i ≡ node_bytes s * i = ap (λ (m : ℕ). m * i) en in
+    let roots = mul-limit (node_bytes s) s.tau 32 32 w.node-max facts.tau-max in
     record { next = end; room = omega arith; small = omega arith; root = omega arith; few = omega arith }
 
 -- a part of n bytes, lent from v to w

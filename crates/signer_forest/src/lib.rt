@@ -1,10 +1,12 @@
 // Version 1: the trees of all vectors, as the signing half grows them from one root.
+#![tactic(auto)]
+
 ghost use Rattle.std.specs.Prelude.{◌≡◌, true, ◌-◌, ◌*◌, length};
 ghost use Rattle.spec.specs.Bytes.{part, concat};
 ghost use Rattle.spec.specs.Gf256.{SboxTable};
-ghost use Rattle.spec.specs.Tree.{expandTree};
-ghost use Rattle.spec.specs.Shapes.{nodeBytes, entriesOf, shapeOk};
-ghost use Rattle.spec.specs.Version1.{faest1, children1, signerTrees, trees1Bytes};
+ghost use Rattle.spec.specs.Tree.{expand_tree};
+ghost use Rattle.spec.specs.Shapes.{node_bytes, entries_of, shape_ok};
+ghost use Rattle.spec.specs.Version1.{faest1, children1, signer_trees, trees1_bytes};
 
 use job::{Nonce, Version};
 use spec::Shape;
@@ -12,8 +14,8 @@ use spec::Shape;
 // Writes the trees of the roots, one behind another.
 fn grow_each(t: &[u8; 256], s: Shape, roots: &[u8], iv: [u8; 16], trees: &mut [u8])
     requires sbox_table { SboxTable t.now }
-    requires s_value { (shapeOk s ≡ true) × (length roots.now ≡ nodeBytes s * s.tau) × (length trees.old ≡ trees1Bytes s) }
-    ensures { trees.new ≡ concat s.tau (λ i. expandTree (nodeBytes s) (part roots.now (nodeBytes s * i) (nodeBytes s)) (children1 faest1 s iv) (entriesOf s i - 1)) }
+    requires s_value { (shape_ok s ≡ true) × (length roots.now ≡ node_bytes s * s.tau) × (length trees.old ≡ trees1_bytes s) }
+    ensures { trees.new ≡ concat s.tau (λ i. expand_tree (node_bytes s) (part roots.now (node_bytes s * i) (node_bytes s)) (children1 faest1 s iv) (entries_of s i - 1)) }
 {
     let n = rules::node_bytes(s);
     let tau = s.tau;
@@ -37,8 +39,8 @@ fn grow_through(
     roots: &mut [u8],
 )
     requires sbox_table { SboxTable t.now }
-    requires s_value { (shapeOk s ≡ true) × (length root.now ≡ nodeBytes s) × (length trees.old ≡ trees1Bytes s) × (length roots.old ≡ nodeBytes s * s.tau) }
-    ensures { trees.new ≡ signerTrees faest1 s root.now iv }
+    requires s_value { (shape_ok s ≡ true) × (length root.now ≡ node_bytes s) × (length trees.old ≡ trees1_bytes s) × (length roots.old ≡ node_bytes s * s.tau) }
+    ensures { trees.new ≡ signer_trees faest1 s root.now iv }
 {
     let x = Nonce {
         iv,
@@ -52,8 +54,8 @@ fn grow_through(
 // Writes the trees of all vectors, one behind another: their roots are parts of one output of the generator.
 pub fn grow_trees(t: &[u8; 256], s: Shape, root: &[u8], iv: [u8; 16], trees: &mut [u8])
     requires sbox_table { SboxTable t.now }
-    requires s_value { (shapeOk s ≡ true) × (length root.now ≡ nodeBytes s) × (length trees.old ≡ trees1Bytes s) }
-    ensures { trees.new ≡ signerTrees faest1 s root.now iv }
+    requires s_value { (shape_ok s ≡ true) × (length root.now ≡ node_bytes s) × (length trees.old ≡ trees1_bytes s) }
+    ensures { trees.new ≡ signer_trees faest1 s root.now iv }
 {
     let mut roots = [0u8; 1024];
     let end = rules::node_bytes(s) * s.tau;

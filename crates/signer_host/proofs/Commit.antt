@@ -8,40 +8,40 @@ use lib.Dec.{eqb}
 use lib.ListN.{length, take}
 use Rattle.spec.specs.declared.Shape.{Shape}
 use Rattle.spec.specs.declared.Answer.{Answer}
-use Rattle.spec.specs.Shapes.{resolved, shapeOk}
+use Rattle.spec.specs.Shapes.{resolved, shape_ok}
 use Rattle.spec.specs.Primitives.{faest}
-use Rattle.spec.specs.Calls.{countGiven, row_ok, wholeRow, Committed, committed, commitLengths, commitNumber, Commit}
-use Rattle.spec.specs.HostCalls.{countSlice, withCount, HostCommit}
+use Rattle.spec.specs.Calls.{count_given, row_ok, whole_row, Committed, committed, commit_lengths, commit_number, Commit}
+use Rattle.spec.specs.HostCalls.{count_slice, with_count, HostCommit}
 use Rattle.host_words.proofs.Passed as passed
 use Rattle.signer_host.proofs.NotEmpty.{root-some}
 
 module _ (s : Shape) (n : ℕ) (root iv : List ℕ) (x y : Committed) (count : List ℕ) (r : Answer) (m : ℕ) (e : m ≡ cond (eqb (length count) 4) (length root) 0)
     (o : Commit faest s n (take m root) iv x y r) where
   abbrev beneath : List ℕ → ℕ
-  beneath q = commitNumber (resolved s) n (commitLengths (resolved s) (n / 8) q iv x)
+  beneath q = commit_number (resolved s) n (commit_lengths (resolved s) (n / 8) q iv x)
 
   abbrev host : ℕ
-  host = commitNumber (resolved s) n (withCount count (commitLengths (resolved s) (n / 8) root iv x))
+  host = commit_number (resolved s) n (with_count count (commit_lengths (resolved s) (n / 8) root iv x))
 
   full : eqb (length count) 4 ≡ true → beneath root ≡ host
-  unfolding commitNumber
+  unfolding commit_number
   full t = rw t refl
 
   none : eqb (length count) 4 ≡ false → (beneath [] ≡ host) × passed.Silent host
-  unfolding commitNumber
-  none t = (same (shapeOk (resolved s)) refl, rw t (passed.silent (shapeOk (resolved s)) _ 1 (passed.silent (row_ok n) 3 2 (refl, refl) (refl, refl)) (refl, refl)))
+  unfolding commit_number
+  none t = (same (shape_ok (resolved s)) refl, rw t (passed.silent (shape_ok (resolved s)) _ 1 (passed.silent (row_ok n) 3 2 (refl, refl) (refl, refl)) (refl, refl)))
     where
-      same : (b : Bool) → shapeOk (resolved s) ≡ b → beneath [] ≡ host
+      same : (b : Bool) → shape_ok (resolved s) ≡ b → beneath [] ≡ host
       same true ok = rw (t, root-some (resolved s) ok) refl
       same false bad = rw bad refl
 
-  pub commit-sized : countGiven r.number ≡ true → length count ≡ 4
+  pub commit-sized : count_given r.number ≡ true → length count ≡ 4
   commit-sized = passed.sized root count m e beneath host full none r.number o.number
 
-  pub commit-host : (count' : List ℕ) → count' ≡ countSlice r.number r.count count → HostCommit faest s n root iv x y count count' r.number
+  pub commit-host : (count' : List ℕ) → count' ≡ count_slice r.number r.count count → HostCommit faest s n root iv x y count count' r.number
   commit-host count' d =
       record {
         number = passed.number root count m e beneath host full none r.number o.number;
-        buffers = passed.bytes root count m e beneath host full none r.number o.number (λ q. committed faest (resolved s) (wholeRow n) q iv) x y o.buffers;
+        buffers = passed.bytes root count m e beneath host full none r.number o.number (λ q. committed faest (resolved s) (whole_row n) q iv) x y o.buffers;
         counted = rw o.count at d;
       }

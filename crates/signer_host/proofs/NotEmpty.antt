@@ -5,11 +5,11 @@ use native.Mathlib.Omega.{arith}
 use lib.Dec.{eqb}
 use borrow.Author.Tests.{ne_eqb}
 use Rattle.spec.specs.declared.Shape.{Shape}
-use Rattle.spec.specs.Shapes.{nodeBytes, challengeBytes, shapeOk}
+use Rattle.spec.specs.Shapes.{node_bytes, challenge_bytes, shape_ok}
 use Rattle.planning_laws.proofs.ShapeFacts.{shape-facts, widths}
 
-pub root-some : (s : Shape) → shapeOk s ≡ true → eqb 0 (nodeBytes s) ≡ false
-root-some s ok = ne_eqb 0 (nodeBytes s) (λ z. let w = widths s (shape-facts s ok) in omega arith)
+pub root-some : (s : Shape) → shape_ok s ≡ true → eqb 0 (node_bytes s) ≡ false
+root-some s ok = ne_eqb 0 (node_bytes s) (λ z. let w = widths s (shape-facts s ok) in omega arith)
 
-pub challenge-some : (s : Shape) → shapeOk s ≡ true → eqb 0 (challengeBytes s) ≡ false
-challenge-some s ok = ne_eqb 0 (challengeBytes s) (λ z. let w = widths s (shape-facts s ok) in omega arith)
+pub challenge-some : (s : Shape) → shape_ok s ≡ true → eqb 0 (challenge_bytes s) ≡ false
+challenge-some s ok = ne_eqb 0 (challenge_bytes s) (λ z. let w = widths s (shape-facts s ok) in omega arith)

@@ -1,4 +1,6 @@
 // The signing half for a C host: commit, of the rows and of a stretch of them, and open on numbers and byte slices.
+#![tactic(auto)]
+
 ghost use Rattle.spec.specs.Primitives.{faest};
 ghost use Rattle.spec.specs.HostCalls.{HostCommit, HostCommitStretch, HostOpen};
 
@@ -25,8 +27,8 @@ pub extern "C" fn rachnoel_commit(
     count: &mut [u8],
 ) -> usize
     ensures { HostCommit faest (record { tau = tau; k = k; w = w; t = t; level = level; kind = kind }) row_bits root.now iv.now
-        (record { commitment = commitment.entry.now; tree = tree.old; leafCommitments = leaf_commitments.old; u = u.old; v = v.old; corrections = corrections.old })
-        (record { commitment = commitment.exit.now; tree = tree.new; leafCommitments = leaf_commitments.new; u = u.new; v = v.new; corrections = corrections.new })
+        (record { commitment = commitment.entry.now; tree = tree.old; leaf_commitments = leaf_commitments.old; u = u.old; v = v.old; corrections = corrections.old })
+        (record { commitment = commitment.exit.now; tree = tree.new; leaf_commitments = leaf_commitments.new; u = u.new; v = v.new; corrections = corrections.new })
         count.old count.new result }
 {
     let n = host_words::passed_on(root.len(), count.len());
@@ -75,8 +77,8 @@ pub extern "C" fn rachnoel_commit_stretch(
     count: &mut [u8],
 ) -> usize
     ensures { HostCommitStretch faest (record { tau = tau; k = k; w = w; t = t; level = level; kind = kind }) row_bits (record { first = first; width = width }) root.now iv.now
-        (record { commitment = commitment.entry.now; tree = tree.old; leafCommitments = leaf_commitments.old; u = u.old; v = v.old; corrections = corrections.old })
-        (record { commitment = commitment.exit.now; tree = tree.new; leafCommitments = leaf_commitments.new; u = u.new; v = v.new; corrections = corrections.new })
+        (record { commitment = commitment.entry.now; tree = tree.old; leaf_commitments = leaf_commitments.old; u = u.old; v = v.old; corrections = corrections.old })
+        (record { commitment = commitment.exit.now; tree = tree.new; leaf_commitments = leaf_commitments.new; u = u.new; v = v.new; corrections = corrections.new })
         count.old count.new result }
 {
     let n = host_words::passed_on(root.len(), count.len());

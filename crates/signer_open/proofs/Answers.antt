@@ -5,15 +5,15 @@ use mathlib.Core.List.{List}
 use borrow.Author.Tests.{ne_eqb}
 use Rattle.spec.specs.declared.Shape.{Shape}
 use Rattle.spec.specs.declared.Answer.{Answer}
-use Rattle.spec.specs.Shapes.{resolved, plannedCount}
-use Rattle.spec.specs.Signer.{openingOf}
-use Rattle.spec.specs.Calls.{planNumber, openLengths, Open}
+use Rattle.spec.specs.Shapes.{resolved, planned_count}
+use Rattle.spec.specs.Signer.{opening_of}
+use Rattle.spec.specs.Calls.{plan_number, open_lengths, Open}
 use Rattle.refusals.specs.Numbers.{Answered}
 
 module _ (s t : Shape) (e : t ≡ resolved s) (ch tree lcs xs : List ℕ) (r : Answer) where
-  module _ (a : Answered (planNumber t ch (openLengths t ch tree lcs xs)) (plannedCount t ch) r) where
+  module _ (a : Answered (plan_number t ch (open_lengths t ch tree lcs xs)) (planned_count t ch) r) where
     pub refused : (r.number ≡ 0 → ⊥) → Open s ch tree lcs xs xs r
     refused h = record { number = rw e at a.0; count = rw e at a.1; opening = rw (ne_eqb r.number 0 h) refl }
 
-    pub written : (ys : List ℕ) → r.number ≡ 0 → ys ≡ openingOf t ch tree lcs → Open s ch tree lcs xs ys r
+    pub written : (ys : List ℕ) → r.number ≡ 0 → ys ≡ opening_of t ch tree lcs → Open s ch tree lcs xs ys r
     written ys h w = record { number = rw e at a.0; count = rw e at a.1; opening = rw h (rw e at w) }

@@ -1,4 +1,6 @@
 // The signing half's public call open.
+#![tactic(auto)]
+
 ghost use Rattle.spec.specs.Calls.{Open};
 
 use refusals::OpenLengths;

@@ -1,13 +1,15 @@
 // The tree of document 000, figure 5.4, as the signing half grows it: node 0 is the root, and every other node comes from its parent.
+#![tactic(auto)]
+
 ghost use Rattle.std.specs.Prelude.{◌≡◌, true, ◌+◌, ◌*◌, ◌%◌, ◌^◌, ◌≤◌, ◌<◌, length};
 ghost use Rattle.spec.specs.declared.Shape.{Shape};
 ghost use Rattle.spec.specs.Gf256.{SboxTable};
-ghost use Rattle.spec.specs.Tree.{expandTree};
-ghost use Rattle.spec.specs.Shapes.{nodeBytes, shapeOk, treeBytes};
+ghost use Rattle.spec.specs.Tree.{expand_tree};
+ghost use Rattle.spec.specs.Shapes.{node_bytes, shape_ok, tree_bytes};
 ghost use Rattle.spec.specs.Primitives.{faest};
 ghost use Rattle.spec.specs.Leaves.{children};
-ghost use Rattle.spec.specs.Signer.{signerTree};
-ghost use Rattle.job.specs.Versions.{primitivesOf};
+ghost use Rattle.spec.specs.Signer.{signer_tree};
+ghost use Rattle.job.specs.Versions.{primitives_of};
 
 use job::Version;
 use spec::Shape;
@@ -24,7 +26,7 @@ pub fn grow_tree(
 )
     requires sbox_table { SboxTable t.now }
     requires le_n { (16 ≤ n) × (n ≤ 32) × (n % 8 ≡ 0) × (length root.now ≡ n) × (length tree.old ≡ n * (2 * inner + 1)) × (length tree.old < 2 ^ 32) }
-    ensures { (s : Shape) → shapeOk s ≡ true → n ≡ nodeBytes s → tree.new ≡ expandTree n root.now (children (primitivesOf version) s iv) inner }
+    ensures { (s : Shape) → shape_ok s ≡ true → n ≡ node_bytes s → tree.new ≡ expand_tree n root.now (children (primitives_of version) s iv) inner }
 {
     bytes::copy(root, tree);
     for a in 0..inner {
@@ -35,8 +37,8 @@ pub fn grow_tree(
 // Writes the tree of a root: the single tree of version 2.
 pub fn grow(t: &[u8; 256], s: Shape, root: &[u8], iv: [u8; 16], tree: &mut [u8])
     requires sbox_table { SboxTable t.now }
-    requires s_value { (shapeOk s ≡ true) × (length root.now ≡ nodeBytes s) × (length tree.old ≡ treeBytes s) }
-    ensures { tree.new ≡ signerTree faest s root.now iv }
+    requires s_value { (shape_ok s ≡ true) × (length root.now ≡ node_bytes s) × (length tree.old ≡ tree_bytes s) }
+    ensures { tree.new ≡ signer_tree faest s root.now iv }
 {
     let n = rules::node_bytes(s);
     let inner = rules::leaf_count(s) - 1;

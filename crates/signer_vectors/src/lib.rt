@@ -1,15 +1,17 @@
 // All vectors of the signing half: leaf commitments and the hashes of the vectors, u, corrections and the matrix, from the bytes of a tree.
+#![tactic(auto)]
+
 ghost use Rattle.std.specs.Prelude.{◌≡◌, ◌*◌, ◌+◌, ◌<◌, length, get_or};
 ghost use Rattle.std.specs.Int.Bits.{bit_xor};
 ghost use Rattle.spec.specs.Bytes.{tabulate, concat};
-ghost use Rattle.spec.specs.Shapes.{leafCommitmentBytes, hashBytes, depth_of, entriesOf, leafCommitmentsBytes, matrixBytes, correctionsBytes};
+ghost use Rattle.spec.specs.Shapes.{leaf_commitment_bytes, hash_bytes, depth_of, entries_of, leaf_commitments_bytes, matrix_bytes, corrections_bytes};
 ghost use Rattle.spec.specs.Primitives.{faest};
-ghost use Rattle.spec.specs.Leaves.{leafCommitments, vectorHash};
-ghost use Rattle.spec.specs.Rows.{uByte, matrixOf};
-ghost use Rattle.spec.specs.Signer.{signerU, signerColumn};
+ghost use Rattle.spec.specs.Leaves.{leaf_commitments, vector_hash};
+ghost use Rattle.spec.specs.Rows.{u_byte, matrix_of};
+ghost use Rattle.spec.specs.Signer.{signer_u, signer_column};
 ghost use Rattle.spec.specs.Signer as signer;
 ghost use Rattle.leaf.specs.HashKeys.{HashKeys};
-ghost use Rattle.job.specs.Jobs.{entryCommitment, entryByte};
+ghost use Rattle.job.specs.Jobs.{entry_commitment, entry_byte};
 ghost use Rattle.vector.specs.Entries.{Lent};
 ghost use Rattle.vector.specs.Vectors.{Converted, Before};
 
@@ -29,9 +31,9 @@ fn convert(
     hash: &mut [u8],
 )
     requires lent { Lent g t.now tree.now × HashKeys g.shape g.iv keys.now × (i < g.shape.tau) × (length total.old ≡ g.stretch.width) }
-    requires lcs_len { (length lcs.old ≡ leafCommitmentBytes g.shape * entriesOf g.shape i) × (length cols.old ≡ g.stretch.width * depth_of g.shape i) × (length hash.old ≡ hashBytes g.shape) }
-    ensures total_after { total.new ≡ tabulate g.stretch.width (λ p. bit_xor (get_or total.old p 0) (uByte g.shape (entryByte g tree.now) i p)) }
-    ensures converted { Converted g.shape (entryCommitment g tree.now) (signerColumn g.shape g.stretch.width (entryByte g tree.now)) i lcs.new cols.new hash.new }
+    requires lcs_len { (length lcs.old ≡ leaf_commitment_bytes g.shape * entries_of g.shape i) × (length cols.old ≡ g.stretch.width * depth_of g.shape i) × (length hash.old ≡ hash_bytes g.shape) }
+    ensures total_after { total.new ≡ tabulate g.stretch.width (λ p. bit_xor (get_or total.old p 0) (u_byte g.shape (entry_byte g tree.now) i p)) }
+    ensures converted { Converted g.shape (entry_commitment g tree.now) (signer_column g.shape g.stretch.width (entry_byte g tree.now)) i lcs.new cols.new hash.new }
 {
     let m = leaf::hash_multiples(g.shape, i, keys);
     let last = g.stretch.width * (rules::depth_of(g.shape, i) - 1);
@@ -70,10 +72,10 @@ fn next_vector(
     hashes: &mut [u8],
 )
     requires lent { Lent g t.now tree.now × HashKeys g.shape g.iv keys.now × (i < g.shape.tau) × (length total.old ≡ g.stretch.width) }
-    requires lcs_len { (length lcs.old ≡ leafCommitmentsBytes g.shape) × (length v.old ≡ matrixBytes g.shape g.stretch.width) × (length hashes.old ≡ hashBytes g.shape * g.shape.tau) }
-    ensures total_after { total.new ≡ tabulate g.stretch.width (λ p. bit_xor (get_or total.old p 0) (uByte g.shape (entryByte g tree.now) i p)) }
-    ensures before { Before g.shape g.stretch.width (entryCommitment g tree.now) (signerColumn g.shape g.stretch.width (entryByte g tree.now)) i lcs.old v.old hashes.old
-        → Before g.shape g.stretch.width (entryCommitment g tree.now) (signerColumn g.shape g.stretch.width (entryByte g tree.now)) (i + 1) lcs.new v.new hashes.new }
+    requires lcs_len { (length lcs.old ≡ leaf_commitments_bytes g.shape) × (length v.old ≡ matrix_bytes g.shape g.stretch.width) × (length hashes.old ≡ hash_bytes g.shape * g.shape.tau) }
+    ensures total_after { total.new ≡ tabulate g.stretch.width (λ p. bit_xor (get_or total.old p 0) (u_byte g.shape (entry_byte g tree.now) i p)) }
+    ensures before { Before g.shape g.stretch.width (entry_commitment g tree.now) (signer_column g.shape g.stretch.width (entry_byte g tree.now)) i lcs.old v.old hashes.old
+        → Before g.shape g.stretch.width (entry_commitment g tree.now) (signer_column g.shape g.stretch.width (entry_byte g tree.now)) (i + 1) lcs.new v.new hashes.new }
 {
     let s = g.shape;
     let h = rules::hash_bytes(s);
@@ -106,13 +108,13 @@ pub fn write_vectors(
     corrections: &mut [u8],
     hashes: &mut [u8],
 )
-    requires lent { Lent g t.now tree.now × HashKeys g.shape g.iv keys.now × (length lcs.old ≡ leafCommitmentsBytes g.shape) × (length hashes.old ≡ hashBytes g.shape * g.shape.tau) }
-    requires u_len { (length u.old ≡ g.stretch.width) × (length v.old ≡ matrixBytes g.shape g.stretch.width) × (length corrections.old ≡ correctionsBytes g.shape g.stretch.width) }
-    ensures lcs_after { lcs.new ≡ leafCommitments g.shape (entryCommitment g tree.now) }
-    ensures u_after { u.new ≡ signerU g.shape g.stretch.width (entryByte g tree.now) }
-    ensures v_after { v.new ≡ matrixOf g.shape g.stretch.width (signerColumn g.shape g.stretch.width (entryByte g tree.now)) }
-    ensures corrections_after { corrections.new ≡ signer.corrections g.shape g.stretch.width (entryByte g tree.now) }
-    ensures hashes_after { hashes.new ≡ concat g.shape.tau (vectorHash faest g.shape (entryCommitment g tree.now)) }
+    requires lent { Lent g t.now tree.now × HashKeys g.shape g.iv keys.now × (length lcs.old ≡ leaf_commitments_bytes g.shape) × (length hashes.old ≡ hash_bytes g.shape * g.shape.tau) }
+    requires u_len { (length u.old ≡ g.stretch.width) × (length v.old ≡ matrix_bytes g.shape g.stretch.width) × (length corrections.old ≡ corrections_bytes g.shape g.stretch.width) }
+    ensures lcs_after { lcs.new ≡ leaf_commitments g.shape (entry_commitment g tree.now) }
+    ensures u_after { u.new ≡ signer_u g.shape g.stretch.width (entry_byte g tree.now) }
+    ensures v_after { v.new ≡ matrix_of g.shape g.stretch.width (signer_column g.shape g.stretch.width (entry_byte g tree.now)) }
+    ensures corrections_after { corrections.new ≡ signer.corrections g.shape g.stretch.width (entry_byte g tree.now) }
+    ensures hashes_after { hashes.new ≡ concat g.shape.tau (vector_hash faest g.shape (entry_commitment g tree.now)) }
 {
     let b = g.stretch.width;
     let others = g.shape.tau - 1;

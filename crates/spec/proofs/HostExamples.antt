@@ -4,12 +4,12 @@ use mathlib.Core.Path.{◌≡◌, refl}
 use mathlib.Core.List.{List, [], ◌∷◌}
 use lib.ListN.{replicate}
 use Rattle.spec.specs.declared.Shape.{Shape}
-use Rattle.spec.specs.Bytes.{tabulate, zeros, allZero, digits}
-use Rattle.spec.specs.Challenge.{bit_at, bits_at, clearAt}
-use Rattle.spec.specs.Shapes.{level, nodeBytes, challengeBytes, leafCommitmentBytes, hashBytes, deeper, depth_of, firstBit, leaves, shapeOk, grindingOk, treeBytes, leafCommitmentsBytes, matrixBytes, correctionsBytes}
-use Rattle.spec.specs.Calls.{row_ok, stretchOk, decodeNumber, commitLengths, commitStretchNumber}
-use Rattle.spec.specs.HostCalls.{word_bytes, countSlice, withCount, hostListLengths}
-use Rattle.spec.proofs.Refusals.{shape, small, ch, signerBuffers, stretch}
+use Rattle.spec.specs.Bytes.{tabulate, zeros, all_zero, digits}
+use Rattle.spec.specs.Challenge.{bit_at, bits_at, clear_at}
+use Rattle.spec.specs.Shapes.{level, node_bytes, challenge_bytes, leaf_commitment_bytes, hash_bytes, deeper, depth_of, first_bit, leaves, shape_ok, grinding_ok, tree_bytes, leaf_commitments_bytes, matrix_bytes, corrections_bytes}
+use Rattle.spec.specs.Calls.{row_ok, stretch_ok, decode_number, commit_lengths, commit_stretch_number}
+use Rattle.spec.specs.HostCalls.{word_bytes, count_slice, with_count, host_list_lengths}
+use Rattle.spec.proofs.Refusals.{shape, small, ch, signer_buffers, stretch}
 
 abbrev pub Words : Type 0
 Words =
@@ -28,20 +28,20 @@ abbrev given : List ℕ
 given = 3 ∷ 1 ∷ 0 ∷ 0 ∷ []
 
 abbrev pub Slices : Type 0
-Slices = tabulate 9 (λ n. countSlice n 259 kept) ≡ given ∷ kept ∷ kept ∷ kept ∷ kept ∷ given ∷ given ∷ kept ∷ kept ∷ []
+Slices = tabulate 9 (λ n. count_slice n 259 kept) ≡ given ∷ kept ∷ kept ∷ kept ∷ kept ∷ given ∷ given ∷ kept ∷ kept ∷ []
 
 pub slices : Slices
-unfolding tabulate digits countSlice
+unfolding tabulate digits count_slice
 slices = refl
 
 -- decode with a list of n bytes and a count slice of m bytes
 abbrev decoding : Shape → ℕ → ℕ → ℕ → ℕ
-decoding s first n m = decodeNumber s (ch first) (withCount (zeros m) (hostListLengths s s.tau (ch first) (zeros n)))
+decoding s first n m = decode_number s (ch first) (with_count (zeros m) (host_list_lengths s s.tau (ch first) (zeros n)))
 
 -- commit of a stretch of a byte, with rows of n bits and a count slice of m bytes
 abbrev committing : ℕ → ℕ → ℕ → ℕ
 committing n first m =
-    commitStretchNumber small n (stretch first 1) (withCount (zeros m) (commitLengths small 1 (zeros 16) (zeros 16) (signerBuffers 1)))
+    commit_stretch_number small n (stretch first 1) (with_count (zeros m) (commit_lengths small 1 (zeros 16) (zeros 16) (signer_buffers 1)))
 
 abbrev pub Turns : Type 0
 Turns =
@@ -59,5 +59,5 @@ Turns =
     × (committing 8 0 3 ≡ 3)
 
 pub turns : Turns
-unfolding tabulate zeros allZero bit_at bits_at clearAt level nodeBytes challengeBytes leafCommitmentBytes hashBytes deeper depth_of firstBit leaves shapeOk grindingOk treeBytes leafCommitmentsBytes matrixBytes correctionsBytes row_ok stretchOk decodeNumber commitStretchNumber
+unfolding tabulate zeros all_zero bit_at bits_at clear_at level node_bytes challenge_bytes leaf_commitment_bytes hash_bytes deeper depth_of first_bit leaves shape_ok grinding_ok tree_bytes leaf_commitments_bytes matrix_bytes corrections_bytes row_ok stretch_ok decode_number commit_stretch_number
 turns = (refl, refl, refl, refl, refl, refl, refl, refl, refl, refl, refl, refl)

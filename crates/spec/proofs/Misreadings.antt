@@ -7,16 +7,16 @@ use mathlib.Core.List.{List, [], ◌∷◌, ◌++◌}
 use lib.Dec.{T, T_not, eqb, eqb_refl, leb}
 use lib.ListN.{length, get_or, take}
 use Rattle.spec.specs.declared.Shape.{Shape}
-use Rattle.spec.specs.Bytes.{tabulate, concat, zeros, allZero, xorBelow, number}
-use Rattle.spec.specs.Tree.{parent, isAncestorWithin, isAncestor, some, covered, siblingToReveal, revealedFrom, revealed, nodeCount}
-use Rattle.spec.specs.Challenge.{bit_at, bits_at, index_at, clearAt}
-use Rattle.spec.specs.Shapes.{level, nodeBytes, challengeBytes, leafCommitmentBytes, deeper, depth_of, entriesOf, firstBit, firstEntry, leaves, leafOf, shapeOk, hiddenIndex, hiddenLeaf, hiddenLeaves, grindingOk, planned, plannedCount, treeBytes, leafCommitmentsBytes, openingBytes}
+use Rattle.spec.specs.Bytes.{tabulate, concat, zeros, all_zero, xor_below, number}
+use Rattle.spec.specs.Tree.{parent, is_ancestor_within, is_ancestor, some, covered, sibling_to_reveal, revealed_from, revealed, node_count}
+use Rattle.spec.specs.Challenge.{bit_at, bits_at, index_at, clear_at}
+use Rattle.spec.specs.Shapes.{level, node_bytes, challenge_bytes, leaf_commitment_bytes, deeper, depth_of, entries_of, first_bit, first_entry, leaves, leaf_of, shape_ok, hidden_index, hidden_leaf, hidden_leaves, grinding_ok, planned, planned_count, tree_bytes, leaf_commitments_bytes, opening_bytes}
 use Rattle.spec.specs.Primitives.{prg}
-use Rattle.spec.specs.Leaves.{nodeAt, leafKey, stretched, leafSeed}
-use Rattle.spec.specs.Rows.{rowByte, stretchByte, uByte}
-use Rattle.spec.specs.Signer.{signerU, correction, corrections, leafCommitmentAt, openingOf}
-use Rattle.spec.specs.Calls.{written, nodesOk, planLengths, planNumber, openLengths}
-use Rattle.spec.proofs.StandIns.{standIn}
+use Rattle.spec.specs.Leaves.{node_at, leaf_key, stretched, leaf_seed}
+use Rattle.spec.specs.Rows.{row_byte, stretch_byte, u_byte}
+use Rattle.spec.specs.Signer.{signer_u, correction, corrections, leaf_commitment_at, opening_of}
+use Rattle.spec.specs.Calls.{written, nodes_ok, plan_lengths, plan_number, open_lengths}
+use Rattle.spec.proofs.StandIns.{stand_in}
 use Rattle.spec.proofs.WorkedExample.{shape, whole, rows, challenge, signer-tree, signer-leaf-commitments}
 
 -- two lists that differ at place i are not equal
@@ -30,65 +30,65 @@ tight = record { tau = 3; k = 2; w = 122; t = 4; level = 128; kind = 0 }
 
 -- ---- leaves laid vector after vector instead of interleaved
 
-pub vectorAfterVector : Shape → ℕ → ℕ → ℕ
-vectorAfterVector s i j = leaves s - 1 + firstEntry s i + j
+pub vector_after_vector : Shape → ℕ → ℕ → ℕ
+vector_after_vector s i j = leaves s - 1 + first_entry s i + j
 
 pub not-vector-after-vector :
-    revealed (leaves shape) (tabulate 3 (λ i. vectorAfterVector shape i (hiddenIndex shape challenge i))) ≡ planned shape challenge → ⊥
-unfolding vectorAfterVector tabulate zeros number parent isAncestorWithin isAncestor some covered siblingToReveal revealedFrom revealed bit_at bits_at index_at depth_of firstBit firstEntry leaves leafOf hiddenIndex hiddenLeaf hiddenLeaves planned deeper level
+    revealed (leaves shape) (tabulate 3 (λ i. vector_after_vector shape i (hidden_index shape challenge i))) ≡ planned shape challenge → ⊥
+unfolding vector_after_vector tabulate zeros number parent is_ancestor_within is_ancestor some covered sibling_to_reveal revealed_from revealed bit_at bits_at index_at depth_of first_bit first_entry leaves leaf_of hidden_index hidden_leaf hidden_leaves planned deeper level
 not-vector-after-vector =
-    apart (revealed (leaves shape) (tabulate 3 (λ i. vectorAfterVector shape i (hiddenIndex shape challenge i)))) (planned shape challenge) 0 tt
+    apart (revealed (leaves shape) (tabulate 3 (λ i. vector_after_vector shape i (hidden_index shape challenge i)))) (planned shape challenge) 0 tt
 
 -- ---- nodes revealed from the root downward, or the covered child revealed
 
-pub revealedDownward : (ℕ → Bool) → ℕ → List ℕ
-revealedDownward c zero = []
-revealedDownward c (suc a) = revealedDownward c a ++ siblingToReveal (c (2 * a + 1)) (c (2 * a + 2)) a
+pub revealed_downward : (ℕ → Bool) → ℕ → List ℕ
+revealed_downward c zero = []
+revealed_downward c (suc a) = revealed_downward c a ++ sibling_to_reveal (c (2 * a + 1)) (c (2 * a + 2)) a
 
-pub not-root-downward : revealedDownward (covered (hiddenLeaves shape challenge)) 11 ≡ planned shape challenge → ⊥
-unfolding revealedDownward tabulate number parent isAncestorWithin isAncestor some covered siblingToReveal revealedFrom revealed bit_at bits_at index_at depth_of firstBit leaves leafOf hiddenIndex hiddenLeaf hiddenLeaves planned deeper level
-not-root-downward = apart (revealedDownward (covered (hiddenLeaves shape challenge)) 11) (planned shape challenge) 0 tt
+pub not-root-downward : revealed_downward (covered (hidden_leaves shape challenge)) 11 ≡ planned shape challenge → ⊥
+unfolding revealed_downward tabulate number parent is_ancestor_within is_ancestor some covered sibling_to_reveal revealed_from revealed bit_at bits_at index_at depth_of first_bit leaves leaf_of hidden_index hidden_leaf hidden_leaves planned deeper level
+not-root-downward = apart (revealed_downward (covered (hidden_leaves shape challenge)) 11) (planned shape challenge) 0 tt
 
-pub coveredChildren : (ℕ → Bool) → ℕ → List ℕ
-coveredChildren c zero = []
-coveredChildren c (suc a) = siblingToReveal (c (2 * a + 2)) (c (2 * a + 1)) a ++ coveredChildren c a
+pub covered_children : (ℕ → Bool) → ℕ → List ℕ
+covered_children c zero = []
+covered_children c (suc a) = sibling_to_reveal (c (2 * a + 2)) (c (2 * a + 1)) a ++ covered_children c a
 
-pub not-covered-child : coveredChildren (covered (hiddenLeaves shape challenge)) 11 ≡ planned shape challenge → ⊥
-unfolding coveredChildren tabulate number parent isAncestorWithin isAncestor some covered siblingToReveal revealedFrom revealed bit_at bits_at index_at depth_of firstBit leaves leafOf hiddenIndex hiddenLeaf hiddenLeaves planned deeper level
-not-covered-child = apart (coveredChildren (covered (hiddenLeaves shape challenge)) 11) (planned shape challenge) 0 tt
+pub not-covered-child : covered_children (covered (hidden_leaves shape challenge)) 11 ≡ planned shape challenge → ⊥
+unfolding covered_children tabulate number parent is_ancestor_within is_ancestor some covered sibling_to_reveal revealed_from revealed bit_at bits_at index_at depth_of first_bit leaves leaf_of hidden_index hidden_leaf hidden_leaves planned deeper level
+not-covered-child = apart (covered_children (covered (hidden_leaves shape challenge)) 11) (planned shape challenge) 0 tt
 
 -- ---- T compared with all covered nodes instead of the revealed ones
 
-pub coveredBelow : List ℕ → ℕ → ℕ
-coveredBelow hidden zero = 0
-coveredBelow hidden (suc a) = cond (covered hidden a) 1 0 + coveredBelow hidden a
+pub covered_below : List ℕ → ℕ → ℕ
+covered_below hidden zero = 0
+covered_below hidden (suc a) = cond (covered hidden a) 1 0 + covered_below hidden a
 
-pub coveredNumber : Shape → List ℕ → ℕ
-coveredNumber s ch = cond (leb (coveredBelow (hiddenLeaves s ch) (2 * leaves s - 1)) s.t) 0 5
+pub covered_number : Shape → List ℕ → ℕ
+covered_number s ch = cond (leb (covered_below (hidden_leaves s ch) (2 * leaves s - 1)) s.t) 0 5
 
-pub not-covered-nodes : coveredNumber shape challenge ∷ [] ≡ planNumber shape challenge (planLengths shape challenge (zeros 7)) ∷ [] → ⊥
-unfolding coveredBelow coveredNumber tabulate zeros allZero number parent isAncestorWithin isAncestor some covered siblingToReveal revealedFrom revealed nodeCount bit_at bits_at index_at clearAt level challengeBytes depth_of firstBit leaves leafOf shapeOk hiddenIndex hiddenLeaf hiddenLeaves grindingOk plannedCount nodesOk planNumber deeper
-not-covered-nodes = apart (coveredNumber shape challenge ∷ []) (planNumber shape challenge (planLengths shape challenge (zeros 7)) ∷ []) 0 tt
+pub not-covered-nodes : covered_number shape challenge ∷ [] ≡ plan_number shape challenge (plan_lengths shape challenge (zeros 7)) ∷ [] → ⊥
+unfolding covered_below covered_number tabulate zeros all_zero number parent is_ancestor_within is_ancestor some covered sibling_to_reveal revealed_from revealed node_count bit_at bits_at index_at clear_at level challenge_bytes depth_of first_bit leaves leaf_of shape_ok hidden_index hidden_leaf hidden_leaves grinding_ok planned_count nodes_ok plan_number deeper
+not-covered-nodes = apart (covered_number shape challenge ∷ []) (plan_number shape challenge (plan_lengths shape challenge (zeros 7)) ∷ []) 0 tt
 
 -- ---- the correction of vector 0 taken as u instead of nothing
 
-pub withVector0 : List ℕ
-withVector0 = signerU shape 2 (rows whole signer-tree) ++ corrections shape 2 (rows whole signer-tree)
+pub with_vector0 : List ℕ
+with_vector0 = signer_u shape 2 (rows whole signer-tree) ++ corrections shape 2 (rows whole signer-tree)
 
-pub not-vector-0 : withVector0 ≡ corrections shape 2 (rows whole signer-tree) → ⊥
-unfolding withVector0 tabulate concat xorBelow level nodeBytes leafCommitmentBytes depth_of entriesOf leaves leafOf prg nodeAt leafKey stretched leafSeed rowByte stretchByte uByte signerU correction corrections deeper
-not-vector-0 = apart withVector0 (corrections shape 2 (rows whole signer-tree)) 1 tt
+pub not-vector-0 : with_vector0 ≡ corrections shape 2 (rows whole signer-tree) → ⊥
+unfolding with_vector0 tabulate concat xor_below level node_bytes leaf_commitment_bytes depth_of entries_of leaves leaf_of prg node_at leaf_key stretched leaf_seed row_byte stretch_byte u_byte signer_u correction corrections deeper
+not-vector-0 = apart with_vector0 (corrections shape 2 (rows whole signer-tree)) 1 tt
 
 -- ---- the opening filled first and the count compared later
 
-pub filledFirst : List ℕ → List ℕ
-filledFirst before = take (length before) (openingOf tight challenge signer-tree signer-leaf-commitments)
+pub filled_first : List ℕ → List ℕ
+filled_first before = take (length before) (opening_of tight challenge signer-tree signer-leaf-commitments)
 
 pub ours : List ℕ → List ℕ
 ours before =
-    written (planNumber tight challenge (openLengths tight challenge signer-tree signer-leaf-commitments before))
-    (openingOf tight challenge signer-tree signer-leaf-commitments) before
+    written (plan_number tight challenge (open_lengths tight challenge signer-tree signer-leaf-commitments before))
+    (opening_of tight challenge signer-tree signer-leaf-commitments) before
 
-pub not-filled-first : filledFirst (zeros 208) ≡ ours (zeros 208) → ⊥
-unfolding filledFirst ours tabulate concat zeros allZero number parent isAncestorWithin isAncestor some covered siblingToReveal revealedFrom revealed nodeCount bit_at bits_at index_at clearAt level nodeBytes challengeBytes leafCommitmentBytes depth_of firstBit firstEntry leaves leafOf shapeOk hiddenIndex hiddenLeaf hiddenLeaves grindingOk planned plannedCount treeBytes leafCommitmentsBytes openingBytes nodeAt leafCommitmentAt openingOf nodesOk planNumber deeper
-not-filled-first = apart (filledFirst (zeros 208)) (ours (zeros 208)) 0 tt
+pub not-filled-first : filled_first (zeros 208) ≡ ours (zeros 208) → ⊥
+unfolding filled_first ours tabulate concat zeros all_zero number parent is_ancestor_within is_ancestor some covered sibling_to_reveal revealed_from revealed node_count bit_at bits_at index_at clear_at level node_bytes challenge_bytes leaf_commitment_bytes depth_of first_bit first_entry leaves leaf_of shape_ok hidden_index hidden_leaf hidden_leaves grinding_ok planned planned_count tree_bytes leaf_commitments_bytes opening_bytes node_at leaf_commitment_at opening_of nodes_ok plan_number deeper
+not-filled-first = apart (filled_first (zeros 208)) (ours (zeros 208)) 0 tt

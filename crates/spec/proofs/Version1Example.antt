@@ -5,33 +5,33 @@ use mathlib.Core.Path.{◌≡◌, refl, ap, ◌∙◌}
 use mathlib.Core.List.{List, [], ◌∷◌, ◌++◌}
 use lib.ListN.{replicate}
 use Rattle.spec.specs.declared.Shape.{Shape}
-use Rattle.spec.specs.Bytes.{tabulate, concat, zeros, xorBelow, number, digits, bigEndian, bigEndianBytes, index_of}
-use Rattle.spec.specs.Tree.{parent, isAncestorWithin, isAncestor, some, covered, expandTree}
+use Rattle.spec.specs.Bytes.{tabulate, concat, zeros, xor_below, number, digits, big_endian, big_endian_bytes, index_of}
+use Rattle.spec.specs.Tree.{parent, is_ancestor_within, is_ancestor, some, covered, expand_tree}
 use Rattle.spec.specs.Challenge.{bit_at, bits_at, index_at}
-use Rattle.spec.specs.Shapes.{level, nodeBytes, deeper, depth_of, entriesOf, firstBit, firstEntry, leaves, hiddenIndex}
+use Rattle.spec.specs.Shapes.{level, node_bytes, deeper, depth_of, entries_of, first_bit, first_entry, leaves, hidden_index}
 use Rattle.spec.specs.Primitives.{prg}
-use Rattle.spec.specs.Leaves.{nodeAt, vectorCommitments, leafCommitments, vectorHash, commitmentOf}
-use Rattle.spec.specs.Rows.{uByte, columnByte, matrixOf}
-use Rattle.spec.specs.Signer.{signerU, signerColumn, correction, corrections}
-use Rattle.spec.specs.Verifier.{correctionByte, verifierColumn}
-use Rattle.spec.specs.Version1.{addToIv, prg1, vectorRoot, children1, vectorTree, signerTrees, firstNode, leafIn, leafKey1, leafCommitmentBytes1, hashedLeaf, leafSeed1, leafCommitment1, signerLeafCommitment1, row1Byte, siblingAt, siblings, leafCommitmentAt1, decommitment, opening1Of, decommitmentFrom, slot1, hiddenLeafCommitment1, on_path, givenNode1, reconstructedChildren1, reconstructedVectorTree, reconstructedTrees, verifierLeafCommitment1}
+use Rattle.spec.specs.Leaves.{node_at, vector_commitments, leaf_commitments, vector_hash, commitment_of}
+use Rattle.spec.specs.Rows.{u_byte, column_byte, matrix_of}
+use Rattle.spec.specs.Signer.{signer_u, signer_column, correction, corrections}
+use Rattle.spec.specs.Verifier.{correction_byte, verifier_column}
+use Rattle.spec.specs.Version1.{add_to_iv, prg1, vector_root, children1, vector_tree, signer_trees, first_node, leaf_in, leaf_key1, leaf_commitment_bytes1, hashed_leaf, leaf_seed1, leaf_commitment1, signer_leaf_commitment1, row1_byte, sibling_at, siblings, leaf_commitment_at1, decommitment, opening1_of, decommitment_from, slot1, hidden_leaf_commitment1, on_path, given_node1, reconstructed_children1, reconstructed_vector_tree, reconstructed_trees, verifier_leaf_commitment1}
 use Rattle.spec.specs.Version1Calls.{committed1, reconstructed1}
-use Rattle.spec.proofs.StandIns.{standIn}
+use Rattle.spec.proofs.StandIns.{stand_in}
 
 -- ---- the counter
 
 -- SP 800-38A, F.5: block 1 of an IV that ends with fe ff
-pub counter-carries : addToIv (240 ∷ 241 ∷ 242 ∷ 243 ∷ 244 ∷ 245 ∷ 246 ∷ 247 ∷ 248 ∷ 249 ∷ 250 ∷ 251 ∷ 252 ∷ 253 ∷ 254 ∷ 255 ∷ []) 1 ≡ 240 ∷ 241 ∷ 242 ∷ 243 ∷ 244 ∷ 245 ∷ 246 ∷ 247 ∷ 248 ∷ 249 ∷ 250 ∷ 251 ∷ 252 ∷ 253 ∷ 255 ∷ 0 ∷ []
-unfolding tabulate number digits bigEndian bigEndianBytes addToIv
+pub counter-carries : add_to_iv (240 ∷ 241 ∷ 242 ∷ 243 ∷ 244 ∷ 245 ∷ 246 ∷ 247 ∷ 248 ∷ 249 ∷ 250 ∷ 251 ∷ 252 ∷ 253 ∷ 254 ∷ 255 ∷ []) 1 ≡ 240 ∷ 241 ∷ 242 ∷ 243 ∷ 244 ∷ 245 ∷ 246 ∷ 247 ∷ 248 ∷ 249 ∷ 250 ∷ 251 ∷ 252 ∷ 253 ∷ 255 ∷ 0 ∷ []
+unfolding tabulate number digits big_endian big_endian_bytes add_to_iv
 counter-carries = refl
 
 -- past 32 bits, and past 64
-pub counter-carries-far : addToIv (1 ∷ 2 ∷ 3 ∷ 4 ∷ 5 ∷ 6 ∷ 255 ∷ 255 ∷ 255 ∷ 255 ∷ 255 ∷ 255 ∷ 255 ∷ 255 ∷ 255 ∷ 254 ∷ []) 3 ≡ 1 ∷ 2 ∷ 3 ∷ 4 ∷ 5 ∷ 7 ∷ 0 ∷ 0 ∷ 0 ∷ 0 ∷ 0 ∷ 0 ∷ 0 ∷ 0 ∷ 0 ∷ 1 ∷ []
-unfolding tabulate number digits bigEndian bigEndianBytes addToIv
+pub counter-carries-far : add_to_iv (1 ∷ 2 ∷ 3 ∷ 4 ∷ 5 ∷ 6 ∷ 255 ∷ 255 ∷ 255 ∷ 255 ∷ 255 ∷ 255 ∷ 255 ∷ 255 ∷ 255 ∷ 254 ∷ []) 3 ≡ 1 ∷ 2 ∷ 3 ∷ 4 ∷ 5 ∷ 7 ∷ 0 ∷ 0 ∷ 0 ∷ 0 ∷ 0 ∷ 0 ∷ 0 ∷ 0 ∷ 0 ∷ 1 ∷ []
+unfolding tabulate number digits big_endian big_endian_bytes add_to_iv
 counter-carries-far = refl
 
-pub counter-wraps : addToIv (replicate 16 255) 1 ≡ replicate 16 0
-unfolding tabulate number digits bigEndian bigEndianBytes addToIv
+pub counter-wraps : add_to_iv (replicate 16 255) 1 ≡ replicate 16 0
+unfolding tabulate number digits big_endian big_endian_bytes add_to_iv
 counter-wraps = refl
 
 -- ---- the buffers
@@ -78,87 +78,87 @@ verifier-q = 0 ∷ 66 ∷ 0 ∷ 96 ∷ 192 ∷ 135 ∷ 0 ∷ 196 ∷ 184 ∷ 72 
 
 -- ---- commit
 
-trees-of-root : signerTrees standIn shape root iv ≡ signer-trees
-unfolding tabulate concat expandTree level nodeBytes deeper depth_of entriesOf prg prg1 vectorRoot children1 vectorTree signerTrees
+trees-of-root : signer_trees stand_in shape root iv ≡ signer-trees
+unfolding tabulate concat expand_tree level node_bytes deeper depth_of entries_of prg prg1 vector_root children1 vector_tree signer_trees
 trees-of-root = refl
 
-commitments-of-trees : leafCommitments shape (signerLeafCommitment1 standIn shape iv signer-trees) ≡ signer-leaf-commitments
-unfolding tabulate concat level nodeBytes deeper depth_of entriesOf firstEntry nodeAt vectorCommitments leafCommitments firstNode leafIn leafKey1 leafCommitmentBytes1 hashedLeaf leafCommitment1 signerLeafCommitment1
+commitments-of-trees : leaf_commitments shape (signer_leaf_commitment1 stand_in shape iv signer-trees) ≡ signer-leaf-commitments
+unfolding tabulate concat level node_bytes deeper depth_of entries_of first_entry node_at vector_commitments leaf_commitments first_node leaf_in leaf_key1 leaf_commitment_bytes1 hashed_leaf leaf_commitment1 signer_leaf_commitment1
 commitments-of-trees = refl
 
-hash-of-trees : commitmentOf standIn shape (signerLeafCommitment1 standIn shape iv signer-trees) ≡ signer-commitment
-unfolding tabulate concat level nodeBytes deeper depth_of entriesOf firstEntry nodeAt vectorCommitments vectorHash commitmentOf firstNode leafIn leafKey1 leafCommitmentBytes1 hashedLeaf leafCommitment1 signerLeafCommitment1
+hash-of-trees : commitment_of stand_in shape (signer_leaf_commitment1 stand_in shape iv signer-trees) ≡ signer-commitment
+unfolding tabulate concat level node_bytes deeper depth_of entries_of first_entry node_at vector_commitments vector_hash commitment_of first_node leaf_in leaf_key1 leaf_commitment_bytes1 hashed_leaf leaf_commitment1 signer_leaf_commitment1
 hash-of-trees = refl
 
-u-of-trees : signerU shape 2 (row1Byte standIn shape iv signer-trees) ≡ signer-u
-unfolding tabulate xorBelow level nodeBytes deeper depth_of entriesOf firstEntry nodeAt uByte signerU firstNode leafIn leafKey1 leafCommitmentBytes1 hashedLeaf leafSeed1 row1Byte
+u-of-trees : signer_u shape 2 (row1_byte stand_in shape iv signer-trees) ≡ signer-u
+unfolding tabulate xor_below level node_bytes deeper depth_of entries_of first_entry node_at u_byte signer_u first_node leaf_in leaf_key1 leaf_commitment_bytes1 hashed_leaf leaf_seed1 row1_byte
 u-of-trees = refl
 
-v-of-trees : matrixOf shape 2 (signerColumn shape 2 (row1Byte standIn shape iv signer-trees)) ≡ signer-v ++ zeros (2 * 123)
-unfolding tabulate concat zeros xorBelow level nodeBytes deeper depth_of entriesOf firstEntry nodeAt columnByte matrixOf signerColumn firstNode leafIn leafKey1 leafCommitmentBytes1 hashedLeaf leafSeed1 row1Byte
+v-of-trees : matrix_of shape 2 (signer_column shape 2 (row1_byte stand_in shape iv signer-trees)) ≡ signer-v ++ zeros (2 * 123)
+unfolding tabulate concat zeros xor_below level node_bytes deeper depth_of entries_of first_entry node_at column_byte matrix_of signer_column first_node leaf_in leaf_key1 leaf_commitment_bytes1 hashed_leaf leaf_seed1 row1_byte
 v-of-trees = refl
 
-corrections-of-trees : corrections shape 2 (row1Byte standIn shape iv signer-trees) ≡ signer-corrections
-unfolding tabulate concat xorBelow level nodeBytes deeper depth_of entriesOf firstEntry nodeAt uByte correction corrections firstNode leafIn leafKey1 leafCommitmentBytes1 hashedLeaf leafSeed1 row1Byte
+corrections-of-trees : corrections shape 2 (row1_byte stand_in shape iv signer-trees) ≡ signer-corrections
+unfolding tabulate concat xor_below level node_bytes deeper depth_of entries_of first_entry node_at u_byte correction corrections first_node leaf_in leaf_key1 leaf_commitment_bytes1 hashed_leaf leaf_seed1 row1_byte
 corrections-of-trees = refl
 
 pub commits :
-    let x = committed1 standIn shape 2 root iv in
+    let x = committed1 stand_in shape 2 root iv in
     (x.commitment ≡ signer-commitment)
     × (x.tree ≡ signer-trees)
-    × (x.leafCommitments ≡ signer-leaf-commitments)
+    × (x.leaf_commitments ≡ signer-leaf-commitments)
     × (x.u ≡ signer-u)
     × (x.v ≡ signer-v ++ zeros (2 * 123))
     × (x.corrections ≡ signer-corrections)
 unfolding committed1
 commits = (
-  ap (λ (trees : List ℕ). commitmentOf standIn shape (signerLeafCommitment1 standIn shape iv trees)) trees-of-root ∙ hash-of-trees,
+  ap (λ (trees : List ℕ). commitment_of stand_in shape (signer_leaf_commitment1 stand_in shape iv trees)) trees-of-root ∙ hash-of-trees,
   trees-of-root,
-  ap (λ (trees : List ℕ). leafCommitments shape (signerLeafCommitment1 standIn shape iv trees)) trees-of-root ∙ commitments-of-trees,
-  ap (λ (trees : List ℕ). signerU shape 2 (row1Byte standIn shape iv trees)) trees-of-root ∙ u-of-trees,
-  ap (λ (trees : List ℕ). matrixOf shape 2 (signerColumn shape 2 (row1Byte standIn shape iv trees))) trees-of-root ∙ v-of-trees,
-  ap (λ (trees : List ℕ). corrections shape 2 (row1Byte standIn shape iv trees)) trees-of-root ∙ corrections-of-trees,
+  ap (λ (trees : List ℕ). leaf_commitments shape (signer_leaf_commitment1 stand_in shape iv trees)) trees-of-root ∙ commitments-of-trees,
+  ap (λ (trees : List ℕ). signer_u shape 2 (row1_byte stand_in shape iv trees)) trees-of-root ∙ u-of-trees,
+  ap (λ (trees : List ℕ). matrix_of shape 2 (signer_column shape 2 (row1_byte stand_in shape iv trees))) trees-of-root ∙ v-of-trees,
+  ap (λ (trees : List ℕ). corrections shape 2 (row1_byte stand_in shape iv trees)) trees-of-root ∙ corrections-of-trees,
 )
 
 -- ---- open
 
 -- the way to leaf 2 of 4 goes right and then left
 pub siblings-of-2 : siblings shape challenge 0 ≡ 1 ∷ 6 ∷ []
-unfolding tabulate number bit_at bits_at index_at deeper level depth_of firstBit hiddenIndex siblingAt siblings
+unfolding tabulate number bit_at bits_at index_at deeper level depth_of first_bit hidden_index sibling_at siblings
 siblings-of-2 = refl
 
-pub opens : opening1Of shape challenge signer-trees signer-leaf-commitments ≡ opening
-unfolding tabulate concat number bit_at bits_at index_at level nodeBytes deeper depth_of entriesOf firstBit firstEntry hiddenIndex nodeAt firstNode leafCommitmentBytes1 siblingAt siblings leafCommitmentAt1 decommitment opening1Of
+pub opens : opening1_of shape challenge signer-trees signer-leaf-commitments ≡ opening
+unfolding tabulate concat number bit_at bits_at index_at level node_bytes deeper depth_of entries_of first_bit first_entry hidden_index node_at first_node leaf_commitment_bytes1 sibling_at siblings leaf_commitment_at1 decommitment opening1_of
 opens = refl
 
 -- ---- reconstruct
 
-trees-of-opening : reconstructedTrees standIn shape iv challenge opening ≡ verifier-trees
-unfolding tabulate concat zeros index_of number bit_at bits_at index_at parent isAncestorWithin isAncestor some covered expandTree level nodeBytes deeper depth_of entriesOf firstBit hiddenIndex prg prg1 children1 leafIn siblingAt siblings decommitmentFrom slot1 on_path givenNode1 reconstructedChildren1 reconstructedVectorTree reconstructedTrees
+trees-of-opening : reconstructed_trees stand_in shape iv challenge opening ≡ verifier-trees
+unfolding tabulate concat zeros index_of number bit_at bits_at index_at parent is_ancestor_within is_ancestor some covered expand_tree level node_bytes deeper depth_of entries_of first_bit hidden_index prg prg1 children1 leaf_in sibling_at siblings decommitment_from slot1 on_path given_node1 reconstructed_children1 reconstructed_vector_tree reconstructed_trees
 trees-of-opening = refl
 
-commitments-again : leafCommitments shape (verifierLeafCommitment1 standIn shape iv challenge opening verifier-trees) ≡ signer-leaf-commitments
-unfolding tabulate concat number bit_at bits_at index_at level nodeBytes deeper depth_of entriesOf firstBit firstEntry hiddenIndex nodeAt vectorCommitments leafCommitments firstNode leafIn leafKey1 leafCommitmentBytes1 hashedLeaf leafCommitment1 decommitmentFrom hiddenLeafCommitment1 verifierLeafCommitment1
+commitments-again : leaf_commitments shape (verifier_leaf_commitment1 stand_in shape iv challenge opening verifier-trees) ≡ signer-leaf-commitments
+unfolding tabulate concat number bit_at bits_at index_at level node_bytes deeper depth_of entries_of first_bit first_entry hidden_index node_at vector_commitments leaf_commitments first_node leaf_in leaf_key1 leaf_commitment_bytes1 hashed_leaf leaf_commitment1 decommitment_from hidden_leaf_commitment1 verifier_leaf_commitment1
 commitments-again = refl
 
-hash-again : commitmentOf standIn shape (verifierLeafCommitment1 standIn shape iv challenge opening verifier-trees) ≡ signer-commitment
-unfolding tabulate concat number bit_at bits_at index_at level nodeBytes deeper depth_of entriesOf firstBit firstEntry hiddenIndex nodeAt vectorCommitments vectorHash commitmentOf firstNode leafIn leafKey1 leafCommitmentBytes1 hashedLeaf leafCommitment1 decommitmentFrom hiddenLeafCommitment1 verifierLeafCommitment1
+hash-again : commitment_of stand_in shape (verifier_leaf_commitment1 stand_in shape iv challenge opening verifier-trees) ≡ signer-commitment
+unfolding tabulate concat number bit_at bits_at index_at level node_bytes deeper depth_of entries_of first_bit first_entry hidden_index node_at vector_commitments vector_hash commitment_of first_node leaf_in leaf_key1 leaf_commitment_bytes1 hashed_leaf leaf_commitment1 decommitment_from hidden_leaf_commitment1 verifier_leaf_commitment1
 hash-again = refl
 
-q-of-trees : matrixOf shape 2 (verifierColumn shape 2 (row1Byte standIn shape iv verifier-trees) challenge signer-corrections) ≡ verifier-q ++ zeros (2 * 123)
-unfolding tabulate concat zeros xorBelow number bit_at bits_at index_at level nodeBytes deeper depth_of entriesOf firstBit firstEntry hiddenIndex nodeAt columnByte matrixOf correctionByte verifierColumn firstNode leafIn leafKey1 leafCommitmentBytes1 hashedLeaf leafSeed1 row1Byte
+q-of-trees : matrix_of shape 2 (verifier_column shape 2 (row1_byte stand_in shape iv verifier-trees) challenge signer-corrections) ≡ verifier-q ++ zeros (2 * 123)
+unfolding tabulate concat zeros xor_below number bit_at bits_at index_at level node_bytes deeper depth_of entries_of first_bit first_entry hidden_index node_at column_byte matrix_of correction_byte verifier_column first_node leaf_in leaf_key1 leaf_commitment_bytes1 hashed_leaf leaf_seed1 row1_byte
 q-of-trees = refl
 
 pub reconstructs :
-    let x = reconstructed1 standIn shape 2 iv challenge signer-corrections opening in
+    let x = reconstructed1 stand_in shape 2 iv challenge signer-corrections opening in
     (x.commitment ≡ signer-commitment)
     × (x.tree ≡ verifier-trees)
-    × (x.leafCommitments ≡ signer-leaf-commitments)
+    × (x.leaf_commitments ≡ signer-leaf-commitments)
     × (x.q ≡ verifier-q ++ zeros (2 * 123))
 unfolding reconstructed1
 reconstructs = (
-  ap (λ (trees : List ℕ). commitmentOf standIn shape (verifierLeafCommitment1 standIn shape iv challenge opening trees)) trees-of-opening ∙ hash-again,
+  ap (λ (trees : List ℕ). commitment_of stand_in shape (verifier_leaf_commitment1 stand_in shape iv challenge opening trees)) trees-of-opening ∙ hash-again,
   trees-of-opening,
-  ap (λ (trees : List ℕ). leafCommitments shape (verifierLeafCommitment1 standIn shape iv challenge opening trees)) trees-of-opening ∙ commitments-again,
-  ap (λ (trees : List ℕ). matrixOf shape 2 (verifierColumn shape 2 (row1Byte standIn shape iv trees) challenge signer-corrections)) trees-of-opening ∙ q-of-trees,
+  ap (λ (trees : List ℕ). leaf_commitments shape (verifier_leaf_commitment1 stand_in shape iv challenge opening trees)) trees-of-opening ∙ commitments-again,
+  ap (λ (trees : List ℕ). matrix_of shape 2 (verifier_column shape 2 (row1_byte stand_in shape iv trees) challenge signer-corrections)) trees-of-opening ∙ q-of-trees,
 )

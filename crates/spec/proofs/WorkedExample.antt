@@ -5,17 +5,17 @@ use mathlib.Core.Path.{◌≡◌, refl, ap, ◌∙◌}
 use mathlib.Core.List.{List, [], ◌∷◌, ◌++◌}
 use Rattle.spec.specs.declared.Shape.{Shape}
 use Rattle.spec.specs.declared.Stretch.{Stretch}
-use Rattle.spec.specs.Bytes.{tabulate, concat, zeros, xorBelow, number, index_of}
-use Rattle.spec.specs.Tree.{parent, isAncestorWithin, isAncestor, some, covered, siblingToReveal, revealedFrom, revealed, nodeCount, expandTree}
+use Rattle.spec.specs.Bytes.{tabulate, concat, zeros, xor_below, number, index_of}
+use Rattle.spec.specs.Tree.{parent, is_ancestor_within, is_ancestor, some, covered, sibling_to_reveal, revealed_from, revealed, node_count, expand_tree}
 use Rattle.spec.specs.Challenge.{bit_at, bits_at, index_at}
-use Rattle.spec.specs.Shapes.{level, nodeBytes, leafCommitmentBytes, deeper, depth_of, entriesOf, firstBit, firstEntry, leaves, leafOf, hiddenIndex, hiddenLeaf, hiddenLeaves, planned, plannedCount}
+use Rattle.spec.specs.Shapes.{level, node_bytes, leaf_commitment_bytes, deeper, depth_of, entries_of, first_bit, first_entry, leaves, leaf_of, hidden_index, hidden_leaf, hidden_leaves, planned, planned_count}
 use Rattle.spec.specs.Primitives.{prg}
-use Rattle.spec.specs.Leaves.{nodeAt, leafKey, children, hashKey, stretched, leafSeed, leafCommitment, vectorCommitments, leafCommitments, vectorHash, commitmentOf}
-use Rattle.spec.specs.Rows.{rowByte, stretchByte, uByte, columnByte, matrixOf}
-use Rattle.spec.specs.Signer.{signerTree, signerLeafCommitment, signerU, signerColumn, correction, corrections, leafCommitmentAt, openingOf}
-use Rattle.spec.specs.Verifier.{hiddenLeafCommitment, slot, givenNode, reconstructedChildren, reconstructedTree, verifierLeafCommitment, correctionByte, verifierColumn}
+use Rattle.spec.specs.Leaves.{node_at, leaf_key, children, hash_key, stretched, leaf_seed, leaf_commitment, vector_commitments, leaf_commitments, vector_hash, commitment_of}
+use Rattle.spec.specs.Rows.{row_byte, stretch_byte, u_byte, column_byte, matrix_of}
+use Rattle.spec.specs.Signer.{signer_tree, signer_leaf_commitment, signer_u, signer_column, correction, corrections, leaf_commitment_at, opening_of}
+use Rattle.spec.specs.Verifier.{hidden_leaf_commitment, slot, given_node, reconstructed_children, reconstructed_tree, verifier_leaf_commitment, correction_byte, verifier_column}
 use Rattle.spec.specs.Calls.{committed, reconstructed}
-use Rattle.spec.proofs.StandIns.{standIn}
+use Rattle.spec.proofs.StandIns.{stand_in}
 
 abbrev pub shape : Shape
 shape = record { tau = 3; k = 2; w = 122; t = 7; level = 128; kind = 0 }
@@ -78,119 +78,119 @@ last-q = 204 ∷ 237 ∷ 77 ∷ 81 ∷ 108 ∷ 129 ∷ []
 
 -- the stretch z of the rows of a tree
 abbrev pub rows : Stretch → List ℕ → ℕ → ℕ → ℕ → ℕ
-rows z tree = stretchByte standIn shape z iv tree
+rows z tree = stretch_byte stand_in shape z iv tree
 
 -- ---- commit
 
-tree-of-root : signerTree standIn shape root iv ≡ signer-tree
-unfolding tabulate expandTree level nodeBytes leaves prg children signerTree deeper
+tree-of-root : signer_tree stand_in shape root iv ≡ signer-tree
+unfolding tabulate expand_tree level node_bytes leaves prg children signer_tree deeper
 tree-of-root = refl
 
-commitments-of-tree : leafCommitments shape (signerLeafCommitment standIn shape iv signer-tree) ≡ signer-leaf-commitments
-unfolding tabulate level nodeBytes leafCommitmentBytes leaves leafOf prg nodeAt leafKey stretched leafSeed concat depth_of entriesOf hashKey leafCommitment vectorCommitments leafCommitments signerLeafCommitment deeper
+commitments-of-tree : leaf_commitments shape (signer_leaf_commitment stand_in shape iv signer-tree) ≡ signer-leaf-commitments
+unfolding tabulate level node_bytes leaf_commitment_bytes leaves leaf_of prg node_at leaf_key stretched leaf_seed concat depth_of entries_of hash_key leaf_commitment vector_commitments leaf_commitments signer_leaf_commitment deeper
 commitments-of-tree = refl
 
-hash-of-tree : commitmentOf standIn shape (signerLeafCommitment standIn shape iv signer-tree) ≡ signer-commitment
-unfolding tabulate level nodeBytes leafCommitmentBytes leaves leafOf prg nodeAt leafKey stretched leafSeed concat depth_of entriesOf hashKey leafCommitment vectorCommitments vectorHash commitmentOf signerLeafCommitment deeper
+hash-of-tree : commitment_of stand_in shape (signer_leaf_commitment stand_in shape iv signer-tree) ≡ signer-commitment
+unfolding tabulate level node_bytes leaf_commitment_bytes leaves leaf_of prg node_at leaf_key stretched leaf_seed concat depth_of entries_of hash_key leaf_commitment vector_commitments vector_hash commitment_of signer_leaf_commitment deeper
 hash-of-tree = refl
 
-u-of-tree : signerU shape 2 (rows whole signer-tree) ≡ signer-u
-unfolding tabulate level nodeBytes leafCommitmentBytes leaves leafOf prg nodeAt leafKey stretched leafSeed xorBelow depth_of entriesOf rowByte stretchByte uByte signerU deeper
+u-of-tree : signer_u shape 2 (rows whole signer-tree) ≡ signer-u
+unfolding tabulate level node_bytes leaf_commitment_bytes leaves leaf_of prg node_at leaf_key stretched leaf_seed xor_below depth_of entries_of row_byte stretch_byte u_byte signer_u deeper
 u-of-tree = refl
 
-v-of-tree : matrixOf shape 2 (signerColumn shape 2 (rows whole signer-tree)) ≡ signer-v ++ zeros (2 * 122)
-unfolding tabulate level nodeBytes leafCommitmentBytes leaves leafOf prg nodeAt leafKey stretched leafSeed xorBelow depth_of entriesOf rowByte stretchByte concat zeros columnByte matrixOf signerColumn deeper
+v-of-tree : matrix_of shape 2 (signer_column shape 2 (rows whole signer-tree)) ≡ signer-v ++ zeros (2 * 122)
+unfolding tabulate level node_bytes leaf_commitment_bytes leaves leaf_of prg node_at leaf_key stretched leaf_seed xor_below depth_of entries_of row_byte stretch_byte concat zeros column_byte matrix_of signer_column deeper
 v-of-tree = refl
 
 corrections-of-tree : corrections shape 2 (rows whole signer-tree) ≡ signer-corrections
-unfolding tabulate level nodeBytes leafCommitmentBytes leaves leafOf prg nodeAt leafKey stretched leafSeed xorBelow depth_of entriesOf rowByte stretchByte concat uByte correction corrections deeper
+unfolding tabulate level node_bytes leaf_commitment_bytes leaves leaf_of prg node_at leaf_key stretched leaf_seed xor_below depth_of entries_of row_byte stretch_byte concat u_byte correction corrections deeper
 corrections-of-tree = refl
 
 pub commits :
-    let x = committed standIn shape whole root iv in
+    let x = committed stand_in shape whole root iv in
     (x.commitment ≡ signer-commitment)
     × (x.tree ≡ signer-tree)
-    × (x.leafCommitments ≡ signer-leaf-commitments)
+    × (x.leaf_commitments ≡ signer-leaf-commitments)
     × (x.u ≡ signer-u)
     × (x.v ≡ signer-v ++ zeros (2 * 122))
     × (x.corrections ≡ signer-corrections)
 unfolding committed
 commits = (
-  ap (λ (tree : List ℕ). commitmentOf standIn shape (signerLeafCommitment standIn shape iv tree)) tree-of-root ∙ hash-of-tree,
+  ap (λ (tree : List ℕ). commitment_of stand_in shape (signer_leaf_commitment stand_in shape iv tree)) tree-of-root ∙ hash-of-tree,
   tree-of-root,
-  ap (λ (tree : List ℕ). leafCommitments shape (signerLeafCommitment standIn shape iv tree)) tree-of-root ∙ commitments-of-tree,
-  ap (λ (tree : List ℕ). signerU shape 2 (rows whole tree)) tree-of-root ∙ u-of-tree,
-  ap (λ (tree : List ℕ). matrixOf shape 2 (signerColumn shape 2 (rows whole tree))) tree-of-root ∙ v-of-tree,
+  ap (λ (tree : List ℕ). leaf_commitments shape (signer_leaf_commitment stand_in shape iv tree)) tree-of-root ∙ commitments-of-tree,
+  ap (λ (tree : List ℕ). signer_u shape 2 (rows whole tree)) tree-of-root ∙ u-of-tree,
+  ap (λ (tree : List ℕ). matrix_of shape 2 (signer_column shape 2 (rows whole tree))) tree-of-root ∙ v-of-tree,
   ap (λ (tree : List ℕ). corrections shape 2 (rows whole tree)) tree-of-root ∙ corrections-of-tree,
 )
 
 -- ---- open
 
-pub opens : openingOf shape challenge signer-tree signer-leaf-commitments ≡ opening
-unfolding tabulate number bit_at bits_at index_at depth_of firstBit leaves leafOf hiddenIndex parent isAncestorWithin isAncestor some covered siblingToReveal revealedFrom revealed nodeCount hiddenLeaf hiddenLeaves planned plannedCount concat zeros level nodeBytes leafCommitmentBytes firstEntry nodeAt leafCommitmentAt openingOf deeper
+pub opens : opening_of shape challenge signer-tree signer-leaf-commitments ≡ opening
+unfolding tabulate number bit_at bits_at index_at depth_of first_bit leaves leaf_of hidden_index parent is_ancestor_within is_ancestor some covered sibling_to_reveal revealed_from revealed node_count hidden_leaf hidden_leaves planned planned_count concat zeros level node_bytes leaf_commitment_bytes first_entry node_at leaf_commitment_at opening_of deeper
 opens = refl
 
 -- ---- reconstruct
 
-tree-of-opening : reconstructedTree standIn shape iv challenge opening ≡ verifier-tree
-unfolding tabulate number bit_at bits_at index_at depth_of firstBit leaves leafOf hiddenIndex parent isAncestorWithin isAncestor some covered siblingToReveal revealedFrom revealed nodeCount hiddenLeaf hiddenLeaves planned plannedCount zeros index_of expandTree level nodeBytes leafCommitmentBytes prg children slot givenNode reconstructedChildren reconstructedTree deeper
+tree-of-opening : reconstructed_tree stand_in shape iv challenge opening ≡ verifier-tree
+unfolding tabulate number bit_at bits_at index_at depth_of first_bit leaves leaf_of hidden_index parent is_ancestor_within is_ancestor some covered sibling_to_reveal revealed_from revealed node_count hidden_leaf hidden_leaves planned planned_count zeros index_of expand_tree level node_bytes leaf_commitment_bytes prg children slot given_node reconstructed_children reconstructed_tree deeper
 tree-of-opening = refl
 
-commitments-again : leafCommitments shape (verifierLeafCommitment standIn shape iv challenge opening verifier-tree) ≡ signer-leaf-commitments
-unfolding tabulate level nodeBytes leafCommitmentBytes leaves leafOf prg nodeAt leafKey stretched leafSeed concat depth_of entriesOf hashKey leafCommitment number bit_at bits_at index_at firstBit hiddenIndex hiddenLeafCommitment verifierLeafCommitment vectorCommitments leafCommitments deeper
+commitments-again : leaf_commitments shape (verifier_leaf_commitment stand_in shape iv challenge opening verifier-tree) ≡ signer-leaf-commitments
+unfolding tabulate level node_bytes leaf_commitment_bytes leaves leaf_of prg node_at leaf_key stretched leaf_seed concat depth_of entries_of hash_key leaf_commitment number bit_at bits_at index_at first_bit hidden_index hidden_leaf_commitment verifier_leaf_commitment vector_commitments leaf_commitments deeper
 commitments-again = refl
 
-hash-again : commitmentOf standIn shape (verifierLeafCommitment standIn shape iv challenge opening verifier-tree) ≡ signer-commitment
-unfolding tabulate level nodeBytes leafCommitmentBytes leaves leafOf prg nodeAt leafKey stretched leafSeed concat depth_of entriesOf hashKey leafCommitment number bit_at bits_at index_at firstBit hiddenIndex hiddenLeafCommitment verifierLeafCommitment vectorCommitments vectorHash commitmentOf deeper
+hash-again : commitment_of stand_in shape (verifier_leaf_commitment stand_in shape iv challenge opening verifier-tree) ≡ signer-commitment
+unfolding tabulate level node_bytes leaf_commitment_bytes leaves leaf_of prg node_at leaf_key stretched leaf_seed concat depth_of entries_of hash_key leaf_commitment number bit_at bits_at index_at first_bit hidden_index hidden_leaf_commitment verifier_leaf_commitment vector_commitments vector_hash commitment_of deeper
 hash-again = refl
 
-q-of-tree : matrixOf shape 2 (verifierColumn shape 2 (rows whole verifier-tree) challenge signer-corrections) ≡ verifier-q ++ zeros (2 * 122)
-unfolding tabulate level nodeBytes leafCommitmentBytes leaves leafOf prg nodeAt leafKey stretched leafSeed xorBelow depth_of entriesOf rowByte stretchByte number bit_at bits_at index_at firstBit hiddenIndex concat zeros columnByte matrixOf correctionByte verifierColumn deeper
+q-of-tree : matrix_of shape 2 (verifier_column shape 2 (rows whole verifier-tree) challenge signer-corrections) ≡ verifier-q ++ zeros (2 * 122)
+unfolding tabulate level node_bytes leaf_commitment_bytes leaves leaf_of prg node_at leaf_key stretched leaf_seed xor_below depth_of entries_of row_byte stretch_byte number bit_at bits_at index_at first_bit hidden_index concat zeros column_byte matrix_of correction_byte verifier_column deeper
 q-of-tree = refl
 
 pub reconstructs :
-    let x = reconstructed standIn shape whole iv challenge signer-corrections opening in
+    let x = reconstructed stand_in shape whole iv challenge signer-corrections opening in
     (x.commitment ≡ signer-commitment)
     × (x.tree ≡ verifier-tree)
-    × (x.leafCommitments ≡ signer-leaf-commitments)
+    × (x.leaf_commitments ≡ signer-leaf-commitments)
     × (x.q ≡ verifier-q ++ zeros (2 * 122))
 unfolding reconstructed
 reconstructs = (
-  ap (λ (tree : List ℕ). commitmentOf standIn shape (verifierLeafCommitment standIn shape iv challenge opening tree)) tree-of-opening ∙ hash-again,
+  ap (λ (tree : List ℕ). commitment_of stand_in shape (verifier_leaf_commitment stand_in shape iv challenge opening tree)) tree-of-opening ∙ hash-again,
   tree-of-opening,
-  ap (λ (tree : List ℕ). leafCommitments shape (verifierLeafCommitment standIn shape iv challenge opening tree)) tree-of-opening ∙ commitments-again,
-  ap (λ (tree : List ℕ). matrixOf shape 2 (verifierColumn shape 2 (rows whole tree) challenge signer-corrections)) tree-of-opening ∙ q-of-tree,
+  ap (λ (tree : List ℕ). leaf_commitments shape (verifier_leaf_commitment stand_in shape iv challenge opening tree)) tree-of-opening ∙ commitments-again,
+  ap (λ (tree : List ℕ). matrix_of shape 2 (verifier_column shape 2 (rows whole tree) challenge signer-corrections)) tree-of-opening ∙ q-of-tree,
 )
 
 -- ---- of a stretch: the last byte of each row
 
-last-u-of-tree : signerU shape 1 (rows last_byte signer-tree) ≡ last-u
-unfolding tabulate level nodeBytes leafCommitmentBytes leaves leafOf prg nodeAt leafKey stretched leafSeed xorBelow depth_of entriesOf rowByte stretchByte uByte signerU deeper
+last-u-of-tree : signer_u shape 1 (rows last_byte signer-tree) ≡ last-u
+unfolding tabulate level node_bytes leaf_commitment_bytes leaves leaf_of prg node_at leaf_key stretched leaf_seed xor_below depth_of entries_of row_byte stretch_byte u_byte signer_u deeper
 last-u-of-tree = refl
 
-last-v-of-tree : matrixOf shape 1 (signerColumn shape 1 (rows last_byte signer-tree)) ≡ last-v ++ zeros (1 * 122)
-unfolding tabulate level nodeBytes leafCommitmentBytes leaves leafOf prg nodeAt leafKey stretched leafSeed xorBelow depth_of entriesOf rowByte stretchByte concat zeros columnByte matrixOf signerColumn deeper
+last-v-of-tree : matrix_of shape 1 (signer_column shape 1 (rows last_byte signer-tree)) ≡ last-v ++ zeros (1 * 122)
+unfolding tabulate level node_bytes leaf_commitment_bytes leaves leaf_of prg node_at leaf_key stretched leaf_seed xor_below depth_of entries_of row_byte stretch_byte concat zeros column_byte matrix_of signer_column deeper
 last-v-of-tree = refl
 
 last-corrections-of-tree : corrections shape 1 (rows last_byte signer-tree) ≡ last-corrections
-unfolding tabulate level nodeBytes leafCommitmentBytes leaves leafOf prg nodeAt leafKey stretched leafSeed xorBelow depth_of entriesOf rowByte stretchByte concat uByte correction corrections deeper
+unfolding tabulate level node_bytes leaf_commitment_bytes leaves leaf_of prg node_at leaf_key stretched leaf_seed xor_below depth_of entries_of row_byte stretch_byte concat u_byte correction corrections deeper
 last-corrections-of-tree = refl
 
-last-q-of-tree : matrixOf shape 1 (verifierColumn shape 1 (rows last_byte verifier-tree) challenge last-corrections) ≡ last-q ++ zeros (1 * 122)
-unfolding tabulate level nodeBytes leafCommitmentBytes leaves leafOf prg nodeAt leafKey stretched leafSeed xorBelow depth_of entriesOf rowByte stretchByte number bit_at bits_at index_at firstBit hiddenIndex concat zeros columnByte matrixOf correctionByte verifierColumn deeper
+last-q-of-tree : matrix_of shape 1 (verifier_column shape 1 (rows last_byte verifier-tree) challenge last-corrections) ≡ last-q ++ zeros (1 * 122)
+unfolding tabulate level node_bytes leaf_commitment_bytes leaves leaf_of prg node_at leaf_key stretched leaf_seed xor_below depth_of entries_of row_byte stretch_byte number bit_at bits_at index_at first_bit hidden_index concat zeros column_byte matrix_of correction_byte verifier_column deeper
 last-q-of-tree = refl
 
 pub last-byte-of-rows :
-    let x = committed standIn shape last_byte root iv in
-    let y = reconstructed standIn shape last_byte iv challenge last-corrections opening in
+    let x = committed stand_in shape last_byte root iv in
+    let y = reconstructed stand_in shape last_byte iv challenge last-corrections opening in
     (x.u ≡ last-u)
     × (x.v ≡ last-v ++ zeros (1 * 122))
     × (x.corrections ≡ last-corrections)
     × (y.q ≡ last-q ++ zeros (1 * 122))
 unfolding committed reconstructed
 last-byte-of-rows = (
-  ap (λ (tree : List ℕ). signerU shape 1 (rows last_byte tree)) tree-of-root ∙ last-u-of-tree,
-  ap (λ (tree : List ℕ). matrixOf shape 1 (signerColumn shape 1 (rows last_byte tree))) tree-of-root ∙ last-v-of-tree,
+  ap (λ (tree : List ℕ). signer_u shape 1 (rows last_byte tree)) tree-of-root ∙ last-u-of-tree,
+  ap (λ (tree : List ℕ). matrix_of shape 1 (signer_column shape 1 (rows last_byte tree))) tree-of-root ∙ last-v-of-tree,
   ap (λ (tree : List ℕ). corrections shape 1 (rows last_byte tree)) tree-of-root ∙ last-corrections-of-tree,
-  ap (λ (tree : List ℕ). matrixOf shape 1 (verifierColumn shape 1 (rows last_byte tree) challenge last-corrections)) tree-of-opening ∙ last-q-of-tree,
+  ap (λ (tree : List ℕ). matrix_of shape 1 (verifier_column shape 1 (rows last_byte tree) challenge last-corrections)) tree-of-opening ∙ last-q-of-tree,
 )

@@ -25,22 +25,22 @@ word_at b i = word (λ r. get_or b (4 * i + r) 0)
 abbrev pub state_of : List ℕ → List (List ℕ)
 state_of b = state (word_at b)
 
-abbrev pub bytesOf : List (List ℕ) → List ℕ
-bytesOf s = word (λ r. byte_at s r 0) ++ (word (λ r. byte_at s r 1) ++ (word (λ r. byte_at s r 2) ++ word (λ r. byte_at s r 3)))
+abbrev pub bytes_of : List (List ℕ) → List ℕ
+bytes_of s = word (λ r. byte_at s r 0) ++ (word (λ r. byte_at s r 1) ++ (word (λ r. byte_at s r 2) ++ word (λ r. byte_at s r 3)))
 
-unfoldable pub xorWord : List ℕ → List ℕ → List ℕ
-xorWord a b = word (λ r. bit_xor (get_or a r 0) (get_or b r 0))
+unfoldable pub xor_word : List ℕ → List ℕ → List ℕ
+xor_word a b = word (λ r. bit_xor (get_or a r 0) (get_or b r 0))
 
 -- SUBWORD, section 5.2, and SUBBYTES, section 5.1.1
-unfoldable pub subWord : List ℕ → List ℕ
-subWord a = word (λ r. sbox (get_or a r 0))
+unfoldable pub sub_word : List ℕ → List ℕ
+sub_word a = word (λ r. sbox (get_or a r 0))
 
-unfoldable pub subBytes : List (List ℕ) → List (List ℕ)
-subBytes s = state (λ c. subWord (column s c))
+unfoldable pub sub_bytes : List (List ℕ) → List (List ℕ)
+sub_bytes s = state (λ c. sub_word (column s c))
 
 -- SHIFTROWS, section 5.1.2: row r moves left by r columns
-abbrev pub shiftRows : List (List ℕ) → List (List ℕ)
-shiftRows s = state (λ c. word (λ r. byte_at s r ((c + r) % 4)))
+abbrev pub shift_rows : List (List ℕ) → List (List ℕ)
+shift_rows s = state (λ c. word (λ r. byte_at s r ((c + r) % 4)))
 
 -- MIXCOLUMNS, section 5.1.3
 abbrev pub sum4 : ℕ → ℕ → ℕ → ℕ → ℕ
@@ -53,39 +53,39 @@ mixed a b c d =
     ∷ sum4 a b (mul 2 c) (mul 3 d)
     ∷ sum4 (mul 3 a) b c (mul 2 d) ∷ []
 
-unfoldable pub mixColumn : List ℕ → List ℕ
-mixColumn a = mixed (get_or a 0 0) (get_or a 1 0) (get_or a 2 0) (get_or a 3 0)
+unfoldable pub mix_column : List ℕ → List ℕ
+mix_column a = mixed (get_or a 0 0) (get_or a 1 0) (get_or a 2 0) (get_or a 3 0)
 
-unfoldable pub mixColumns : List (List ℕ) → List (List ℕ)
-mixColumns s = state (λ c. mixColumn (column s c))
+unfoldable pub mix_columns : List (List ℕ) → List (List ℕ)
+mix_columns s = state (λ c. mix_column (column s c))
 
 -- ADDROUNDKEY, section 5.1.4
-unfoldable pub addRoundKey : List (List ℕ) → List (List ℕ) → List (List ℕ)
-addRoundKey s k = state (λ c. xorWord (column s c) (column k c))
+unfoldable pub add_round_key : List (List ℕ) → List (List ℕ) → List (List ℕ)
+add_round_key s k = state (λ c. xor_word (column s c) (column k c))
 
 -- section 5.1: a round, and the last round
-unfoldable pub roundOf : List (List ℕ) → List (List ℕ) → List (List ℕ)
-roundOf s k = addRoundKey (mixColumns (shiftRows (subBytes s))) k
+unfoldable pub round_of : List (List ℕ) → List (List ℕ) → List (List ℕ)
+round_of s k = add_round_key (mix_columns (shift_rows (sub_bytes s))) k
 
-unfoldable pub lastRound : List (List ℕ) → List (List ℕ) → List (List ℕ)
-lastRound s k = addRoundKey (shiftRows (subBytes s)) k
+unfoldable pub last_round : List (List ℕ) → List (List ℕ) → List (List ℕ)
+last_round s k = add_round_key (shift_rows (sub_bytes s)) k
 
 -- round key i of the key schedule w
-unfoldable pub roundKey : List (List ℕ) → ℕ → List (List ℕ)
-roundKey w i = state (λ c. column w (4 * i + c))
+unfoldable pub round_key : List (List ℕ) → ℕ → List (List ℕ)
+round_key w i = state (λ c. column w (4 * i + c))
 
 -- the state s after rounds 1 to n
 unfoldable pub rounds : List (List ℕ) → List (List ℕ) → ℕ → List (List ℕ)
 rounds w s zero = s
-rounds w s (suc n) = roundOf (rounds w s n) (roundKey w (suc n))
+rounds w s (suc n) = round_of (rounds w s n) (round_key w (suc n))
 
 -- CIPHER, section 5.1, with nr rounds
 unfoldable pub cipher : ℕ → List (List ℕ) → List (List ℕ) → List (List ℕ)
-cipher nr w s = lastRound (rounds w (addRoundKey s (roundKey w 0)) (nr - 1)) (roundKey w nr)
+cipher nr w s = last_round (rounds w (add_round_key s (round_key w 0)) (nr - 1)) (round_key w nr)
 
 -- section 5.2: ROTWORD, and Rcon[i], whose first byte is {02}^(i - 1)
-abbrev pub rotWord : List ℕ → List ℕ
-rotWord a = word (λ r. get_or a ((r + 1) % 4) 0)
+abbrev pub rot_word : List ℕ → List ℕ
+rot_word a = word (λ r. get_or a ((r + 1) % 4) 0)
 
 unfoldable pub power2 : ℕ → ℕ
 power2 zero = 1
@@ -95,24 +95,24 @@ unfoldable pub rcon : ℕ → List ℕ
 rcon i = power2 (i - 1) ∷ 0 ∷ 0 ∷ 0 ∷ []
 
 -- KEYEXPANSION, section 5.2: what `temp`, word i - 1, becomes before it is added to word i - nk
-unfoldable pub scheduleCore : ℕ → ℕ → List ℕ → List ℕ
-scheduleCore nk i temp =
-    cond (eqb (i % nk) 0) (xorWord (subWord (rotWord temp)) (rcon (i / nk)))
-    (cond (ltb 6 nk && eqb (i % nk) 4) (subWord temp) temp)
+unfoldable pub schedule_core : ℕ → ℕ → List ℕ → List ℕ
+schedule_core nk i temp =
+    cond (eqb (i % nk) 0) (xor_word (sub_word (rot_word temp)) (rcon (i / nk)))
+    (cond (ltb 6 nk && eqb (i % nk) 4) (sub_word temp) temp)
 
 -- the word after the words w
-unfoldable pub nextWord : ℕ → List (List ℕ) → List ℕ
-nextWord nk w = xorWord (column w (length w - nk)) (scheduleCore nk (length w) (column w (length w - 1)))
+unfoldable pub next_word : ℕ → List (List ℕ) → List ℕ
+next_word nk w = xor_word (column w (length w - nk)) (schedule_core nk (length w) (column w (length w - 1)))
 
 -- the key's words and n more
 unfoldable pub schedule : ℕ → List (List ℕ) → ℕ → List (List ℕ)
 schedule nk key zero = key
-schedule nk key (suc n) = schedule nk key n ++ (nextWord nk (schedule nk key n) ∷ [])
+schedule nk key (suc n) = schedule nk key n ++ (next_word nk (schedule nk key n) ∷ [])
 
 -- the 4 * (nk + 7) words of the key schedule
-unfoldable pub keyExpansion : ℕ → List ℕ → List (List ℕ)
-keyExpansion nk key = schedule nk (tabulate nk (word_at key)) (3 * nk + 28)
+unfoldable pub key_expansion : ℕ → List ℕ → List (List ℕ)
+key_expansion nk key = schedule nk (tabulate nk (word_at key)) (3 * nk + 28)
 
 -- AES of one block
 unfoldable pub encrypt : ℕ → List ℕ → List ℕ → List ℕ
-encrypt nk key block = bytesOf (cipher (nk + 6) (keyExpansion nk key) (state_of block))
+encrypt nk key block = bytes_of (cipher (nk + 6) (key_expansion nk key) (state_of block))

@@ -20,20 +20,20 @@ unfoldable pub zeros : ℕ → List ℕ
 zeros n = replicate n 0
 
 -- each element is 0
-unfoldable pub allZero : List ℕ → Bool
-allZero [] = true
-allZero (x ∷ xs) = eqb x 0 && allZero xs
+unfoldable pub all_zero : List ℕ → Bool
+all_zero [] = true
+all_zero (x ∷ xs) = eqb x 0 && all_zero xs
 
 -- two strings of one length, xored byte by byte
-unfoldable pub xorBytes : List ℕ → List ℕ → List ℕ
-xorBytes [] ys = []
-xorBytes (x ∷ xs) [] = []
-xorBytes (x ∷ xs) (y ∷ ys) = bit_xor x y ∷ xorBytes xs ys
+unfoldable pub xor_bytes : List ℕ → List ℕ → List ℕ
+xor_bytes [] ys = []
+xor_bytes (x ∷ xs) [] = []
+xor_bytes (x ∷ xs) (y ∷ ys) = bit_xor x y ∷ xor_bytes xs ys
 
 -- the xor of f 0, f 1, .., f (n - 1)
-unfoldable pub xorBelow : ℕ → (ℕ → ℕ) → ℕ
-xorBelow zero f = 0
-xorBelow (suc n) f = bit_xor (xorBelow n f) (f n)
+unfoldable pub xor_below : ℕ → (ℕ → ℕ) → ℕ
+xor_below zero f = 0
+xor_below (suc n) f = bit_xor (xor_below n f) (f n)
 
 -- bit j of n; bit 0 is the least
 abbrev pub bit : ℕ → ℕ → ℕ
@@ -50,11 +50,11 @@ unfoldable pub digits : ℕ → ℕ → ℕ → List ℕ
 digits k n x = tabulate n (λ i. x / 2 ^ (k * i) % 2 ^ k)
 
 -- the number whose bytes, highest first, are the string, and the n lowest bytes of x, highest first
-unfoldable pub bigEndian : List ℕ → ℕ
-bigEndian bytes = number 8 (reverse bytes)
+unfoldable pub big_endian : List ℕ → ℕ
+big_endian bytes = number 8 (reverse bytes)
 
-unfoldable pub bigEndianBytes : ℕ → ℕ → List ℕ
-bigEndianBytes n x = reverse (digits 8 n x)
+unfoldable pub big_endian_bytes : ℕ → ℕ → List ℕ
+big_endian_bytes n x = reverse (digits 8 n x)
 
 -- the first place of x in a list
 unfoldable pub index_of : ℕ → List ℕ → ℕ

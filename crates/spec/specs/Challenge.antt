@@ -1,6 +1,6 @@
 -- Document 000, section 5.5.1; document 01, "Challenge, nodes and opening": the bits of a challenge. Bit 0 is the least bit of byte 0.
 use Rattle.std.specs.Prelude.{ℕ, ◌+◌, ◌/◌, ◌%◌, Bool, List, get_or}
-use Rattle.spec.specs.Bytes.{bit, tabulate, number, allZero}
+use Rattle.spec.specs.Bytes.{bit, tabulate, number, all_zero}
 
 -- bit b, and the n bits from bit `at` on
 unfoldable pub bit_at : List ℕ → ℕ → ℕ
@@ -14,5 +14,5 @@ unfoldable pub index_at : List ℕ → ℕ → ℕ → ℕ
 index_at ch at n = number 1 (bits_at ch at n)
 
 -- n bits are 0
-unfoldable pub clearAt : List ℕ → ℕ → ℕ → Bool
-clearAt ch at n = allZero (bits_at ch at n)
+unfoldable pub clear_at : List ℕ → ℕ → ℕ → Bool
+clear_at ch at n = all_zero (bits_at ch at n)

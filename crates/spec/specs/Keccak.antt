@@ -22,30 +22,30 @@ abbrev pub grid : (ℕ → ℕ → ℕ) → List ℕ
 grid f = tabulate 25 (λ i. f (i % 5) (i / 5))
 
 -- Algorithm 1, theta. Step 1: C[x], the parity of column x
-unfoldable pub columnParities : List ℕ → List ℕ
-columnParities a = tabulate 5 (λ x. bit_xor (bit_xor (bit_xor (bit_xor (lane a x 0) (lane a x 1)) (lane a x 2)) (lane a x 3)) (lane a x 4))
+unfoldable pub column_parities : List ℕ → List ℕ
+column_parities a = tabulate 5 (λ x. bit_xor (bit_xor (bit_xor (bit_xor (lane a x 0) (lane a x 1)) (lane a x 2)) (lane a x 3)) (lane a x 4))
 
 -- step 2: D[x], of the two columns beside column x
-unfoldable pub besideColumns : List ℕ → List ℕ
-besideColumns c = tabulate 5 (λ x. bit_xor (get_or c ((x + 4) % 5) 0) (rotl 1 (get_or c ((x + 1) % 5) 0)))
+unfoldable pub beside_columns : List ℕ → List ℕ
+beside_columns c = tabulate 5 (λ x. bit_xor (get_or c ((x + 4) % 5) 0) (rotl 1 (get_or c ((x + 1) % 5) 0)))
 
 -- step 3
-unfoldable pub addColumns : List ℕ → List ℕ → List ℕ
-addColumns a d = grid (λ x y. bit_xor (lane a x y) (get_or d x 0))
+unfoldable pub add_columns : List ℕ → List ℕ → List ℕ
+add_columns a d = grid (λ x y. bit_xor (lane a x y) (get_or d x 0))
 
 unfoldable pub theta : List ℕ → List ℕ
-theta a = addColumns a (besideColumns (columnParities a))
+theta a = add_columns a (beside_columns (column_parities a))
 
 -- Algorithm 2, rho: the walk over the lanes from (x, y), t steps done and n to go, notes the offset of each lane
-unfoldable pub walkOffsets : ℕ → ℕ → ℕ → ℕ → List ℕ → List ℕ
-walkOffsets zero t x y offsets = offsets
-walkOffsets (suc n) t x y offsets = walkOffsets n (suc t) y ((2 * x + 3 * y) % 5) (set offsets (5 * y + x) ((t + 1) * (t + 2) / 2 % 64))
+unfoldable pub walk_offsets : ℕ → ℕ → ℕ → ℕ → List ℕ → List ℕ
+walk_offsets zero t x y offsets = offsets
+walk_offsets (suc n) t x y offsets = walk_offsets n (suc t) y ((2 * x + 3 * y) % 5) (set offsets (5 * y + x) ((t + 1) * (t + 2) / 2 % 64))
 
-unfoldable pub rhoOffsets : List ℕ
-rhoOffsets = walkOffsets 24 0 1 0 (zeros 25)
+unfoldable pub rho_offsets : List ℕ
+rho_offsets = walk_offsets 24 0 1 0 (zeros 25)
 
 unfoldable pub rho : List ℕ → List ℕ
-rho a = grid (λ x y. rotl (get_or rhoOffsets (5 * y + x) 0) (lane a x y))
+rho a = grid (λ x y. rotl (get_or rho_offsets (5 * y + x) 0) (lane a x y))
 
 -- Algorithm 3, pi
 unfoldable pub pi : List ℕ → List ℕ
@@ -64,12 +64,12 @@ unfoldable pub rc : ℕ → ℕ
 rc t = register (t % 255) % 2
 
 -- Algorithm 6, iota. Bit 2^j - 1 of the constant of round i is rc (j + 7 i), for j from 0 to 6
-unfoldable pub roundConstantUpTo : ℕ → ℕ → ℕ
-roundConstantUpTo i zero = 0
-roundConstantUpTo i (suc j) = roundConstantUpTo i j + rc (j + 7 * i) * 2 ^ (2 ^ j - 1)
+unfoldable pub round_constant_up_to : ℕ → ℕ → ℕ
+round_constant_up_to i zero = 0
+round_constant_up_to i (suc j) = round_constant_up_to i j + rc (j + 7 * i) * 2 ^ (2 ^ j - 1)
 
-unfoldable pub roundConstant : ℕ → ℕ
-roundConstant i = roundConstantUpTo i 7
+unfoldable pub round_constant : ℕ → ℕ
+round_constant i = round_constant_up_to i 7
 
 unfoldable pub iota : ℕ → List ℕ → List ℕ
 iota k a = set a 0 (bit_xor (get_or a 0 0) k)
@@ -79,9 +79,9 @@ unfoldable pub round : ℕ → List ℕ → List ℕ
 round k a = iota k (chi (pi (rho (theta a))))
 
 -- Algorithm 7: the first n rounds, and all 24
-unfoldable pub firstRounds : ℕ → List ℕ → List ℕ
-firstRounds zero a = a
-firstRounds (suc n) a = round (roundConstant n) (firstRounds n a)
+unfoldable pub first_rounds : ℕ → List ℕ → List ℕ
+first_rounds zero a = a
+first_rounds (suc n) a = round (round_constant n) (first_rounds n a)
 
-unfoldable pub keccakF : List ℕ → List ℕ
-keccakF a = firstRounds 24 a
+unfoldable pub keccak_f : List ℕ → List ℕ
+keccak_f a = first_rounds 24 a

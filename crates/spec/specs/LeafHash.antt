@@ -3,12 +3,12 @@
 use Rattle.std.specs.Prelude.{List, ℕ, ◌*◌, ◌/◌, ◌%◌, ◌^◌, length}
 use Rattle.std.specs.Int.Bits.{bit_xor}
 use Rattle.spec.specs.Bytes.{number}
-use Rattle.spec.specs.Polynomials.{fieldProduct}
+use Rattle.spec.specs.Polynomials.{field_product}
 
 -- the field element h
-unfoldable pub leafHash : ℕ → ℕ → List ℕ → List ℕ → List ℕ → ℕ
-leafHash w m u x₀ x₁ = bit_xor (fieldProduct w m (8 * length x₀) (number 8 u) (number 8 x₀)) (number 8 x₁)
+unfoldable pub leaf_hash : ℕ → ℕ → List ℕ → List ℕ → List ℕ → ℕ
+leaf_hash w m u x₀ x₁ = bit_xor (field_product w m (8 * length x₀) (number 8 u) (number 8 x₀)) (number 8 x₁)
 
 -- byte p of h
-unfoldable pub leafHashByte : ℕ → ℕ → List ℕ → List ℕ → List ℕ → ℕ → ℕ
-leafHashByte w m u x₀ x₁ p = leafHash w m u x₀ x₁ / 2 ^ (8 * p) % 2 ^ 8
+unfoldable pub leaf_hash_byte : ℕ → ℕ → List ℕ → List ℕ → List ℕ → ℕ → ℕ
+leaf_hash_byte w m u x₀ x₁ p = leaf_hash w m u x₀ x₁ / 2 ^ (8 * p) % 2 ^ 8

@@ -15,5 +15,5 @@ remainder w m zero p = p
 remainder w m (suc n) p = remainder w m n (bit_xor (bit (w + n) p * (m * 2 ^ n)) p)
 
 -- the product in the field, for a of degree below w and b of degree below n
-unfoldable pub fieldProduct : ℕ → ℕ → ℕ → ℕ → ℕ → ℕ
-fieldProduct w m n a b = remainder w m n (product n a b)
+unfoldable pub field_product : ℕ → ℕ → ℕ → ℕ → ℕ → ℕ
+field_product w m n a b = remainder w m n (product n a b)

@@ -11,11 +11,11 @@ use lib.ListN.{length, get_or, take}
 use lib.Pow.{pow_mono}
 use lib.Seq.{length-take-le, get_or-take}
 use Rattle.spec.specs.Bytes.{tabulate, concat}
-use Rattle.spec.specs.Polynomials.{product, remainder, fieldProduct}
+use Rattle.spec.specs.Polynomials.{product, remainder, field_product}
 use Rattle.spec.specs.Gf256.{mul, squares, inverse}
-use Rattle.spec.specs.Keccak.{keccakF}
-use Rattle.spec.specs.Sponge.{stateByte, absorbedAll, permuted, outputByte, sponge}
-use Rattle.spec.specs.Shapes.{level, fieldWidth, fieldPolynomial, leaves, hiddenLeaves, plannedCount}
+use Rattle.spec.specs.Keccak.{keccak_f}
+use Rattle.spec.specs.Sponge.{state_byte, absorbed_all, permuted, output_byte, sponge}
+use Rattle.spec.specs.Shapes.{level, field_width, field_polynomial, leaves, hidden_leaves, planned_count}
 use Rattle.laws.proofs.Lists.{length-tabulate, is-tabulate}
 use Rattle.laws.proofs.Concat.{even-length, concat-byte}
 use Rattle.laws.proofs.Tables.{at-below}
@@ -32,7 +32,7 @@ inverts : ℕ → Bool
 inverts k = eqb (mul (suc k) (inverse (suc k))) 1
 
 tested : (k : ℕ) → k < 255 → T (inverts k)
-unfolding inverts product remainder fieldProduct mul squares inverse
+unfolding inverts product remainder field_product mul squares inverse
 tested k h = at-below inverts 255 tt k h
 
 pub sbox-inverse : SboxInverse
@@ -43,7 +43,7 @@ sbox-inverse (suc k) p h = eqb→eq (mul (suc k) (inverse (suc k))) 1 (tested k 
 -- ---- the product
 
 field-product : (w m : ℕ) → 2 ^ w ≤ m → m < 2 ^ suc w → FieldProduct w m
-unfolding fieldProduct
+unfolding field_product
 field-product w m low high =
     record {
       degree = λ n a b ha hb. remainder-lt w m low high n (product n a b) (small n a b ha);
@@ -58,7 +58,7 @@ pub gf256-product : Gf256Product
 gf256-product = field-product 8 0x11b (lit≤ tt) (lit< tt)
 
 pub leaf-hash-product : LeafHashProduct
-unfolding level fieldWidth fieldPolynomial
+unfolding level field_width field_polynomial
 leaf-hash-product s ok =
     by_level
     (λ n. FieldProduct (3 * n) (cond (eqb n 128) (2 ^ 384 + 2 ^ 12 + 2 ^ 3 + 2 ^ 2 + 1) (cond (eqb n 192) (2 ^ 576 + 2 ^ 13 + 2 ^ 4 + 2 ^ 3 + 1) (2 ^ 768 + 2 ^ 19 + 2 ^ 17 + 2 ^ 4 + 1))))
@@ -70,31 +70,31 @@ leaf-hash-product s ok =
 -- ---- the sponge
 
 -- a permutation more, at the front or behind
-permuted-next : (n : ℕ) (s : List ℕ) → permuted n (keccakF s) ≡ keccakF (permuted n s)
+permuted-next : (n : ℕ) (s : List ℕ) → permuted n (keccak_f s) ≡ keccak_f (permuted n s)
 unfolding permuted
 permuted-next zero s = refl
-permuted-next (suc n) s = ap keccakF (permuted-next n s)
+permuted-next (suc n) s = ap keccak_f (permuted-next n s)
 
-squeezed-more : (r n : ℕ) (s : List ℕ) → squeezed r (suc n) s ≡ squeezed r n s ++ tabulate r (stateByte (permuted n s))
+squeezed-more : (r n : ℕ) (s : List ℕ) → squeezed r (suc n) s ≡ squeezed r n s ++ tabulate r (state_byte (permuted n s))
 unfolding squeezed permuted
-squeezed-more r zero s = append-nil (tabulate r (stateByte s))
+squeezed-more r zero s = append-nil (tabulate r (state_byte s))
 squeezed-more r (suc n) s =
-    let next = squeezed r n (keccakF s) in
-    ap (λ (rest : List ℕ). tabulate r (stateByte s) ++ rest) (squeezed-more r n (keccakF s))
-    ∙ sym (append_assoc (tabulate r (stateByte s)) next (tabulate r (stateByte (permuted n (keccakF s)))))
-    ∙ ap (λ (a : List ℕ). (tabulate r (stateByte s) ++ next) ++ tabulate r (stateByte a)) (permuted-next n s)
+    let next = squeezed r n (keccak_f s) in
+    ap (λ (rest : List ℕ). tabulate r (state_byte s) ++ rest) (squeezed-more r n (keccak_f s))
+    ∙ sym (append_assoc (tabulate r (state_byte s)) next (tabulate r (state_byte (permuted n (keccak_f s)))))
+    ∙ ap (λ (a : List ℕ). (tabulate r (state_byte s) ++ next) ++ tabulate r (state_byte a)) (permuted-next n s)
 
-blocks-squeezed : (r n : ℕ) (s : List ℕ) → concat n (λ q. tabulate r (stateByte (permuted q s))) ≡ squeezed r n s
+blocks-squeezed : (r n : ℕ) (s : List ℕ) → concat n (λ q. tabulate r (state_byte (permuted q s))) ≡ squeezed r n s
 unfolding squeezed concat
 blocks-squeezed r zero s = refl
 blocks-squeezed r (suc n) s =
-    ap (λ (front : List ℕ). front ++ tabulate r (stateByte (permuted n s))) (blocks-squeezed r n s) ∙ sym (squeezed-more r n s)
+    ap (λ (front : List ℕ). front ++ tabulate r (state_byte (permuted n s))) (blocks-squeezed r n s) ∙ sym (squeezed-more r n s)
 
 pub sponge-blocks : SpongeBlocks
-unfolding sponge outputByte
+unfolding sponge output_byte
 sponge-blocks r suffix n blocks m hr h =
-    let s = absorbedAll r suffix m in
-    let f : ℕ → ℕ → ℕ = λ q p. stateByte (permuted q s) p in
+    let s = absorbed_all r suffix m in
+    let f : ℕ → ℕ → ℕ = λ q p. state_byte (permuted q s) p in
     let long : length (concat blocks (λ q. tabulate r (f q))) ≡ r * blocks = even-length (λ q. tabulate r (f q)) r blocks (λ i l. length-tabulate r (f i)) in
     sym (is-tabulate n (λ i. f (i / r) (i % r)) 0 (take n (concat blocks (λ q. tabulate r (f q))))
     (length-take-le n (concat blocks (λ q. tabulate r (f q))) (omega arith))
@@ -111,8 +111,8 @@ pub count-of-covered : CountOfCovered
 count-of-covered = count-covered
 
 pub planned-count : PlannedCount
-unfolding plannedCount
+unfolding planned_count
 planned-count s ch e =
     let n = hidden-count s ch in
-    ap (λ (m : ℕ). plannedCount s ch + 2 * m) (sym n)
-    ∙ count-covered (leaves s) (hiddenLeaves s ch) (hidden-leaves s ch) (hidden-distinct s ch) (let z = (shape-laws s e).tau-pos in omega arith)
+    ap (λ (m : ℕ). planned_count s ch + 2 * m) (sym n)
+    ∙ count-covered (leaves s) (hidden_leaves s ch) (hidden-leaves s ch) (hidden-distinct s ch) (let z = (shape-laws s e).tau-pos in omega arith)

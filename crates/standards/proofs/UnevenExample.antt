@@ -6,17 +6,17 @@ use mathlib.Core.Path.{◌≡◌, refl}
 use mathlib.Core.List.{List, [], ◌∷◌, ◌++◌}
 use Rattle.spec.specs.declared.Shape.{Shape}
 use Rattle.spec.specs.declared.Stretch.{Stretch}
-use Rattle.spec.specs.Bytes.{tabulate, concat, zeros, xorBelow, number, index_of}
-use Rattle.spec.specs.Tree.{parent, isAncestorWithin, isAncestor, some, covered, siblingToReveal, revealedFrom, revealed, nodeCount, expandTree}
+use Rattle.spec.specs.Bytes.{tabulate, concat, zeros, xor_below, number, index_of}
+use Rattle.spec.specs.Tree.{parent, is_ancestor_within, is_ancestor, some, covered, sibling_to_reveal, revealed_from, revealed, node_count, expand_tree}
 use Rattle.spec.specs.Challenge.{bit_at, bits_at, index_at}
-use Rattle.spec.specs.Shapes.{level, nodeBytes, leafCommitmentBytes, deeper, depth_of, entriesOf, firstBit, firstEntry, leaves, leafOf, hiddenIndex, hiddenLeaf, hiddenLeaves, planned, plannedCount}
+use Rattle.spec.specs.Shapes.{level, node_bytes, leaf_commitment_bytes, deeper, depth_of, entries_of, first_bit, first_entry, leaves, leaf_of, hidden_index, hidden_leaf, hidden_leaves, planned, planned_count}
 use Rattle.spec.specs.Primitives.{prg}
-use Rattle.spec.specs.Leaves.{nodeAt, leafKey, children, hashKey, stretched, leafSeed, leafCommitment, vectorCommitments, leafCommitments, vectorHash, commitmentOf}
-use Rattle.spec.specs.Rows.{rowByte, stretchByte, uByte, columnByte, matrixOf}
-use Rattle.spec.specs.Signer.{signerTree, signerLeafCommitment, signerU, signerColumn, correction, corrections, leafCommitmentAt, openingOf}
-use Rattle.spec.specs.Verifier.{hiddenLeafCommitment, slot, givenNode, reconstructedChildren, reconstructedTree, verifierLeafCommitment, correctionByte, verifierColumn}
+use Rattle.spec.specs.Leaves.{node_at, leaf_key, children, hash_key, stretched, leaf_seed, leaf_commitment, vector_commitments, leaf_commitments, vector_hash, commitment_of}
+use Rattle.spec.specs.Rows.{row_byte, stretch_byte, u_byte, column_byte, matrix_of}
+use Rattle.spec.specs.Signer.{signer_tree, signer_leaf_commitment, signer_u, signer_column, correction, corrections, leaf_commitment_at, opening_of}
+use Rattle.spec.specs.Verifier.{hidden_leaf_commitment, slot, given_node, reconstructed_children, reconstructed_tree, verifier_leaf_commitment, correction_byte, verifier_column}
 use Rattle.spec.specs.Calls.{committed, reconstructed}
-use Rattle.spec.proofs.StandIns.{standIn}
+use Rattle.spec.proofs.StandIns.{stand_in}
 
 abbrev shape : Shape
 shape = record { tau = 3; k = 1; w = 123; t = 6; level = 128; kind = 0 }
@@ -60,23 +60,23 @@ verifier-tree = 0 ∷ 0 ∷ 0 ∷ 0 ∷ 0 ∷ 0 ∷ 0 ∷ 0 ∷ 0 ∷ 0 ∷ 0 �
 abbrev verifier-q : List ℕ
 verifier-q = 200 ∷ 76 ∷ 159 ∷ 248 ∷ 135 ∷ 97 ∷ 184 ∷ 57 ∷ 214 ∷ 81 ∷ []
 
-pub commits : committed standIn shape whole root iv
+pub commits : committed stand_in shape whole root iv
     ≡ record {
       commitment = signer-commitment;
       tree = signer-tree;
-      leafCommitments = signer-leaf-commitments;
+      leaf_commitments = signer-leaf-commitments;
       u = signer-u;
       v = signer-v ++ zeros (2 * 123);
       corrections = signer-corrections;
     }
-unfolding tabulate concat zeros level nodeBytes leafCommitmentBytes deeper depth_of entriesOf leaves leafOf prg nodeAt leafKey expandTree children stretched leafSeed hashKey leafCommitment vectorCommitments leafCommitments vectorHash commitmentOf xorBelow rowByte stretchByte columnByte matrixOf uByte signerTree signerLeafCommitment signerU signerColumn correction corrections committed
+unfolding tabulate concat zeros level node_bytes leaf_commitment_bytes deeper depth_of entries_of leaves leaf_of prg node_at leaf_key expand_tree children stretched leaf_seed hash_key leaf_commitment vector_commitments leaf_commitments vector_hash commitment_of xor_below row_byte stretch_byte column_byte matrix_of u_byte signer_tree signer_leaf_commitment signer_u signer_column correction corrections committed
 commits = refl
 
-pub opens : openingOf shape challenge signer-tree signer-leaf-commitments ≡ opening
-unfolding tabulate concat zeros level nodeBytes leafCommitmentBytes deeper depth_of leaves leafOf firstEntry nodeAt number bit_at bits_at index_at firstBit hiddenIndex parent isAncestorWithin isAncestor some covered siblingToReveal revealedFrom revealed nodeCount hiddenLeaf hiddenLeaves planned plannedCount leafCommitmentAt openingOf
+pub opens : opening_of shape challenge signer-tree signer-leaf-commitments ≡ opening
+unfolding tabulate concat zeros level node_bytes leaf_commitment_bytes deeper depth_of leaves leaf_of first_entry node_at number bit_at bits_at index_at first_bit hidden_index parent is_ancestor_within is_ancestor some covered sibling_to_reveal revealed_from revealed node_count hidden_leaf hidden_leaves planned planned_count leaf_commitment_at opening_of
 opens = refl
 
-pub reconstructs : reconstructed standIn shape whole iv challenge signer-corrections opening
-    ≡ record { commitment = signer-commitment; tree = verifier-tree; leafCommitments = signer-leaf-commitments; q = verifier-q ++ zeros (2 * 123) }
-unfolding tabulate concat zeros level nodeBytes leafCommitmentBytes deeper depth_of entriesOf leaves leafOf prg nodeAt leafKey expandTree children stretched leafSeed hashKey leafCommitment vectorCommitments leafCommitments vectorHash commitmentOf xorBelow rowByte stretchByte columnByte matrixOf number bit_at bits_at index_at firstBit hiddenIndex parent isAncestorWithin isAncestor some covered siblingToReveal revealedFrom revealed nodeCount hiddenLeaf hiddenLeaves planned plannedCount index_of slot givenNode reconstructedChildren reconstructedTree hiddenLeafCommitment verifierLeafCommitment correctionByte verifierColumn reconstructed
+pub reconstructs : reconstructed stand_in shape whole iv challenge signer-corrections opening
+    ≡ record { commitment = signer-commitment; tree = verifier-tree; leaf_commitments = signer-leaf-commitments; q = verifier-q ++ zeros (2 * 123) }
+unfolding tabulate concat zeros level node_bytes leaf_commitment_bytes deeper depth_of entries_of leaves leaf_of prg node_at leaf_key expand_tree children stretched leaf_seed hash_key leaf_commitment vector_commitments leaf_commitments vector_hash commitment_of xor_below row_byte stretch_byte column_byte matrix_of number bit_at bits_at index_at first_bit hidden_index parent is_ancestor_within is_ancestor some covered sibling_to_reveal revealed_from revealed node_count hidden_leaf hidden_leaves planned planned_count index_of slot given_node reconstructed_children reconstructed_tree hidden_leaf_commitment verifier_leaf_commitment correction_byte verifier_column reconstructed
 reconstructs = refl

@@ -3,23 +3,23 @@
 use mathlib.Core.Path.{◌≡◌, refl, ap, ◌∙◌}
 use mathlib.Core.List.{List, [], ◌∷◌, ◌++◌}
 use Prim.Native.Nat.{ℕ, ◌+◌}
-use Rattle.spec.specs.Bytes.{part, tabulate, number, zeros, xorBytes}
-use Rattle.spec.specs.Keccak.{rotl, columnParities, besideColumns, addColumns, theta, walkOffsets, rhoOffsets, rho, pi, chi, register, rc, roundConstantUpTo, roundConstant, iota, round, firstRounds, keccakF}
-use Rattle.spec.specs.Sponge.{lane_of, xorIn, stateByte, absorbed, padding, padded, absorbedAll, permuted, outputByte, sponge, shakeSuffix, shake}
+use Rattle.spec.specs.Bytes.{part, tabulate, number, zeros, xor_bytes}
+use Rattle.spec.specs.Keccak.{rotl, column_parities, beside_columns, add_columns, theta, walk_offsets, rho_offsets, rho, pi, chi, register, rc, round_constant_up_to, round_constant, iota, round, first_rounds, keccak_f}
+use Rattle.spec.specs.Sponge.{lane_of, xor_in, state_byte, absorbed, padding, padded, absorbed_all, permuted, output_byte, sponge, shake_suffix, shake}
 use Rattle.spec.proofs.PrimitiveInputs.{counting, after}
 
 pub shake256-empty :
     shake 136 [] 32
     ≡ 70 ∷ 185 ∷ 221 ∷ 43 ∷ 11 ∷ 168 ∷ 141 ∷ 19 ∷ 35 ∷ 59 ∷ 63 ∷ 235 ∷ 116 ∷ 62 ∷ 235 ∷ 36 ∷ 63 ∷ 205 ∷ 82 ∷ 234 ∷ 98 ∷ 184 ∷ 27 ∷ 130 ∷ 181 ∷ 12 ∷ 39 ∷ 100 ∷ 110 ∷ 213 ∷ 118 ∷ 47 ∷ []
-unfolding tabulate number zeros xorBytes rotl columnParities besideColumns addColumns theta walkOffsets rhoOffsets rho pi chi register rc roundConstantUpTo roundConstant iota round firstRounds keccakF lane_of xorIn stateByte absorbed padding padded absorbedAll permuted outputByte sponge shake
+unfolding tabulate number zeros xor_bytes rotl column_parities beside_columns add_columns theta walk_offsets rho_offsets rho pi chi register rc round_constant_up_to round_constant iota round first_rounds keccak_f lane_of xor_in state_byte absorbed padding padded absorbed_all permuted output_byte sponge shake
 shake256-empty = refl
 
 -- the last block of 300 bytes, and the state after each block
 abbrev last : List ℕ
 last = part (counting 300) 272 28 ++ (0x1f ∷ (zeros 106 ++ (0x80 ∷ [])))
 
-blocks : absorbedAll 136 shakeSuffix (counting 300) ≡ after (after (after (zeros 25) (counting 136)) (part (counting 300) 136 136)) last
-unfolding tabulate zeros xorBytes absorbed padding padded absorbedAll
+blocks : absorbed_all 136 shake_suffix (counting 300) ≡ after (after (after (zeros 25) (counting 136)) (part (counting 300) 136 136)) last
+unfolding tabulate zeros xor_bytes absorbed padding padded absorbed_all
 blocks = refl
 
 abbrev after1 : List ℕ
@@ -32,18 +32,18 @@ abbrev after3 : List ℕ
 after3 = 0xe6e0dc08426fedbc ∷ 0x9b58d057e05a15bc ∷ 0xd166786cb498a7bf ∷ 0xe9463aee4ad1e807 ∷ 0x0278f7602dd892a2 ∷ 0xa742816ca4a9dfca ∷ 0x0740f6b6fb638826 ∷ 0xce0e4f3344fde9d6 ∷ 0x7bcf3cf3338cb199 ∷ 0x47089588e416f90d ∷ 0x0ad84c7326f2a63a ∷ 0x7ed584589880e1e0 ∷ 0xed2010516bd10a99 ∷ 0x3e0450813db24950 ∷ 0xbf98049e2902a9b4 ∷ 0xf95122deb84f4833 ∷ 0x89c39de587e72e37 ∷ 0xff313d270fbab85a ∷ 0xd013ee4ccd345196 ∷ 0x659902a63a1cb78c ∷ 0x1a1b49779a102207 ∷ 0xf9c561c3b4adacf5 ∷ 0x9835b5e2658de911 ∷ 0xd33819520aa181f1 ∷ 0xa756b4eead24204f ∷ []
 
 absorb-1 : after (zeros 25) (counting 136) ≡ after1
-unfolding tabulate number zeros rotl columnParities besideColumns addColumns theta walkOffsets rhoOffsets rho pi chi register rc roundConstantUpTo roundConstant iota round firstRounds keccakF lane_of xorIn
+unfolding tabulate number zeros rotl column_parities beside_columns add_columns theta walk_offsets rho_offsets rho pi chi register rc round_constant_up_to round_constant iota round first_rounds keccak_f lane_of xor_in
 absorb-1 = refl
 
 absorb-2 : after after1 (part (counting 300) 136 136) ≡ after2
-unfolding tabulate number zeros rotl columnParities besideColumns addColumns theta walkOffsets rhoOffsets rho pi chi register rc roundConstantUpTo roundConstant iota round firstRounds keccakF lane_of xorIn
+unfolding tabulate number zeros rotl column_parities beside_columns add_columns theta walk_offsets rho_offsets rho pi chi register rc round_constant_up_to round_constant iota round first_rounds keccak_f lane_of xor_in
 absorb-2 = refl
 
 absorb-3 : after after2 last ≡ after3
-unfolding tabulate number zeros rotl columnParities besideColumns addColumns theta walkOffsets rhoOffsets rho pi chi register rc roundConstantUpTo roundConstant iota round firstRounds keccakF lane_of xorIn
+unfolding tabulate number zeros rotl column_parities beside_columns add_columns theta walk_offsets rho_offsets rho pi chi register rc round_constant_up_to round_constant iota round first_rounds keccak_f lane_of xor_in
 absorb-3 = refl
 
-absorbed-300 : absorbedAll 136 shakeSuffix (counting 300) ≡ after3
+absorbed-300 : absorbed_all 136 shake_suffix (counting 300) ≡ after3
 absorbed-300 =
     blocks
     ∙ ap (λ (s : List ℕ). after (after s (part (counting 300) 136 136)) last) absorb-1
@@ -51,25 +51,25 @@ absorbed-300 =
     ∙ absorb-3
 
 -- the output's bytes 0 to 31, and those from 128 to 143 around the end of the first block, from the state after the message
-first-bytes : (m s : List ℕ) → absorbedAll 136 shakeSuffix m ≡ s → shake 136 m 32 ≡ tabulate 32 (stateByte s)
-unfolding tabulate permuted outputByte sponge shake
-first-bytes m s e = ap (λ (a : List ℕ). tabulate 32 (stateByte a)) e
+first-bytes : (m s : List ℕ) → absorbed_all 136 shake_suffix m ≡ s → shake 136 m 32 ≡ tabulate 32 (state_byte s)
+unfolding tabulate permuted output_byte sponge shake
+first-bytes m s e = ap (λ (a : List ℕ). tabulate 32 (state_byte a)) e
 
-first-end : (m s : List ℕ) → absorbedAll 136 shakeSuffix m ≡ s
-    → part (shake 136 m 144) 128 16 ≡ tabulate 8 (λ i. stateByte s (128 + i)) ++ tabulate 8 (stateByte (keccakF s))
-unfolding tabulate permuted outputByte sponge shake
-first-end m s e = ap (λ (a : List ℕ). tabulate 8 (λ i. stateByte a (128 + i)) ++ tabulate 8 (stateByte (keccakF a))) e
+first-end : (m s : List ℕ) → absorbed_all 136 shake_suffix m ≡ s
+    → part (shake 136 m 144) 128 16 ≡ tabulate 8 (λ i. state_byte s (128 + i)) ++ tabulate 8 (state_byte (keccak_f s))
+unfolding tabulate permuted output_byte sponge shake
+first-end m s e = ap (λ (a : List ℕ). tabulate 8 (λ i. state_byte a (128 + i)) ++ tabulate 8 (state_byte (keccak_f a))) e
 
 pub shake256-300 :
     shake 136 (counting 300) 32
     ≡ 188 ∷ 237 ∷ 111 ∷ 66 ∷ 8 ∷ 220 ∷ 224 ∷ 230 ∷ 188 ∷ 21 ∷ 90 ∷ 224 ∷ 87 ∷ 208 ∷ 88 ∷ 155 ∷ 191 ∷ 167 ∷ 152 ∷ 180 ∷ 108 ∷ 120 ∷ 102 ∷ 209 ∷ 7 ∷ 232 ∷ 209 ∷ 74 ∷ 238 ∷ 58 ∷ 70 ∷ 233 ∷ []
-unfolding tabulate stateByte
+unfolding tabulate state_byte
 shake256-300 = first-bytes (counting 300) after3 absorbed-300
 
 second_block :
-    tabulate 8 (λ i. stateByte after3 (128 + i)) ++ tabulate 8 (stateByte (keccakF after3))
+    tabulate 8 (λ i. state_byte after3 (128 + i)) ++ tabulate 8 (state_byte (keccak_f after3))
     ≡ 55 ∷ 46 ∷ 231 ∷ 135 ∷ 229 ∷ 157 ∷ 195 ∷ 137 ∷ 86 ∷ 10 ∷ 180 ∷ 241 ∷ 78 ∷ 41 ∷ 28 ∷ 90 ∷ []
-unfolding tabulate number zeros rotl columnParities besideColumns addColumns theta walkOffsets rhoOffsets rho pi chi register rc roundConstantUpTo roundConstant iota round firstRounds keccakF lane_of xorIn stateByte
+unfolding tabulate number zeros rotl column_parities beside_columns add_columns theta walk_offsets rho_offsets rho pi chi register rc round_constant_up_to round_constant iota round first_rounds keccak_f lane_of xor_in state_byte
 second_block = refl
 
 pub shake256-output-136 :

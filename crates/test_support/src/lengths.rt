@@ -4,7 +4,7 @@ ghost use Rattle.std.specs.Prelude.{◌≤◌};
 use spec::{Shape, Stretch};
 
 // The rows of a case: their length in bits, and the stretch that is asked for. Where `whole` is true the calls are those of whole rows, and the stretch is the row.
-#[derive(Drop)]
+#[derive(Clone, Copy)]
 pub struct Rows {
     pub bits: usize,
     pub whole: bool,
@@ -34,7 +34,7 @@ pub fn part(bits: usize, first: usize, width: usize) -> Rows {
     }
 }
 
-#[derive(Drop)]
+#[derive(Clone, Copy)]
 pub struct Lengths {
     pub commitment: usize,
     pub tree: usize,

@@ -11,8 +11,8 @@ use lib.Dec.{eqb}
 use lib.ListN.{length}
 use borrow.Author.Tests.{eq-eqb}
 use Rattle.spec.specs.Bytes.{index_of}
-use Rattle.spec.specs.Tree.{parent, isAncestor, some, covered, revealed, nodeCount}
-use Rattle.spec.specs.Shapes.{resolved, leaves, hiddenLeaves, planned}
+use Rattle.spec.specs.Tree.{parent, is_ancestor, some, covered, revealed, node_count}
+use Rattle.spec.specs.Shapes.{resolved, leaves, hidden_leaves, planned}
 use Rattle.laws.proofs.Conjunctions.{refuted, contrary}
 use Rattle.planning_laws.specs.Lists.{Leaves}
 use Rattle.planning_laws.proofs.Members.{In, in-leaves, some_in, some-member, no_longer}
@@ -24,17 +24,17 @@ use Rattle.planning_laws.proofs.ShapeLaws.{shape-laws}
 use Rattle.theorems.specs.Planning.{Reveals, Fewest, NoSmallerOpening}
 
 -- every node has a leaf beneath it
-leaf-beneath : (L d r : ℕ) → 2 * L ≤ r + 1 + d → r + 1 < 2 * L → (y : ℕ) × (L ≤ y + 1) × (y + 1 < 2 * L) × (isAncestor r y ≡ true)
+leaf-beneath : (L d r : ℕ) → 2 * L ≤ r + 1 + d → r + 1 < 2 * L → (y : ℕ) × (L ≤ y + 1) × (y + 1 < 2 * L) × (is_ancestor r y ≡ true)
 leaf-beneath L zero r h l = absurd (omega arith)
 leaf-beneath L (suc d) r h l = go (dec_lt (r + 1) L) (leaf-beneath L d (2 * r + 1))
   where
     go : Dec (r + 1 < L)
-        → (2 * L ≤ 2 * r + 1 + 1 + d → 2 * r + 1 + 1 < 2 * L → (y : ℕ) × (L ≤ y + 1) × (y + 1 < 2 * L) × (isAncestor (2 * r + 1) y ≡ true))
-        → (y : ℕ) × (L ≤ y + 1) × (y + 1 < 2 * L) × (isAncestor r y ≡ true)
+        → (2 * L ≤ 2 * r + 1 + 1 + d → 2 * r + 1 + 1 < 2 * L → (y : ℕ) × (L ≤ y + 1) × (y + 1 < 2 * L) × (is_ancestor (2 * r + 1) y ≡ true))
+        → (y : ℕ) × (L ≤ y + 1) × (y + 1 < 2 * L) × (is_ancestor r y ≡ true)
     go (yes q) ih =
         let t = ih (omega arith) (omega arith) in
         let p = ancestor-le (2 * r + 1) t.0 t.3 in
-        (t.0, t.1, t.2, ancestor-split r t.0 (omega arith) ∙ ap (λ (b : Bool). b || isAncestor (2 * r + 2) t.0) t.3)
+        (t.0, t.1, t.2, ancestor-split r t.0 (omega arith) ∙ ap (λ (b : Bool). b || is_ancestor (2 * r + 2) t.0) t.3)
     go (no q) ih = (r, omega arith, l, ancestor-self r)
 
 leaves-pos : (L : ℕ) (hs : List ℕ) → Leaves L hs → 1 ≤ length hs → 1 ≤ L
@@ -56,30 +56,30 @@ module _ (L : ℕ) (hs : List ℕ) (ls : Leaves L hs) (some-hidden : 1 ≤ lengt
           subst (λ (n : ℕ). In n (revealed L hs)) (sym e) (right-revealed L (parent y) hs ls (omega arith) c (ap (covered hs) (sym e) ∙ d))
 
   -- so some node is revealed above a node that is not covered
-  revealed-above : (d y : ℕ) → y ≤ d → y + 1 < 2 * L → covered hs y ≡ false → some (λ a. isAncestor a y) (revealed L hs) ≡ true
+  revealed-above : (d y : ℕ) → y ≤ d → y + 1 < 2 * L → covered hs y ≡ false → some (λ a. is_ancestor a y) (revealed L hs) ≡ true
   unfolding parent
   revealed-above zero y h l c = contrary (root-hidden hs some-hidden) (ap (covered hs) (let z : 0 ≡ y = omega arith in z) ∙ c)
   revealed-above (suc d) y h l c = go (ℕ_discrete y 0) (covered hs (parent y)) refl (λ k. revealed-above d (parent y) k (omega arith))
     where
       go : Dec (y ≡ 0) → (b : Bool) → covered hs (parent y) ≡ b
-          → (parent y ≤ d → covered hs (parent y) ≡ false → some (λ a. isAncestor a (parent y)) (revealed L hs) ≡ true)
-          → some (λ a. isAncestor a y) (revealed L hs) ≡ true
+          → (parent y ≤ d → covered hs (parent y) ≡ false → some (λ a. is_ancestor a (parent y)) (revealed L hs) ≡ true)
+          → some (λ a. is_ancestor a y) (revealed L hs) ≡ true
       go (yes z) b e ih = contrary (root-hidden hs some-hidden) (ap (covered hs) (sym z) ∙ c)
-      go (no n) true e ih = some_in (λ a. isAncestor a y) (revealed L hs) y (revealed-child y (omega arith) l e c) (ancestor-self y)
+      go (no n) true e ih = some_in (λ a. is_ancestor a y) (revealed L hs) y (revealed-child y (omega arith) l e c) (ancestor-self y)
       go (no n) false e ih =
-          let r = some-member (λ a. isAncestor a (parent y)) (revealed L hs) (ih (omega arith) e) in
+          let r = some-member (λ a. is_ancestor a (parent y)) (revealed L hs) (ih (omega arith) e) in
           let k = ancestor-le r.0 (parent y) r.2 in
-          some_in (λ a. isAncestor a y) (revealed L hs) r.0 r.1 (ancestor-parent r.0 y (omega arith) ∙ r.2)
+          some_in (λ a. is_ancestor a y) (revealed L hs) r.0 r.1 (ancestor-parent r.0 y (omega arith) ∙ r.2)
 
   revealed-reveals : Reveals L hs (revealed L hs)
   revealed-reveals y lo hi = go (covered hs y) refl ∙ ap not (covered-leaf L y hs ls lo)
     where
-      go : (b : Bool) → covered hs y ≡ b → some (λ a. isAncestor a y) (revealed L hs) ≡ not (covered hs y)
+      go : (b : Bool) → covered hs y ≡ b → some (λ a. is_ancestor a y) (revealed L hs) ≡ not (covered hs y)
       go true e =
           sym
-          (refuted (some (λ a. isAncestor a y) (revealed L hs))
+          (refuted (some (λ a. is_ancestor a y) (revealed L hs))
           (λ t.
-          let r = some-member (λ a. isAncestor a y) (revealed L hs) t in
+          let r = some-member (λ a. is_ancestor a y) (revealed L hs) t in
           contrary (covered-up hs r.0 y r.2 e) (revealed-uncovered L hs r.0 ls r.1).0))
           ∙ ap not (sym e)
       go false e = revealed-above y y (omega arith) hi e ∙ ap not (sym e)
@@ -87,12 +87,12 @@ module _ (L : ℕ) (hs : List ℕ) (ls : Leaves L hs) (some-hidden : 1 ≤ lengt
   -- ---- no such list is shorter
 
   -- no node is beneath two revealed ones
-  apart : (r q s : ℕ) → In r (revealed L hs) → In q (revealed L hs) → isAncestor r s ≡ true → isAncestor q s ≡ true → r < q → ⊥
+  apart : (r q s : ℕ) → In r (revealed L hs) → In q (revealed L hs) → is_ancestor r s ≡ true → is_ancestor q s ≡ true → r < q → ⊥
   apart r q s m n t u l =
       contrary (covered-up hs r (parent q) (sym (ancestor-parent r q l) ∙ sym (ancestor-through r q s (omega arith) u) ∙ t) (revealed-uncovered L hs q ls n).1)
       (revealed-uncovered L hs r ls m).0
 
-  one-above : (r q s : ℕ) → In r (revealed L hs) → In q (revealed L hs) → isAncestor r s ≡ true → isAncestor q s ≡ true → r ≡ q
+  one-above : (r q s : ℕ) → In r (revealed L hs) → In q (revealed L hs) → is_ancestor r s ≡ true → is_ancestor q s ≡ true → r ≡ q
   one-above r q s m n t u = go (dec_lt r q) (dec_lt q r)
     where
       go : Dec (r < q) → Dec (q < r) → r ≡ q
@@ -105,31 +105,31 @@ module _ (L : ℕ) (hs : List ℕ) (ls : Leaves L hs) (some-hidden : 1 ≤ lengt
     uncovered : (s : ℕ) → In s ns → covered hs s ≡ true → ⊥
     unfolding covered
     uncovered s m c =
-        let x = some-member (isAncestor s) hs c in
+        let x = some-member (is_ancestor s) hs c in
         let leaf = in-leaves L x.0 hs ls x.1 in
         let hidden : some (eqb x.0) hs ≡ true = some_in (eqb x.0) hs x.0 x.1 (eq-eqb x.0 x.0 refl) in
-        contrary (some_in (λ a. isAncestor a x.0) ns s m x.2) (exact x.0 leaf.0 leaf.1 ∙ ap not hidden)
+        contrary (some_in (λ a. is_ancestor a x.0) ns s m x.2) (exact x.0 leaf.0 leaf.1 ∙ ap not hidden)
 
     -- a revealed node r has one of them beneath it: one that is above a leaf beneath r, and not above r, since the nodes above r are covered
-    one-beneath : (r : ℕ) → In r (revealed L hs) → (s : ℕ) × In s ns × (isAncestor r s ≡ true)
-    unfolding nodeCount
+    one-beneath : (r : ℕ) → In r (revealed L hs) → (s : ℕ) × In s ns × (is_ancestor r s ≡ true)
+    unfolding node_count
     one-beneath r m =
         let node : r + 1 < 2 * L = (let l = revealed-low L hs (index_of r (revealed L hs)) (leaves-pos L hs ls some-hidden) m.here in let e = m.same in omega arith) in
         let y = leaf-beneath L (2 * L) r (omega arith) node in
         let bare : covered hs y.0 ≡ false = sym (refuted (covered hs y.0) (λ c. contrary (covered-up hs r y.0 y.3 c) (revealed-uncovered L hs r ls m).0)) in
-        let s = some-member (λ a. isAncestor a y.0) ns (exact y.0 y.1 y.2 ∙ ap not (sym (covered-leaf L y.0 hs ls y.1) ∙ bare)) in
+        let s = some-member (λ a. is_ancestor a y.0) ns (exact y.0 y.1 y.2 ∙ ap not (sym (covered-leaf L y.0 hs ls y.1) ∙ bare)) in
         (s.0, s.1, lower s.0 y.0 s.1 s.2 y.3 (dec_lt s.0 r))
       where
-        lower : (s y : ℕ) → In s ns → isAncestor s y ≡ true → isAncestor r y ≡ true → Dec (s < r) → isAncestor r s ≡ true
+        lower : (s y : ℕ) → In s ns → is_ancestor s y ≡ true → is_ancestor r y ≡ true → Dec (s < r) → is_ancestor r s ≡ true
         lower s y n t u (no d) = sym (ancestor-through r s y (omega arith) t) ∙ u
         lower s y n t u (yes d) =
             absurd (uncovered s n (covered-up hs s (parent r) (sym (ancestor-parent s r d) ∙ sym (ancestor-through s r y (omega arith) u) ∙ t) (revealed-uncovered L hs r ls m).1))
 
     no-shorter : length (revealed L hs) ≤ length ns
-    no-shorter = no_longer (λ r s. isAncestor r s ≡ true) (revealed L hs) ns (revealed-distinct L hs) one-beneath one-above
+    no-shorter = no_longer (λ r s. is_ancestor r s ≡ true) (revealed L hs) ns (revealed-distinct L hs) one-beneath one-above
 
 fewest-of : (L : ℕ) (hs : List ℕ) → Leaves L hs → 1 ≤ length hs → Fewest L hs (revealed L hs)
-unfolding nodeCount
+unfolding node_count
 fewest-of L hs ls h =
     record {
       within = λ m l. (let low = revealed-low L hs m (leaves-pos L hs ls h) l in omega arith);
@@ -144,6 +144,6 @@ no-smaller-opening =
     record {
       of-leaves = fewest-of;
       of-challenge = λ s ch ok.
-          fewest-of (leaves (resolved s)) (hiddenLeaves (resolved s) ch) (hidden-leaves (resolved s) ch)
+          fewest-of (leaves (resolved s)) (hidden_leaves (resolved s) ch) (hidden-leaves (resolved s) ch)
           (let c = hidden-count (resolved s) ch in let p = (shape-laws (resolved s) ok).tau-pos in omega arith);
     }

@@ -12,13 +12,13 @@ use Rattle.spec.specs.declared.Shape.{Shape}
 use Rattle.spec.specs.declared.Stretch.{Stretch}
 use Rattle.spec.specs.declared.Answer.{Answer}
 use Rattle.spec.specs.Bytes.{part, number, digits}
-use Rattle.spec.specs.Tree.{covered, siblingToReveal, revealedFrom, revealed, nodeCount}
-use Rattle.spec.specs.Shapes.{resolved, leaves, hiddenIndex, hiddenIndices, hiddenLeaves, planned, plannedCount}
+use Rattle.spec.specs.Tree.{covered, sibling_to_reveal, revealed_from, revealed, node_count}
+use Rattle.spec.specs.Shapes.{resolved, leaves, hidden_index, hidden_indices, hidden_leaves, planned, planned_count}
 use Rattle.spec.specs.Primitives.{Primitives}
-use Rattle.spec.specs.Calls.{written, countWith, decodeNumber, Decode, planNumber, Plan, Committed, commitNumber, commitStretchNumber, Commit, CommitStretch, Open, Reconstructed, reconstructNumber, reconstructStretchNumber, Reconstruct, ReconstructStretch}
-use Rattle.spec.specs.Version1Calls.{row1Number, open1Number, Commit1, Open1, Reconstruct1}
+use Rattle.spec.specs.Calls.{written, count_with, decode_number, Decode, plan_number, Plan, Committed, commit_number, commit_stretch_number, Commit, CommitStretch, Open, Reconstructed, reconstruct_number, reconstruct_stretch_number, Reconstruct, ReconstructStretch}
+use Rattle.spec.specs.Version1Calls.{row1_number, open1_number, Commit1, Open1, Reconstruct1}
 use Rattle.spec.specs.Version1HostCalls.{HostCommit1, HostOpen1, HostReconstruct1}
-use Rattle.spec.specs.HostCalls.{word_bytes, countSlice, HostDecode, HostPlan, HostCommit, HostCommitStretch, HostOpen, HostReconstruct, HostReconstructStretch}
+use Rattle.spec.specs.HostCalls.{word_bytes, count_slice, HostDecode, HostPlan, HostCommit, HostCommitStretch, HostOpen, HostReconstruct, HostReconstructStretch}
 use Rattle.laws.proofs.Lists.{length-tabulate, get_d_tabulate}
 use Rattle.laws.proofs.Digits.{digits_number, number_digits}
 use Rattle.laws.proofs.Words.{same_test, words-length, words_append, words-drop, words-part, count-slice}
@@ -31,13 +31,13 @@ use Rattle.theorems.specs.HostCalls.{SameAnswer, ExportedCalls, Version1Exported
 
 -- the two write the same, once their numbers agree
 same : {A : Type 0} (r : Answer) (n m : ℕ) (new old beneath buffers : A) (count count' : List ℕ) → n ≡ r.number → beneath ≡ written r.number new old
-    → buffers ≡ written n new old → r.count ≡ m → count' ≡ countSlice n m count → SameAnswer r beneath n buffers count count'
+    → buffers ≡ written n new old → r.count ≡ m → count' ≡ count_slice n m count → SameAnswer r beneath n buffers count count'
 same r n m new old beneath buffers count count' e a b c d =
     record { number = e; bytes = b ∙ ap (λ (k : ℕ). written k new old) e ∙ sym a; counted = d ∙ rw (e, c) refl }
 
 -- a count that is planned
-given : (r : Answer) (n m : ℕ) (count count' : List ℕ) → n ≡ r.number → r.count ≡ countWith r.number m → count' ≡ countSlice n m count → count' ≡ countSlice n r.count count
-given r n m count count' e c d = d ∙ sym (count-slice n m count) ∙ ap (λ (k : ℕ). countSlice n k count) (rw e (sym c))
+given : (r : Answer) (n m : ℕ) (count count' : List ℕ) → n ≡ r.number → r.count ≡ count_with r.number m → count' ≡ count_slice n m count → count' ≡ count_slice n r.count count
+given r n m count count' e c d = d ∙ sym (count-slice n m count) ∙ ap (λ (k : ℕ). count_slice n k count) (rw e (sym c))
 
 written-words : (n : ℕ) (new old : List ℕ) → word_bytes (written n new old) ≡ written n (word_bytes new) (word_bytes old)
 written-words n new old = go (eqb n 0)
@@ -53,19 +53,19 @@ list-test xs m = rw (words-length xs) (same_test (4 * length xs) (4 * m) (length
 
 decode : (s : Shape) (ch xs xs' after count count' : List ℕ) (r : Answer) (n : ℕ) → Decode s ch xs xs' r → HostDecode s ch (word_bytes xs) after count count' n
     → length count ≡ 4 → SameAnswer r (word_bytes xs') n after count count'
-unfolding decodeNumber
+unfolding decode_number
 decode s ch xs xs' after count count' r n o h l =
-    same r n 0 (word_bytes (hiddenIndices (resolved s) ch)) (word_bytes xs) (word_bytes xs') after count count'
+    same r n 0 (word_bytes (hidden_indices (resolved s) ch)) (word_bytes xs) (word_bytes xs') after count count'
     (h.number ∙ rw (eq-eqb (length count) 4 l, list-test xs (resolved s).tau) (sym o.number))
-    (ap word_bytes o.indices ∙ written-words r.number (hiddenIndices (resolved s) ch) xs) h.indices o.count h.counted
+    (ap word_bytes o.indices ∙ written-words r.number (hidden_indices (resolved s) ch) xs) h.indices o.count h.counted
 
 plan : (s : Shape) (ch xs xs' after count count' : List ℕ) (r : Answer) (n : ℕ) → Plan s ch xs xs' r → HostPlan s ch (word_bytes xs) after count count' n
     → length count ≡ 4 → SameAnswer r (word_bytes xs') n after count count'
-unfolding planNumber
+unfolding plan_number
 plan s ch xs xs' after count count' r n o h l =
     let e : n ≡ r.number = h.number ∙ rw (eq-eqb (length count) 4 l, list-test xs (resolved s).t) (sym o.number) in
     let p = planned (resolved s) ch in
-    let m = plannedCount (resolved s) ch in
+    let m = planned_count (resolved s) ch in
     let w : word_bytes (p ++ drop m xs) ≡ word_bytes p ++ drop (4 * m) (word_bytes xs) = words_append p (drop m xs) ∙ ap (λ (l : List ℕ). word_bytes p ++ l) (words-drop m xs) in
     same r n r.count (word_bytes p ++ drop (4 * m) (word_bytes xs)) (word_bytes xs) (word_bytes xs') after count count' e
     (ap word_bytes o.nodes ∙ written-words r.number (p ++ drop m xs) xs ∙ ap (λ (l : List ℕ). written r.number l (word_bytes xs)) w) h.nodes refl
@@ -97,37 +97,37 @@ every-list (a ∷ (b ∷ (c ∷ (d ∷ bs)))) (suc m) h l =
 module _ (P : Primitives) where
   commit : (s : Shape) (bits : ℕ) (root iv : List ℕ) (x x' after : Committed) (count count' : List ℕ) (r : Answer) (n : ℕ) → Commit P s bits root iv x x' r
       → HostCommit P s bits root iv x after count count' n → length count ≡ 4 → SameAnswer r x' n after count count'
-  unfolding commitNumber
+  unfolding commit_number
   commit s bits root iv x x' after count count' r n o h l =
       same r n 0 _ x x' after count count' (h.number ∙ rw (eq-eqb (length count) 4 l) (sym o.number)) o.buffers h.buffers o.count h.counted
 
   commit-stretch : (s : Shape) (bits : ℕ) (z : Stretch) (root iv : List ℕ) (x x' after : Committed) (count count' : List ℕ) (r : Answer) (n : ℕ)
       → CommitStretch P s bits z root iv x x' r → HostCommitStretch P s bits z root iv x after count count' n → length count ≡ 4 → SameAnswer r x' n after count count'
-  unfolding commitStretchNumber
+  unfolding commit_stretch_number
   commit-stretch s bits z root iv x x' after count count' r n o h l =
       same r n 0 _ x x' after count count' (h.number ∙ rw (eq-eqb (length count) 4 l) (sym o.number)) o.buffers h.buffers o.count h.counted
 
   reconstruct : (s : Shape) (bits : ℕ) (iv ch cs op : List ℕ) (x x' after : Reconstructed) (count count' : List ℕ) (r : Answer) (n : ℕ)
       → Reconstruct P s bits iv ch cs op x x' r → HostReconstruct P s bits iv ch cs op x after count count' n → length count ≡ 4 → SameAnswer r x' n after count count'
-  unfolding reconstructNumber
+  unfolding reconstruct_number
   reconstruct s bits iv ch cs op x x' after count count' r n o h l =
       let e : n ≡ r.number = h.number ∙ rw (eq-eqb (length count) 4 l) (sym o.number) in
-      same r n r.count _ x x' after count count' e o.buffers h.buffers refl (given r n (plannedCount (resolved s) ch) count count' e o.count h.counted)
+      same r n r.count _ x x' after count count' e o.buffers h.buffers refl (given r n (planned_count (resolved s) ch) count count' e o.count h.counted)
 
   reconstruct-stretch : (s : Shape) (bits : ℕ) (z : Stretch) (iv ch cs op : List ℕ) (x x' after : Reconstructed) (count count' : List ℕ) (r : Answer) (n : ℕ)
       → ReconstructStretch P s bits z iv ch cs op x x' r → HostReconstructStretch P s bits z iv ch cs op x after count count' n → length count ≡ 4
       → SameAnswer r x' n after count count'
-  unfolding reconstructStretchNumber
+  unfolding reconstruct_stretch_number
   reconstruct-stretch s bits z iv ch cs op x x' after count count' r n o h l =
       let e : n ≡ r.number = h.number ∙ rw (eq-eqb (length count) 4 l) (sym o.number) in
-      same r n r.count _ x x' after count count' e o.buffers h.buffers refl (given r n (plannedCount (resolved s) ch) count count' e o.count h.counted)
+      same r n r.count _ x x' after count count' e o.buffers h.buffers refl (given r n (planned_count (resolved s) ch) count count' e o.count h.counted)
 
 opened : (s : Shape) (ch tree lcs opening opening' after count count' : List ℕ) (r : Answer) (n : ℕ) → Open s ch tree lcs opening opening' r
     → HostOpen s ch tree lcs opening after count count' n → length count ≡ 4 → SameAnswer r opening' n after count count'
-unfolding planNumber
+unfolding plan_number
 opened s ch tree lcs opening opening' after count count' r n o h l =
     let e : n ≡ r.number = h.number ∙ rw (eq-eqb (length count) 4 l) (sym o.number) in
-    same r n r.count _ opening opening' after count count' e o.opening h.opening refl (given r n (plannedCount (resolved s) ch) count count' e o.count h.counted)
+    same r n r.count _ opening opening' after count count' e o.opening h.opening refl (given r n (planned_count (resolved s) ch) count count' e o.count h.counted)
 
 pub exported-calls : (P : Primitives) → ExportedCalls P
 exported-calls P =
@@ -144,12 +144,12 @@ exported-calls P =
 -- ---- what a host reads
 
 -- a node reveals one child at most
-revealed-few : (c : ℕ → Bool) (n : ℕ) → length (revealedFrom c n) ≤ n
-unfolding revealedFrom siblingToReveal
+revealed-few : (c : ℕ → Bool) (n : ℕ) → length (revealed_from c n) ≤ n
+unfolding revealed_from sibling_to_reveal
 revealed-few c zero = omega arith
 revealed-few c (suc n) = go (c (2 * n + 1)) (c (2 * n + 2)) (revealed-few c n)
   where
-    go : (x y : Bool) → length (revealedFrom c n) ≤ n → length (siblingToReveal x y n ++ revealedFrom c n) ≤ suc n
+    go : (x y : Bool) → length (revealed_from c n) ≤ n → length (sibling_to_reveal x y n ++ revealed_from c n) ≤ suc n
     go true true ih = omega arith
     go false false ih = omega arith
     go true false ih = omega arith
@@ -159,21 +159,21 @@ read : (xs : List ℕ) (i : ℕ) → i < length xs → get_or xs i 0 < 172032 �
 read xs i h l = ap (number 8) (words-part xs i h) ∙ number_digits 8 4 (get_or xs i 0) (omega arith)
 
 pub every-readable : EveryReadable
-unfolding hiddenIndices planned plannedCount nodeCount revealed
+unfolding hidden_indices planned planned_count node_count revealed
 every-readable s ch e =
     let f = shape-facts (resolved s) e in
     record {
       indices = λ i h.
-          let at = get_d_tabulate (resolved s).tau (hiddenIndex (resolved s) ch) i 0 h in
-          read (hiddenIndices (resolved s) ch) i (rw length-tabulate h) (rw at (omega (arith, hidden-index-lt (resolved s) ch i, entries-small (resolved s) i f))) ∙ at;
+          let at = get_d_tabulate (resolved s).tau (hidden_index (resolved s) ch) i 0 h in
+          read (hidden_indices (resolved s) ch) i (rw length-tabulate h) (rw at (omega (arith, hidden-index-lt (resolved s) ch i, entries-small (resolved s) i f))) ∙ at;
       nodes = λ i h. read (planned (resolved s) ch) i h (revealed-below _ _ 172032 (omega (arith, leaves-max (resolved s) f)) i);
-      count = number_digits 8 4 (plannedCount (resolved s) ch) (omega (arith, revealed-few (covered (hiddenLeaves (resolved s) ch)) (leaves (resolved s) - 1), leaves-max (resolved s) f));
+      count = number_digits 8 4 (planned_count (resolved s) ch) (omega (arith, revealed-few (covered (hidden_leaves (resolved s) ch)) (leaves (resolved s) - 1), leaves-max (resolved s) f));
     }
 
 -- ---- version 1
 
 pub version1-exported : (P : Primitives) → Version1ExportedCalls P
-unfolding row1Number open1Number
+unfolding row1_number open1_number
 version1-exported P =
     record {
       commit = λ s bits root iv x x' after count count' r n o h l.

@@ -13,11 +13,11 @@ use lib.Pow.{pow_pos}
 use borrow.Author.Tests.{eq-eqb, ne_eqb, eqb-true}
 use Rattle.spec.specs.declared.Shape.{Shape}
 use Rattle.spec.specs.Bytes.{tabulate}
-use Rattle.spec.specs.Tree.{parent, isAncestor, some, covered, nodeCount}
-use Rattle.spec.specs.Shapes.{resolved, shapeOk, depth_of, entriesOf, firstEntry, leaves, leafOf, hiddenIndex, hiddenLeaf, hiddenLeaves, plannedCount}
+use Rattle.spec.specs.Tree.{parent, is_ancestor, some, covered, node_count}
+use Rattle.spec.specs.Shapes.{resolved, shape_ok, depth_of, entries_of, first_entry, leaves, leaf_of, hidden_index, hidden_leaf, hidden_leaves, planned_count}
 use Rattle.laws.proofs.Conjunctions.{both_true}
 use Rattle.laws.proofs.Lists.{tabulate-same, tabulate-append}
-use Rattle.planning_laws.specs.Lists.{Leaves, WithoutDuplicates, tally, coveredCount}
+use Rattle.planning_laws.specs.Lists.{Leaves, WithoutDuplicates, tally, covered_count}
 use Rattle.planning_laws.proofs.Members.{some-between, leaves-between, distinct-between}
 use Rattle.planning_laws.proofs.Ancestors.{ancestor-parent, ancestor-self, ancestor-past, ancestor-root}
 use Rattle.planning_laws.proofs.Covered.{covered-leaf, root-hidden}
@@ -29,34 +29,34 @@ use Rattle.theorems.specs.Planning.{LeastPower, OneIndexMoves}
 -- ---- how many nodes are above a node
 
 -- how many nodes below n are above x, x itself among them
-ancestorCount : ℕ → ℕ → ℕ
-ancestorCount x n = tally (λ a. isAncestor a x) n
+ancestor_count : ℕ → ℕ → ℕ
+ancestor_count x n = tally (λ a. is_ancestor a x) n
 
-above_root : (x n : ℕ) → x ≡ 0 → x < n → ancestorCount x n ≡ 1
-unfolding ancestorCount tally
+above_root : (x n : ℕ) → x ≡ 0 → x < n → ancestor_count x n ≡ 1
+unfolding ancestor_count tally
 above_root x n e h =
-    tally-point (λ a. isAncestor a x) 0 x n (omega arith) h (ancestor-self x) (λ a d. ancestor-past a x (omega arith))
+    tally-point (λ a. is_ancestor a x) 0 x n (omega arith) h (ancestor-self x) (λ a d. ancestor-past a x (omega arith))
 
 -- x itself, and those above its parent
-above_parent : (x n : ℕ) → 0 < x → x < n → ancestorCount x n ≡ ancestorCount (parent x) n + 1
-unfolding ancestorCount tally parent
+above_parent : (x n : ℕ) → 0 < x → x < n → ancestor_count x n ≡ ancestor_count (parent x) n + 1
+unfolding ancestor_count tally parent
 above_parent x n p h =
     ap (λ (c : ℕ → Bool). tally c n) (fun_ext (λ a. split a (dec_lt a x) (dec_lt x a)))
-    ∙ tally-or (λ a. eqb a x) (λ a. isAncestor a (parent x)) n
-    ∙ ap (λ (m : ℕ). tally (λ a. isAncestor a (parent x)) n + m)
-    (tally-point (λ a. eqb a x && not (isAncestor a (parent x))) 0 x n (omega arith) h
+    ∙ tally-or (λ a. eqb a x) (λ a. is_ancestor a (parent x)) n
+    ∙ ap (λ (m : ℕ). tally (λ a. is_ancestor a (parent x)) n + m)
+    (tally-point (λ a. eqb a x && not (is_ancestor a (parent x))) 0 x n (omega arith) h
     (ap₂ (λ (s t : Bool). s && not t) (eq-eqb x x refl) (ancestor-past x (parent x) (omega arith)))
-    (λ a d. ap (λ (b : Bool). b && not (isAncestor a (parent x))) (ne_eqb a x d)))
+    (λ a d. ap (λ (b : Bool). b && not (is_ancestor a (parent x))) (ne_eqb a x d)))
   where
-    split : (a : ℕ) → Dec (a < x) → Dec (x < a) → isAncestor a x ≡ (eqb a x || isAncestor a (parent x))
-    split a (yes l) d = ancestor-parent a x l ∙ ap (λ (b : Bool). b || isAncestor a (parent x)) (sym (ne_eqb a x (λ e. omega arith)))
+    split : (a : ℕ) → Dec (a < x) → Dec (x < a) → is_ancestor a x ≡ (eqb a x || is_ancestor a (parent x))
+    split a (yes l) d = ancestor-parent a x l ∙ ap (λ (b : Bool). b || is_ancestor a (parent x)) (sym (ne_eqb a x (λ e. omega arith)))
     split a (no l) (yes d) = ancestor-past a x d ∙ sym (ap₂ ◌||◌ (ne_eqb a x (λ e. omega arith)) (ancestor-past a (parent x) (omega arith)))
     split a (no l) (no d) =
         let e : a ≡ x = omega arith in
-        ap (λ (m : ℕ). isAncestor m x) e ∙ ancestor-self x ∙ ap (λ (b : Bool). b || isAncestor a (parent x)) (sym (eq-eqb a x e))
+        ap (λ (m : ℕ). is_ancestor m x) e ∙ ancestor-self x ∙ ap (λ (b : Bool). b || is_ancestor a (parent x)) (sym (eq-eqb a x e))
 
 -- at depth d a node has d + 1
-above_at : (d x n : ℕ) → 2 ^ d ≤ x + 1 → x + 1 < 2 ^ suc d → x < n → ancestorCount x n ≡ d + 1
+above_at : (d x n : ℕ) → 2 ^ d ≤ x + 1 → x + 1 < 2 ^ suc d → x < n → ancestor_count x n ≡ d + 1
 unfolding parent
 above_at zero x n g h l = above_root x n (omega arith) l
 above_at (suc d) x n g h l =
@@ -76,57 +76,57 @@ depth (suc D) x h = go (dec_lt (x + 1) (2 ^ suc D)) (depth D x)
     go (yes l) ih = (let r = ih l in (r.0, omega arith, r.2, r.3))
     go (no l) ih = (suc D, omega arith, omega arith, h)
 
-above_most : (D x n : ℕ) → x + 1 < 2 ^ suc D → x < n → ancestorCount x n ≤ D + 1
+above_most : (D x n : ℕ) → x + 1 < 2 ^ suc D → x < n → ancestor_count x n ≤ D + 1
 above_most D x n h l = (let r = depth D x h in let e = above_at r.0 x n r.2 r.3 l in omega arith)
 
 -- ---- what a leaf x covers beside the others
 
 module _ (L : ℕ) (others : List ℕ) (x : ℕ) where
-  coversAnew : ℕ → Bool
-  coversAnew a = isAncestor a x && not (covered others a)
+  covers_anew : ℕ → Bool
+  covers_anew a = is_ancestor a x && not (covered others a)
 
   -- itself at least
-  anew-some : Leaves L others → L ≤ x + 1 → x + 1 < 2 * L → some (eqb x) others ≡ false → 1 ≤ tally coversAnew (2 * L - 1)
-  unfolding coversAnew tally
+  anew-some : Leaves L others → L ≤ x + 1 → x + 1 < 2 * L → some (eqb x) others ≡ false → 1 ≤ tally covers_anew (2 * L - 1)
+  unfolding covers_anew tally
   anew-some ls lo hi e =
       let only : tally (λ a. eqb a x) (2 * L - 1) ≡ 1 = tally-point (λ a. eqb a x) 0 x (2 * L - 1) (omega arith) (omega arith) (eq-eqb x x refl) (λ a d. ne_eqb a x d) in
-      let passes : coversAnew x ≡ true = ap₂ (λ (s t : Bool). s && not t) (ancestor-self x) (covered-leaf L x others ls lo ∙ e) in
-      let most = tally-le (λ a. eqb a x) coversAnew (2 * L - 1) (λ a t. ap coversAnew (eqb-true a x t) ∙ passes) in
+      let passes : covers_anew x ≡ true = ap₂ (λ (s t : Bool). s && not t) (ancestor-self x) (covered-leaf L x others ls lo ∙ e) in
+      let most = tally-le (λ a. eqb a x) covers_anew (2 * L - 1) (λ a t. ap covers_anew (eqb-true a x t) ∙ passes) in
       omega arith
 
   -- not the root, which the others cover
-  anew-few : (D : ℕ) → L ≤ 2 ^ D → x + 1 < 2 * L → covered others 0 ≡ true → tally coversAnew (2 * L - 1) ≤ D
-  unfolding coversAnew tally ancestorCount
+  anew-few : (D : ℕ) → L ≤ 2 ^ D → x + 1 < 2 * L → covered others 0 ≡ true → tally covers_anew (2 * L - 1) ≤ D
+  unfolding covers_anew tally ancestor_count
   anew-few D p hi root =
-      let either = tally-or (λ a. eqb a 0) coversAnew (2 * L - 1) in
-      let only = tally-point (λ a. eqb a 0 && not (coversAnew a)) 0 0 (2 * L - 1) (omega arith) (omega arith) at-root (λ a d. ap (λ (b : Bool). b && not (coversAnew a)) (ne_eqb a 0 d)) in
-      let most = tally-le (λ a. eqb a 0 || coversAnew a) (λ a. isAncestor a x) (2 * L - 1) (λ a. is-above a (ℕ_discrete a 0)) in
+      let either = tally-or (λ a. eqb a 0) covers_anew (2 * L - 1) in
+      let only = tally-point (λ a. eqb a 0 && not (covers_anew a)) 0 0 (2 * L - 1) (omega arith) (omega arith) at-root (λ a d. ap (λ (b : Bool). b && not (covers_anew a)) (ne_eqb a 0 d)) in
+      let most = tally-le (λ a. eqb a 0 || covers_anew a) (λ a. is_ancestor a x) (2 * L - 1) (λ a. is-above a (ℕ_discrete a 0)) in
       let all = above_most D x (2 * L - 1) (let t = two-pow-succ D in omega arith) (omega arith) in
       omega arith
     where
-      root-above : isAncestor 0 x ≡ true
+      root-above : is_ancestor 0 x ≡ true
       root-above = ancestor-root x x (omega arith)
 
-      at-root : (eqb 0 0 && not (coversAnew 0)) ≡ true
+      at-root : (eqb 0 0 && not (covers_anew 0)) ≡ true
       at-root = ap (λ (b : Bool). not b) (ap₂ (λ (s t : Bool). s && not t) root-above root)
 
-      is-above : (a : ℕ) → Dec (a ≡ 0) → (eqb a 0 || coversAnew a) ≡ true → isAncestor a x ≡ true
-      is-above a (yes e) t = ap (λ (m : ℕ). isAncestor m x) e ∙ root-above
-      is-above a (no d) t = (both_true (isAncestor a x) (not (covered others a)) (ap (λ (b : Bool). b || coversAnew a) (sym (ne_eqb a 0 d)) ∙ t)).0
+      is-above : (a : ℕ) → Dec (a ≡ 0) → (eqb a 0 || covers_anew a) ≡ true → is_ancestor a x ≡ true
+      is-above a (yes e) t = ap (λ (m : ℕ). is_ancestor m x) e ∙ root-above
+      is-above a (no d) t = (both_true (is_ancestor a x) (not (covered others a)) (ap (λ (b : Bool). b || covers_anew a) (sym (ne_eqb a 0 d)) ∙ t)).0
 
 -- ---- two lists of hidden leaves that differ in one place
 
 module _ (L : ℕ) (a b : List ℕ) where
   count-with : (x : ℕ) → Leaves L (a ++ (x ∷ b)) → WithoutDuplicates (a ++ (x ∷ b))
-      → nodeCount L (a ++ (x ∷ b)) + 2 * length (a ++ (x ∷ b)) ≡ tally (covered (a ++ b)) (2 * L - 1) + tally (coversAnew L (a ++ b) x) (2 * L - 1) + 1
-  unfolding coveredCount coversAnew covered
+      → node_count L (a ++ (x ∷ b)) + 2 * length (a ++ (x ∷ b)) ≡ tally (covered (a ++ b)) (2 * L - 1) + tally (covers_anew L (a ++ b) x) (2 * L - 1) + 1
+  unfolding covered_count covers_anew covered
   count-with x ls d =
       let count = count-covered L (a ++ (x ∷ b)) ls d (let l = length-append a (x ∷ b) in omega arith) in
-      let both = ap (λ (c : ℕ → Bool). tally c (2 * L - 1)) (fun_ext (λ n. some-between (isAncestor n) a x b)) ∙ tally-or (λ n. isAncestor n x) (λ n. some (isAncestor n) (a ++ b)) (2 * L - 1) in
+      let both = ap (λ (c : ℕ → Bool). tally c (2 * L - 1)) (fun_ext (λ n. some-between (is_ancestor n) a x b)) ∙ tally-or (λ n. is_ancestor n x) (λ n. some (is_ancestor n) (a ++ b)) (2 * L - 1) in
       omega arith
 
   moved : (D x y : ℕ) → L ≤ 2 ^ D → Leaves L (a ++ (x ∷ b)) → Leaves L (a ++ (y ∷ b)) → WithoutDuplicates (a ++ (x ∷ b)) → WithoutDuplicates (a ++ (y ∷ b))
-      → 1 ≤ length (a ++ b) → nodeCount L (a ++ (x ∷ b)) ≤ nodeCount L (a ++ (y ∷ b)) + (D - 1)
+      → 1 ≤ length (a ++ b) → node_count L (a ++ (x ∷ b)) ≤ node_count L (a ++ (y ∷ b)) + (D - 1)
   moved D x y p xl yl xd yd others =
       let xs = leaves-between L a x b xl in
       let ys = leaves-between L a y b yl in
@@ -139,11 +139,11 @@ module _ (L : ℕ) (a b : List ℕ) where
       omega arith
 
 -- one hidden leaf of a full tree
-single-covers : (L x : ℕ) → coveredCount L (x ∷ []) ≡ ancestorCount x (2 * L - 1)
-unfolding coveredCount ancestorCount covered some
-single-covers L x = ap (λ (c : ℕ → Bool). tally c (2 * L - 1)) (fun_ext (λ a. or-false (isAncestor a x)))
+single-covers : (L x : ℕ) → covered_count L (x ∷ []) ≡ ancestor_count x (2 * L - 1)
+unfolding covered_count ancestor_count covered some
+single-covers L x = ap (λ (c : ℕ → Bool). tally c (2 * L - 1)) (fun_ext (λ a. or-false (is_ancestor a x)))
 
-count-single : (L d : ℕ) (hs : List ℕ) → L ≡ 2 ^ d → length hs ≡ 1 → Leaves L hs → nodeCount L hs ≡ d
+count-single : (L d : ℕ) (hs : List ℕ) → L ≡ 2 ^ d → length hs ≡ 1 → Leaves L hs → node_count L hs ≡ d
 unfolding some
 count-single L d [] e l ls = absurd (omega arith)
 count-single L d (x ∷ y ∷ hs) e l ls = absurd (omega arith)
@@ -155,20 +155,20 @@ count-single L d (x ∷ []) e l ls =
 
 -- ---- two challenges
 
-module _ (s : Shape) (ok : shapeOk s ≡ true) (v : ℕ) (vector : v < s.tau) where
+module _ (s : Shape) (ok : shape_ok s ≡ true) (v : ℕ) (vector : v < s.tau) where
   abbrev Laws : ShapeLaws s
   Laws = shape-laws s ok
 
   before : List ℕ → List ℕ
-  before ch = tabulate v (hiddenLeaf s ch)
+  before ch = tabulate v (hidden_leaf s ch)
 
   after : List ℕ → List ℕ
-  after ch = tabulate (s.tau - v - 1) (λ i. hiddenLeaf s ch (v + suc i))
+  after ch = tabulate (s.tau - v - 1) (λ i. hidden_leaf s ch (v + suc i))
 
-  hidden-split : (ch : List ℕ) → hiddenLeaves s ch ≡ before ch ++ (hiddenLeaf s ch v ∷ after ch)
-  unfolding hiddenLeaves before after tabulate
+  hidden-split : (ch : List ℕ) → hidden_leaves s ch ≡ before ch ++ (hidden_leaf s ch v ∷ after ch)
+  unfolding hidden_leaves before after tabulate
   hidden-split ch =
-      let f : ℕ → ℕ = hiddenLeaf s ch in
+      let f : ℕ → ℕ = hidden_leaf s ch in
       let n : s.tau ≡ v + suc (s.tau - v - 1) = omega arith in
       ap (λ (m : ℕ). tabulate m f) n
       ∙ tabulate-append v (suc (s.tau - v - 1)) f
@@ -176,54 +176,54 @@ module _ (s : Shape) (ok : shapeOk s ≡ true) (v : ℕ) (vector : v < s.tau) wh
 
   -- the tree of one vector is a full one
   full : s.tau ≡ 1 → leaves s ≡ 2 ^ depth_of s 0
-  unfolding entriesOf
+  unfolding entries_of
   full e =
-      let all : leaves s ≡ firstEntry s 1 = sym Laws.entry-all ∙ ap (firstEntry s) e in
+      let all : leaves s ≡ first_entry s 1 = sym Laws.entry-all ∙ ap (first_entry s) e in
       let next = Laws.entry_next 0 in
       let none = Laws.entry-none in
       omega arith
 
-  module _ (ch ch' : List ℕ) (same : (i : ℕ) → i < s.tau → (i ≡ v → ⊥) → hiddenIndex s ch i ≡ hiddenIndex s ch' i) where
+  module _ (ch ch' : List ℕ) (same : (i : ℕ) → i < s.tau → (i ≡ v → ⊥) → hidden_index s ch i ≡ hidden_index s ch' i) where
     before_same : before ch ≡ before ch'
-    unfolding before hiddenLeaf
-    before_same = tabulate-same v (hiddenLeaf s ch) (hiddenLeaf s ch') (λ i h. ap (leafOf s i) (same i (omega arith) (λ e. omega arith)))
+    unfolding before hidden_leaf
+    before_same = tabulate-same v (hidden_leaf s ch) (hidden_leaf s ch') (λ i h. ap (leaf_of s i) (same i (omega arith) (λ e. omega arith)))
 
     after_same : after ch ≡ after ch'
-    unfolding after hiddenLeaf
+    unfolding after hidden_leaf
     after_same =
-        tabulate-same (s.tau - v - 1) (λ i. hiddenLeaf s ch (v + suc i)) (λ i. hiddenLeaf s ch' (v + suc i))
-        (λ i h. ap (leafOf s (v + suc i)) (same (v + suc i) (omega arith) (λ e. omega arith)))
+        tabulate-same (s.tau - v - 1) (λ i. hidden_leaf s ch (v + suc i)) (λ i. hidden_leaf s ch' (v + suc i))
+        (λ i h. ap (leaf_of s (v + suc i)) (same (v + suc i) (omega arith) (λ e. omega arith)))
 
     -- the second challenge's leaves, the others named by the first
-    other-split : hiddenLeaves s ch' ≡ before ch ++ (hiddenLeaf s ch' v ∷ after ch)
-    other-split = hidden-split ch' ∙ sym (ap₂ (λ (a b : List ℕ). a ++ (hiddenLeaf s ch' v ∷ b)) before_same after_same)
+    other-split : hidden_leaves s ch' ≡ before ch ++ (hidden_leaf s ch' v ∷ after ch)
+    other-split = hidden-split ch' ∙ sym (ap₂ (λ (a b : List ℕ). a ++ (hidden_leaf s ch' v ∷ b)) before_same after_same)
 
-    many : (D : ℕ) → leaves s ≤ 2 ^ D → 1 < s.tau → plannedCount s ch ≤ plannedCount s ch' + (D - 1)
-    unfolding plannedCount
+    many : (D : ℕ) → leaves s ≤ 2 ^ D → 1 < s.tau → planned_count s ch ≤ planned_count s ch' + (D - 1)
+    unfolding planned_count
     many D p m =
         let e = hidden-split ch in
         let e' = other-split in
         let size = ap length e in
-        let l = length-append (before ch) (hiddenLeaf s ch v ∷ after ch) in
+        let l = length-append (before ch) (hidden_leaf s ch v ∷ after ch) in
         let k = length-append (before ch) (after ch) in
         let t = hidden-count s ch in
         let r =
-        moved (leaves s) (before ch) (after ch) D (hiddenLeaf s ch v) (hiddenLeaf s ch' v) p (subst (Leaves (leaves s)) e (hidden-leaves s ch))
+        moved (leaves s) (before ch) (after ch) D (hidden_leaf s ch v) (hidden_leaf s ch' v) p (subst (Leaves (leaves s)) e (hidden-leaves s ch))
         (subst (Leaves (leaves s)) e' (hidden-leaves s ch')) (subst WithoutDuplicates e (hidden-distinct s ch)) (subst WithoutDuplicates e' (hidden-distinct s ch')) (omega arith) in
-        let c = ap (nodeCount (leaves s)) e in
-        let c' = ap (nodeCount (leaves s)) e' in
+        let c = ap (node_count (leaves s)) e in
+        let c' = ap (node_count (leaves s)) e' in
         omega arith
 
-    single : s.tau ≡ 1 → plannedCount s ch ≡ plannedCount s ch'
-    unfolding plannedCount
+    single : s.tau ≡ 1 → planned_count s ch ≡ planned_count s ch'
+    unfolding planned_count
     single e =
-        count-single (leaves s) (depth_of s 0) (hiddenLeaves s ch) (full e) (hidden-count s ch ∙ e) (hidden-leaves s ch)
-        ∙ sym (count-single (leaves s) (depth_of s 0) (hiddenLeaves s ch') (full e) (hidden-count s ch' ∙ e) (hidden-leaves s ch'))
+        count-single (leaves s) (depth_of s 0) (hidden_leaves s ch) (full e) (hidden-count s ch ∙ e) (hidden-leaves s ch)
+        ∙ sym (count-single (leaves s) (depth_of s 0) (hidden_leaves s ch') (full e) (hidden-count s ch' ∙ e) (hidden-leaves s ch'))
 
-    at_most : (D : ℕ) → leaves s ≤ 2 ^ D → plannedCount s ch ≤ plannedCount s ch' + (D - 1)
+    at_most : (D : ℕ) → leaves s ≤ 2 ^ D → planned_count s ch ≤ planned_count s ch' + (D - 1)
     at_most D p = go (dec_lt 1 s.tau)
       where
-        go : Dec (1 < s.tau) → plannedCount s ch ≤ plannedCount s ch' + (D - 1)
+        go : Dec (1 < s.tau) → planned_count s ch ≤ planned_count s ch' + (D - 1)
         go (yes m) = many D p m
         go (no m) = (let e = single (omega arith) in omega arith)
 

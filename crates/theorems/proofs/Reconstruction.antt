@@ -14,13 +14,13 @@ use borrow.Author.Tests.{eq-eqb, ne_eqb}
 use Rattle.spec.specs.declared.Shape.{Shape}
 use Rattle.spec.specs.declared.Stretch.{Stretch}
 use Rattle.spec.specs.Bytes.{part, zeros, index_of}
-use Rattle.spec.specs.Tree.{covered, nodeCount, expandTree}
-use Rattle.spec.specs.Shapes.{nodeBytes, leafCommitmentBytes, entriesOf, leaves, leafOf, hiddenIndex, hiddenLeaves, planned, plannedCount, treeBytes, leafCommitmentsBytes}
+use Rattle.spec.specs.Tree.{covered, node_count, expand_tree}
+use Rattle.spec.specs.Shapes.{node_bytes, leaf_commitment_bytes, entries_of, leaves, leaf_of, hidden_index, hidden_leaves, planned, planned_count, tree_bytes, leaf_commitments_bytes}
 use Rattle.spec.specs.Primitives.{Primitives, prg}
-use Rattle.spec.specs.Leaves.{nodeAt, leafKey, children, leafSeed, leafCommitment, vectorCommitments, leafCommitments, vectorHash, commitmentOf}
-use Rattle.spec.specs.Rows.{rowByte, stretchByte}
-use Rattle.spec.specs.Signer.{signerTree, signerLeafCommitment, openingOf}
-use Rattle.spec.specs.Verifier.{hiddenLeafCommitment, slot, givenNode, reconstructedChildren, reconstructedTree, verifierLeafCommitment}
+use Rattle.spec.specs.Leaves.{node_at, leaf_key, children, leaf_seed, leaf_commitment, vector_commitments, leaf_commitments, vector_hash, commitment_of}
+use Rattle.spec.specs.Rows.{row_byte, stretch_byte}
+use Rattle.spec.specs.Signer.{signer_tree, signer_leaf_commitment, opening_of}
+use Rattle.spec.specs.Verifier.{hidden_leaf_commitment, slot, given_node, reconstructed_children, reconstructed_tree, verifier_leaf_commitment}
 use Rattle.laws.proofs.Conjunctions.{contrary}
 use Rattle.laws.proofs.Lists.{length-tabulate, length_part, length-zeros}
 use Rattle.laws.proofs.Concat.{part-front, part-after, part-whole, concat-same, mul-within}
@@ -35,102 +35,102 @@ use Rattle.theorems.proofs.Buffers.{commitments-length, commitments-at, opening-
 
 prg-long : (P : Primitives) (s : Shape) (key iv : List ℕ) (tweak n : ℕ) → length (prg P s key iv tweak n) ≡ n
 unfolding prg
-prg-long P s key iv tweak n = length-tabulate n (P.prgByte s key iv tweak)
+prg-long P s key iv tweak n = length-tabulate n (P.prg_byte s key iv tweak)
 
 -- a leaf that is not hidden is not covered
-pub leaf-uncovered : (s : Shape) → ShapeLaws s → (ch : List ℕ) (i j : ℕ) → i < s.tau → j < entriesOf s i → (j ≡ hiddenIndex s ch i → ⊥)
-    → covered (hiddenLeaves s ch) (leafOf s i j) ≡ false
+pub leaf-uncovered : (s : Shape) → ShapeLaws s → (ch : List ℕ) (i j : ℕ) → i < s.tau → j < entries_of s i → (j ≡ hidden_index s ch i → ⊥)
+    → covered (hidden_leaves s ch) (leaf_of s i j) ≡ false
 leaf-uncovered s f ch i j h l d =
-    covered-leaf (leaves s) (leafOf s i j) (hiddenLeaves s ch) (hidden-leaves s ch) (f.leaf-low i j h l)
-    ∙ absent (leafOf s i j) (hiddenLeaves s ch)
+    covered-leaf (leaves s) (leaf_of s i j) (hidden_leaves s ch) (hidden-leaves s ch) (f.leaf-low i j h l)
+    ∙ absent (leaf_of s i j) (hidden_leaves s ch)
     (λ m k e.
     let g : m < s.tau = (let z = hidden-count s ch in omega arith) in
-    let q = f.leaf-one i j m (hiddenIndex s ch m) h l g (f.hidden-in ch m) (e ∙ hidden_at s ch m g) in
-    d (q.1 ∙ ap (hiddenIndex s ch) (sym q.0)))
+    let q = f.leaf-one i j m (hidden_index s ch m) h l g (f.hidden-in ch m) (e ∙ hidden_at s ch m g) in
+    d (q.1 ∙ ap (hidden_index s ch) (sym q.0)))
 
-module _ (P : Primitives) (s : Shape) (f : ShapeLaws s) (root iv : List ℕ) (root-long : length root ≡ nodeBytes s) where
+module _ (P : Primitives) (s : Shape) (f : ShapeLaws s) (root iv : List ℕ) (root-long : length root ≡ node_bytes s) where
   abbrev Tree : List ℕ
-  Tree = signerTree P s root iv
+  Tree = signer_tree P s root iv
 
   abbrev SignerCommitments : List ℕ
-  SignerCommitments = leafCommitments s (signerLeafCommitment P s iv (signerTree P s root iv))
+  SignerCommitments = leaf_commitments s (signer_leaf_commitment P s iv (signer_tree P s root iv))
 
-  kids-long : (a : ℕ) → a < leaves s - 1 → (x : List ℕ) → length (children P s iv a x) ≡ 2 * nodeBytes s
+  kids-long : (a : ℕ) → a < leaves s - 1 → (x : List ℕ) → length (children P s iv a x) ≡ 2 * node_bytes s
   unfolding children
-  kids-long a h x = prg-long P s x iv a (2 * nodeBytes s)
+  kids-long a h x = prg-long P s x iv a (2 * node_bytes s)
 
-  pub tree-length : length Tree ≡ treeBytes s
-  unfolding signerTree treeBytes
+  pub tree-length : length Tree ≡ tree_bytes s
+  unfolding signer_tree tree_bytes
   tree-length =
-      expand-length (nodeBytes s) root (children P s iv) (leaves s - 1) root-long kids-long (leaves s - 1) (omega arith)
-      ∙ ap (λ (n : ℕ). nodeBytes s * n) (let p = f.leaves-pos in let z : 2 * (leaves s - 1) + 1 ≡ 2 * leaves s - 1 = omega arith in z)
+      expand-length (node_bytes s) root (children P s iv) (leaves s - 1) root-long kids-long (leaves s - 1) (omega arith)
+      ∙ ap (λ (n : ℕ). node_bytes s * n) (let p = f.leaves-pos in let z : 2 * (leaves s - 1) + 1 ≡ 2 * leaves s - 1 = omega arith in z)
 
-  commitment-long : (i : ℕ) (key : List ℕ) → length (leafCommitment P s iv i key) ≡ leafCommitmentBytes s
+  commitment-long : (i : ℕ) (key : List ℕ) → length (leaf_commitment P s iv i key) ≡ leaf_commitment_bytes s
   commitment-long = commitment-length P s iv
 
-  signer-long : (i j : ℕ) → i < s.tau → j < entriesOf s i → length (signerLeafCommitment P s iv Tree i j) ≡ leafCommitmentBytes s
-  unfolding signerLeafCommitment
-  signer-long i j h l = commitment-long i (leafKey s Tree i j)
+  signer-long : (i j : ℕ) → i < s.tau → j < entries_of s i → length (signer_leaf_commitment P s iv Tree i j) ≡ leaf_commitment_bytes s
+  unfolding signer_leaf_commitment
+  signer-long i j h l = commitment-long i (leaf_key s Tree i j)
 
-  pub signer-commitments-length : length SignerCommitments ≡ leafCommitmentsBytes s
-  signer-commitments-length = commitments-length s f (signerLeafCommitment P s iv Tree) signer-long
+  pub signer-commitments-length : length SignerCommitments ≡ leaf_commitments_bytes s
+  signer-commitments-length = commitments-length s f (signer_leaf_commitment P s iv Tree) signer-long
 
   -- ---- with a challenge
   module _ (ch : List ℕ) where
     abbrev Opened : List ℕ
-    Opened = openingOf s ch (signerTree P s root iv) (leafCommitments s (signerLeafCommitment P s iv (signerTree P s root iv)))
+    Opened = opening_of s ch (signer_tree P s root iv) (leaf_commitments s (signer_leaf_commitment P s iv (signer_tree P s root iv)))
 
     abbrev CheckedTree : List ℕ
-    CheckedTree = reconstructedTree P s iv ch Opened
+    CheckedTree = reconstructed_tree P s iv ch Opened
 
     abbrev Hides : ℕ → Bool
-    Hides a = covered (hiddenLeaves s ch) a
+    Hides a = covered (hidden_leaves s ch) a
 
     abbrev CheckedChildren : ℕ → List ℕ → List ℕ
-    CheckedChildren = reconstructedChildren P s iv ch Opened
+    CheckedChildren = reconstructed_children P s iv ch Opened
 
     root-hides : Hides 0 ≡ true
-    root-hides = root-hidden (hiddenLeaves s ch) (let a = hidden-count s ch in let b = f.tau-pos in omega arith)
+    root-hides = root-hidden (hidden_leaves s ch) (let a = hidden-count s ch in let b = f.tau-pos in omega arith)
 
     -- a revealed node's slot holds the signer's node
-    slot_is : (c : ℕ) → In c (planned s ch) → slot s Opened (index_of c (planned s ch)) ≡ nodeAt s Tree c
-    unfolding planned plannedCount nodeCount
+    slot_is : (c : ℕ) → In c (planned s ch) → slot s Opened (index_of c (planned s ch)) ≡ node_at s Tree c
+    unfolding planned planned_count node_count
     slot_is c m =
-        opening-slot s f ch Tree SignerCommitments tree-length signer-commitments-length (index_of c (planned s ch)) m.here ∙ ap (nodeAt s Tree) m.same
+        opening-slot s f ch Tree SignerCommitments tree-length signer-commitments-length (index_of c (planned s ch)) m.here ∙ ap (node_at s Tree) m.same
 
     in_left : (a : ℕ) → a + 1 < leaves s → Hides a ≡ true → Hides (2 * a + 1) ≡ false → In (2 * a + 1) (planned s ch)
     unfolding planned
-    in_left a h p q = left-revealed (leaves s) a (hiddenLeaves s ch) (hidden-leaves s ch) h p q
+    in_left a h p q = left-revealed (leaves s) a (hidden_leaves s ch) (hidden-leaves s ch) h p q
 
     in_right : (a : ℕ) → a + 1 < leaves s → Hides a ≡ true → Hides (2 * a + 2) ≡ false → In (2 * a + 2) (planned s ch)
     unfolding planned
-    in_right a h p q = right-revealed (leaves s) a (hiddenLeaves s ch) (hidden-leaves s ch) h p q
+    in_right a h p q = right-revealed (leaves s) a (hidden_leaves s ch) (hidden-leaves s ch) h p q
 
-    node-long : (c : ℕ) → c < 2 * leaves s - 1 → length (nodeAt s Tree c) ≡ nodeBytes s
-    unfolding nodeAt treeBytes
+    node-long : (c : ℕ) → c < 2 * leaves s - 1 → length (node_at s Tree c) ≡ node_bytes s
+    unfolding node_at tree_bytes
     node-long c h =
         let a = tree-length in
-        let b = mul-within (nodeBytes s) c (2 * leaves s - 1) h in
-        length_part Tree (nodeBytes s * c) (nodeBytes s) (omega arith)
+        let b = mul-within (node_bytes s) c (2 * leaves s - 1) h in
+        length_part Tree (node_bytes s * c) (node_bytes s) (omega arith)
 
     -- what a child of a covered node is given has the length of a node
-    given-long : (c : ℕ) → c < 2 * leaves s - 1 → (Hides c ≡ false → In c (planned s ch)) → length (givenNode s ch Opened c) ≡ nodeBytes s
-    unfolding givenNode
+    given-long : (c : ℕ) → c < 2 * leaves s - 1 → (Hides c ≡ false → In c (planned s ch)) → length (given_node s ch Opened c) ≡ node_bytes s
+    unfolding given_node
     given-long c h m = go (Hides c) refl
       where
-        go : (b : Bool) → Hides c ≡ b → length (cond b (zeros (nodeBytes s)) (slot s Opened (index_of c (planned s ch)))) ≡ nodeBytes s
-        go true e = length-zeros (nodeBytes s)
+        go : (b : Bool) → Hides c ≡ b → length (cond b (zeros (node_bytes s)) (slot s Opened (index_of c (planned s ch)))) ≡ node_bytes s
+        go true e = length-zeros (node_bytes s)
         go false e = ap length (slot_is c (m e)) ∙ node-long c h
 
-    given_is : (c : ℕ) → Hides c ≡ false → In c (planned s ch) → givenNode s ch Opened c ≡ nodeAt s Tree c
-    unfolding givenNode
-    given_is c e m = ap (λ (b : Bool). cond b (zeros (nodeBytes s)) (slot s Opened (index_of c (planned s ch)))) e ∙ slot_is c m
+    given_is : (c : ℕ) → Hides c ≡ false → In c (planned s ch) → given_node s ch Opened c ≡ node_at s Tree c
+    unfolding given_node
+    given_is c e m = ap (λ (b : Bool). cond b (zeros (node_bytes s)) (slot s Opened (index_of c (planned s ch)))) e ∙ slot_is c m
 
-    again-long : (a : ℕ) → a < leaves s - 1 → (x : List ℕ) → length (CheckedChildren a x) ≡ 2 * nodeBytes s
-    unfolding reconstructedChildren
+    again-long : (a : ℕ) → a < leaves s - 1 → (x : List ℕ) → length (CheckedChildren a x) ≡ 2 * node_bytes s
+    unfolding reconstructed_children
     again-long a h x = go (Hides a) refl
       where
-        go : (b : Bool) → Hides a ≡ b → length (cond b (givenNode s ch Opened (2 * a + 1) ++ givenNode s ch Opened (2 * a + 2)) (children P s iv a x)) ≡ 2 * nodeBytes s
+        go : (b : Bool) → Hides a ≡ b → length (cond b (given_node s ch Opened (2 * a + 1) ++ given_node s ch Opened (2 * a + 2)) (children P s iv a x)) ≡ 2 * node_bytes s
         go true e =
             let p = given-long (2 * a + 1) (omega arith) (in_left a (omega arith) e) in
             let q = given-long (2 * a + 2) (omega arith) (in_right a (omega arith) e) in
@@ -139,69 +139,69 @@ module _ (P : Primitives) (s : Shape) (f : ShapeLaws s) (root iv : List ℕ) (ro
 
     -- the signer's tree and the reconstructed one, once the nodes before n have their children
     abbrev Signed : ℕ → List ℕ
-    Signed n = expandTree (nodeBytes s) root (children P s iv) n
+    Signed n = expand_tree (node_bytes s) root (children P s iv) n
 
     abbrev Checked : ℕ → List ℕ
-    Checked n = expandTree (nodeBytes s) (zeros (nodeBytes s)) (reconstructedChildren P s iv ch Opened) n
+    Checked n = expand_tree (node_bytes s) (zeros (node_bytes s)) (reconstructed_children P s iv ch Opened) n
 
     abbrev Node : List ℕ → ℕ → List ℕ
-    Node t c = part t (nodeBytes s * c) (nodeBytes s)
+    Node t c = part t (node_bytes s * c) (node_bytes s)
 
     signed-front : (n m c : ℕ) → n ≤ m → m ≤ leaves s - 1 → c < 2 * n + 1 → Node (Signed m) c ≡ Node (Signed n) c
-    signed-front = expand-front (nodeBytes s) root (children P s iv) (leaves s - 1) root-long kids-long
+    signed-front = expand-front (node_bytes s) root (children P s iv) (leaves s - 1) root-long kids-long
 
     checked-front : (n m c : ℕ) → n ≤ m → m ≤ leaves s - 1 → c < 2 * n + 1 → Node (Checked m) c ≡ Node (Checked n) c
-    checked-front = expand-front (nodeBytes s) (zeros (nodeBytes s)) CheckedChildren (leaves s - 1) (length-zeros (nodeBytes s)) again-long
+    checked-front = expand-front (node_bytes s) (zeros (node_bytes s)) CheckedChildren (leaves s - 1) (length-zeros (node_bytes s)) again-long
 
-    tree-node : (n c : ℕ) → n ≤ leaves s - 1 → c < 2 * n + 1 → nodeAt s Tree c ≡ Node (Signed n) c
-    unfolding nodeAt signerTree
+    tree-node : (n c : ℕ) → n ≤ leaves s - 1 → c < 2 * n + 1 → node_at s Tree c ≡ Node (Signed n) c
+    unfolding node_at signer_tree
     tree-node n c h l = signed-front n (leaves s - 1) c h (omega arith) l
 
     -- the children of a node that is covered
-    covered-left : (n : ℕ) (x : List ℕ) → n < leaves s - 1 → Hides n ≡ true → Hides (2 * n + 1) ≡ false → part (CheckedChildren n x) 0 (nodeBytes s) ≡ nodeAt s Tree (2 * n + 1)
-    unfolding reconstructedChildren
+    covered-left : (n : ℕ) (x : List ℕ) → n < leaves s - 1 → Hides n ≡ true → Hides (2 * n + 1) ≡ false → part (CheckedChildren n x) 0 (node_bytes s) ≡ node_at s Tree (2 * n + 1)
+    unfolding reconstructed_children
     covered-left n x h e d =
         let p = given-long (2 * n + 1) (omega arith) (in_left n (omega arith) e) in
-        ap (λ (b : Bool). part (cond b (givenNode s ch Opened (2 * n + 1) ++ givenNode s ch Opened (2 * n + 2)) (children P s iv n x)) 0 (nodeBytes s)) e
-        ∙ part-front (givenNode s ch Opened (2 * n + 1)) (givenNode s ch Opened (2 * n + 2)) 0 (nodeBytes s) (omega arith)
-        ∙ part-whole (givenNode s ch Opened (2 * n + 1)) (nodeBytes s) p
+        ap (λ (b : Bool). part (cond b (given_node s ch Opened (2 * n + 1) ++ given_node s ch Opened (2 * n + 2)) (children P s iv n x)) 0 (node_bytes s)) e
+        ∙ part-front (given_node s ch Opened (2 * n + 1)) (given_node s ch Opened (2 * n + 2)) 0 (node_bytes s) (omega arith)
+        ∙ part-whole (given_node s ch Opened (2 * n + 1)) (node_bytes s) p
         ∙ given_is (2 * n + 1) d (in_left n (omega arith) e d)
 
-    covered-right : (n : ℕ) (x : List ℕ) → n < leaves s - 1 → Hides n ≡ true → Hides (2 * n + 2) ≡ false → part (CheckedChildren n x) (nodeBytes s) (nodeBytes s) ≡ nodeAt s Tree (2 * n + 2)
-    unfolding reconstructedChildren
+    covered-right : (n : ℕ) (x : List ℕ) → n < leaves s - 1 → Hides n ≡ true → Hides (2 * n + 2) ≡ false → part (CheckedChildren n x) (node_bytes s) (node_bytes s) ≡ node_at s Tree (2 * n + 2)
+    unfolding reconstructed_children
     covered-right n x h e d =
         let p = given-long (2 * n + 1) (omega arith) (in_left n (omega arith) e) in
         let q = given-long (2 * n + 2) (omega arith) (in_right n (omega arith) e) in
-        ap (λ (b : Bool). part (cond b (givenNode s ch Opened (2 * n + 1) ++ givenNode s ch Opened (2 * n + 2)) (children P s iv n x)) (nodeBytes s) (nodeBytes s)) e
-        ∙ part-after (givenNode s ch Opened (2 * n + 1)) (givenNode s ch Opened (2 * n + 2)) (nodeBytes s) 0 (nodeBytes s) (omega arith)
-        ∙ part-whole (givenNode s ch Opened (2 * n + 2)) (nodeBytes s) q
+        ap (λ (b : Bool). part (cond b (given_node s ch Opened (2 * n + 1) ++ given_node s ch Opened (2 * n + 2)) (children P s iv n x)) (node_bytes s) (node_bytes s)) e
+        ∙ part-after (given_node s ch Opened (2 * n + 1)) (given_node s ch Opened (2 * n + 2)) (node_bytes s) 0 (node_bytes s) (omega arith)
+        ∙ part-whole (given_node s ch Opened (2 * n + 2)) (node_bytes s) q
         ∙ given_is (2 * n + 2) d (in_right n (omega arith) e d)
 
     bare : (n : ℕ) (x : List ℕ) → Hides n ≡ false → CheckedChildren n x ≡ children P s iv n x
-    unfolding reconstructedChildren
-    bare n x e = ap (λ (b : Bool). cond b (givenNode s ch Opened (2 * n + 1) ++ givenNode s ch Opened (2 * n + 2)) (children P s iv n x)) e
+    unfolding reconstructed_children
+    bare n x e = ap (λ (b : Bool). cond b (given_node s ch Opened (2 * n + 1) ++ given_node s ch Opened (2 * n + 2)) (children P s iv n x)) e
 
     left-same : (n : ℕ) → n < leaves s - 1 → (Hides n ≡ false → Node (Checked n) n ≡ Node (Signed n) n) → Hides (2 * n + 1) ≡ false
         → Node (Checked (suc n)) (2 * n + 1) ≡ Node (Signed (suc n)) (2 * n + 1)
     left-same n h ih d =
-        expand-left (nodeBytes s) (zeros (nodeBytes s)) CheckedChildren (leaves s - 1) (length-zeros (nodeBytes s)) again-long n (omega arith) ∙ go (Hides n) refl
+        expand-left (node_bytes s) (zeros (node_bytes s)) CheckedChildren (leaves s - 1) (length-zeros (node_bytes s)) again-long n (omega arith) ∙ go (Hides n) refl
       where
-        go : (b : Bool) → Hides n ≡ b → part (CheckedChildren n (Node (Checked n) n)) 0 (nodeBytes s) ≡ Node (Signed (suc n)) (2 * n + 1)
+        go : (b : Bool) → Hides n ≡ b → part (CheckedChildren n (Node (Checked n) n)) 0 (node_bytes s) ≡ Node (Signed (suc n)) (2 * n + 1)
         go true e = covered-left n (Node (Checked n) n) h e d ∙ tree-node (suc n) (2 * n + 1) h (omega arith)
         go false e =
-            ap (λ (l : List ℕ). part l 0 (nodeBytes s)) (bare n (Node (Checked n) n) e ∙ ap (children P s iv n) (ih e))
-            ∙ sym (expand-left (nodeBytes s) root (children P s iv) (leaves s - 1) root-long kids-long n (omega arith))
+            ap (λ (l : List ℕ). part l 0 (node_bytes s)) (bare n (Node (Checked n) n) e ∙ ap (children P s iv n) (ih e))
+            ∙ sym (expand-left (node_bytes s) root (children P s iv) (leaves s - 1) root-long kids-long n (omega arith))
 
     right-same : (n : ℕ) → n < leaves s - 1 → (Hides n ≡ false → Node (Checked n) n ≡ Node (Signed n) n) → Hides (2 * n + 2) ≡ false
         → Node (Checked (suc n)) (2 * n + 2) ≡ Node (Signed (suc n)) (2 * n + 2)
     right-same n h ih d =
-        expand-right (nodeBytes s) (zeros (nodeBytes s)) CheckedChildren (leaves s - 1) (length-zeros (nodeBytes s)) again-long n (omega arith) ∙ go (Hides n) refl
+        expand-right (node_bytes s) (zeros (node_bytes s)) CheckedChildren (leaves s - 1) (length-zeros (node_bytes s)) again-long n (omega arith) ∙ go (Hides n) refl
       where
-        go : (b : Bool) → Hides n ≡ b → part (CheckedChildren n (Node (Checked n) n)) (nodeBytes s) (nodeBytes s) ≡ Node (Signed (suc n)) (2 * n + 2)
+        go : (b : Bool) → Hides n ≡ b → part (CheckedChildren n (Node (Checked n) n)) (node_bytes s) (node_bytes s) ≡ Node (Signed (suc n)) (2 * n + 2)
         go true e = covered-right n (Node (Checked n) n) h e d ∙ tree-node (suc n) (2 * n + 2) h (omega arith)
         go false e =
-            ap (λ (l : List ℕ). part l (nodeBytes s) (nodeBytes s)) (bare n (Node (Checked n) n) e ∙ ap (children P s iv n) (ih e))
-            ∙ sym (expand-right (nodeBytes s) root (children P s iv) (leaves s - 1) root-long kids-long n (omega arith))
+            ap (λ (l : List ℕ). part l (node_bytes s) (node_bytes s)) (bare n (Node (Checked n) n) e ∙ ap (children P s iv n) (ih e))
+            ∙ sym (expand-right (node_bytes s) root (children P s iv) (leaves s - 1) root-long kids-long n (omega arith))
 
     -- every node that is not covered is the signer's
     nodes-same : (n : ℕ) → n ≤ leaves s - 1 → (c : ℕ) → c < 2 * n + 1 → Hides c ≡ false → Node (Checked n) c ≡ Node (Signed n) c
@@ -217,103 +217,103 @@ module _ (P : Primitives) (s : Shape) (f : ShapeLaws s) (root iv : List ℕ) (ro
             let g : c ≡ 2 * n + 2 = omega arith in
             subst (λ (m : ℕ). Node (Checked (suc n)) m ≡ Node (Signed (suc n)) m) (sym g) (right-same n h (ih n (omega arith)) (ap Hides (sym g) ∙ d))
 
-    pub node-same : (c : ℕ) → c < 2 * leaves s - 1 → Hides c ≡ false → nodeAt s CheckedTree c ≡ nodeAt s Tree c
-    unfolding nodeAt signerTree reconstructedTree
+    pub node-same : (c : ℕ) → c < 2 * leaves s - 1 → Hides c ≡ false → node_at s CheckedTree c ≡ node_at s Tree c
+    unfolding node_at signer_tree reconstructed_tree
     node-same c h d = nodes-same (leaves s - 1) (omega arith) c (omega arith) d
 
     -- ---- covered nodes are zeros
 
-    given-zero : (c : ℕ) → Hides c ≡ true → givenNode s ch Opened c ≡ zeros (nodeBytes s)
-    unfolding givenNode
-    given-zero c e = ap (λ (b : Bool). cond b (zeros (nodeBytes s)) (slot s Opened (index_of c (planned s ch)))) e
+    given-zero : (c : ℕ) → Hides c ≡ true → given_node s ch Opened c ≡ zeros (node_bytes s)
+    unfolding given_node
+    given-zero c e = ap (λ (b : Bool). cond b (zeros (node_bytes s)) (slot s Opened (index_of c (planned s ch)))) e
 
     above-left : (n : ℕ) → n + 1 < leaves s → Hides (2 * n + 1) ≡ true → Hides n ≡ true
-    above-left n h e = covered-inner (leaves s) n (hiddenLeaves s ch) (hidden-leaves s ch) h ∙ ap (λ (b : Bool). b || Hides (2 * n + 2)) e
+    above-left n h e = covered-inner (leaves s) n (hidden_leaves s ch) (hidden-leaves s ch) h ∙ ap (λ (b : Bool). b || Hides (2 * n + 2)) e
 
     above-right : (n : ℕ) → n + 1 < leaves s → Hides (2 * n + 2) ≡ true → Hides n ≡ true
     above-right n h e =
-        covered-inner (leaves s) n (hiddenLeaves s ch) (hidden-leaves s ch) h ∙ ap (λ (b : Bool). Hides (2 * n + 1) || b) e ∙ or-true (Hides (2 * n + 1))
+        covered-inner (leaves s) n (hidden_leaves s ch) (hidden-leaves s ch) h ∙ ap (λ (b : Bool). Hides (2 * n + 1) || b) e ∙ or-true (Hides (2 * n + 1))
 
-    left-zero : (n : ℕ) → n < leaves s - 1 → Hides (2 * n + 1) ≡ true → Node (Checked (suc n)) (2 * n + 1) ≡ zeros (nodeBytes s)
-    unfolding reconstructedChildren
+    left-zero : (n : ℕ) → n < leaves s - 1 → Hides (2 * n + 1) ≡ true → Node (Checked (suc n)) (2 * n + 1) ≡ zeros (node_bytes s)
+    unfolding reconstructed_children
     left-zero n h d =
         let e = above-left n (omega arith) d in
         let p = given-long (2 * n + 1) (omega arith) (in_left n (omega arith) e) in
-        expand-left (nodeBytes s) (zeros (nodeBytes s)) CheckedChildren (leaves s - 1) (length-zeros (nodeBytes s)) again-long n (omega arith)
-        ∙ ap (λ (b : Bool). part (cond b (givenNode s ch Opened (2 * n + 1) ++ givenNode s ch Opened (2 * n + 2)) (children P s iv n (Node (Checked n) n))) 0 (nodeBytes s)) e
-        ∙ part-front (givenNode s ch Opened (2 * n + 1)) (givenNode s ch Opened (2 * n + 2)) 0 (nodeBytes s) (omega arith)
-        ∙ part-whole (givenNode s ch Opened (2 * n + 1)) (nodeBytes s) p
+        expand-left (node_bytes s) (zeros (node_bytes s)) CheckedChildren (leaves s - 1) (length-zeros (node_bytes s)) again-long n (omega arith)
+        ∙ ap (λ (b : Bool). part (cond b (given_node s ch Opened (2 * n + 1) ++ given_node s ch Opened (2 * n + 2)) (children P s iv n (Node (Checked n) n))) 0 (node_bytes s)) e
+        ∙ part-front (given_node s ch Opened (2 * n + 1)) (given_node s ch Opened (2 * n + 2)) 0 (node_bytes s) (omega arith)
+        ∙ part-whole (given_node s ch Opened (2 * n + 1)) (node_bytes s) p
         ∙ given-zero (2 * n + 1) d
 
-    right_zero : (n : ℕ) → n < leaves s - 1 → Hides (2 * n + 2) ≡ true → Node (Checked (suc n)) (2 * n + 2) ≡ zeros (nodeBytes s)
-    unfolding reconstructedChildren
+    right_zero : (n : ℕ) → n < leaves s - 1 → Hides (2 * n + 2) ≡ true → Node (Checked (suc n)) (2 * n + 2) ≡ zeros (node_bytes s)
+    unfolding reconstructed_children
     right_zero n h d =
         let e = above-right n (omega arith) d in
         let p = given-long (2 * n + 1) (omega arith) (in_left n (omega arith) e) in
         let q = given-long (2 * n + 2) (omega arith) (in_right n (omega arith) e) in
-        expand-right (nodeBytes s) (zeros (nodeBytes s)) CheckedChildren (leaves s - 1) (length-zeros (nodeBytes s)) again-long n (omega arith)
-        ∙ ap (λ (b : Bool). part (cond b (givenNode s ch Opened (2 * n + 1) ++ givenNode s ch Opened (2 * n + 2)) (children P s iv n (Node (Checked n) n))) (nodeBytes s) (nodeBytes s)) e
-        ∙ part-after (givenNode s ch Opened (2 * n + 1)) (givenNode s ch Opened (2 * n + 2)) (nodeBytes s) 0 (nodeBytes s) (omega arith)
-        ∙ part-whole (givenNode s ch Opened (2 * n + 2)) (nodeBytes s) q
+        expand-right (node_bytes s) (zeros (node_bytes s)) CheckedChildren (leaves s - 1) (length-zeros (node_bytes s)) again-long n (omega arith)
+        ∙ ap (λ (b : Bool). part (cond b (given_node s ch Opened (2 * n + 1) ++ given_node s ch Opened (2 * n + 2)) (children P s iv n (Node (Checked n) n))) (node_bytes s) (node_bytes s)) e
+        ∙ part-after (given_node s ch Opened (2 * n + 1)) (given_node s ch Opened (2 * n + 2)) (node_bytes s) 0 (node_bytes s) (omega arith)
+        ∙ part-whole (given_node s ch Opened (2 * n + 2)) (node_bytes s) q
         ∙ given-zero (2 * n + 2) d
 
-    nodes-zero : (n : ℕ) → n ≤ leaves s - 1 → (c : ℕ) → c < 2 * n + 1 → Hides c ≡ true → Node (Checked n) c ≡ zeros (nodeBytes s)
-    unfolding expandTree
+    nodes-zero : (n : ℕ) → n ≤ leaves s - 1 → (c : ℕ) → c < 2 * n + 1 → Hides c ≡ true → Node (Checked n) c ≡ zeros (node_bytes s)
+    unfolding expand_tree
     nodes-zero zero h c l d =
-        ap (λ (a : ℕ). part (zeros (nodeBytes s)) (nodeBytes s * a) (nodeBytes s)) (let z : c ≡ 0 = omega arith in z)
-        ∙ ap (λ (a : ℕ). part (zeros (nodeBytes s)) a (nodeBytes s)) (mul-zero (nodeBytes s))
-        ∙ part-whole (zeros (nodeBytes s)) (nodeBytes s) (length-zeros (nodeBytes s))
+        ap (λ (a : ℕ). part (zeros (node_bytes s)) (node_bytes s * a) (node_bytes s)) (let z : c ≡ 0 = omega arith in z)
+        ∙ ap (λ (a : ℕ). part (zeros (node_bytes s)) a (node_bytes s)) (mul-zero (node_bytes s))
+        ∙ part-whole (zeros (node_bytes s)) (node_bytes s) (length-zeros (node_bytes s))
     nodes-zero (suc n) h c l d = go (dec_lt c (2 * n + 1)) (ℕ_discrete c (2 * n + 1)) (nodes-zero n (omega arith))
       where
-        go : Dec (c < 2 * n + 1) → Dec (c ≡ 2 * n + 1) → ((c : ℕ) → c < 2 * n + 1 → Hides c ≡ true → Node (Checked n) c ≡ zeros (nodeBytes s))
-            → Node (Checked (suc n)) c ≡ zeros (nodeBytes s)
+        go : Dec (c < 2 * n + 1) → Dec (c ≡ 2 * n + 1) → ((c : ℕ) → c < 2 * n + 1 → Hides c ≡ true → Node (Checked n) c ≡ zeros (node_bytes s))
+            → Node (Checked (suc n)) c ≡ zeros (node_bytes s)
         go (yes k) e ih = checked-front n (suc n) c (omega arith) h k ∙ ih c k d
-        go (no k) (yes e) ih = subst (λ (m : ℕ). Node (Checked (suc n)) m ≡ zeros (nodeBytes s)) (sym e) (left-zero n h (ap Hides (sym e) ∙ d))
+        go (no k) (yes e) ih = subst (λ (m : ℕ). Node (Checked (suc n)) m ≡ zeros (node_bytes s)) (sym e) (left-zero n h (ap Hides (sym e) ∙ d))
         go (no k) (no e) ih =
             let g : c ≡ 2 * n + 2 = omega arith in
-            subst (λ (m : ℕ). Node (Checked (suc n)) m ≡ zeros (nodeBytes s)) (sym g) (right_zero n h (ap Hides (sym g) ∙ d))
+            subst (λ (m : ℕ). Node (Checked (suc n)) m ≡ zeros (node_bytes s)) (sym g) (right_zero n h (ap Hides (sym g) ∙ d))
 
-    pub node-zero : (c : ℕ) → c < 2 * leaves s - 1 → Hides c ≡ true → nodeAt s CheckedTree c ≡ zeros (nodeBytes s)
-    unfolding nodeAt reconstructedTree
+    pub node-zero : (c : ℕ) → c < 2 * leaves s - 1 → Hides c ≡ true → node_at s CheckedTree c ≡ zeros (node_bytes s)
+    unfolding node_at reconstructed_tree
     node-zero c h d = nodes-zero (leaves s - 1) (omega arith) c (omega arith) d
 
     -- ---- leaves
 
-    pub key-same : (i j : ℕ) → i < s.tau → j < entriesOf s i → (j ≡ hiddenIndex s ch i → ⊥) → leafKey s CheckedTree i j ≡ leafKey s Tree i j
-    unfolding leafKey
-    key-same i j h l d = (let k = f.leaf-high i j h l in node-same (leafOf s i j) (omega arith) (leaf-uncovered s f ch i j h l d))
+    pub key-same : (i j : ℕ) → i < s.tau → j < entries_of s i → (j ≡ hidden_index s ch i → ⊥) → leaf_key s CheckedTree i j ≡ leaf_key s Tree i j
+    unfolding leaf_key
+    key-same i j h l d = (let k = f.leaf-high i j h l in node-same (leaf_of s i j) (omega arith) (leaf-uncovered s f ch i j h l d))
 
-    pub commitment-of-leaf : (i j : ℕ) → i < s.tau → j < entriesOf s i → verifierLeafCommitment P s iv ch Opened CheckedTree i j ≡ signerLeafCommitment P s iv Tree i j
-    unfolding verifierLeafCommitment signerLeafCommitment
-    commitment-of-leaf i j h l = go (ℕ_discrete j (hiddenIndex s ch i))
+    pub commitment-of-leaf : (i j : ℕ) → i < s.tau → j < entries_of s i → verifier_leaf_commitment P s iv ch Opened CheckedTree i j ≡ signer_leaf_commitment P s iv Tree i j
+    unfolding verifier_leaf_commitment signer_leaf_commitment
+    commitment-of-leaf i j h l = go (ℕ_discrete j (hidden_index s ch i))
       where
-        go : Dec (j ≡ hiddenIndex s ch i)
-            → cond (eqb j (hiddenIndex s ch i)) (hiddenLeafCommitment s Opened i) (leafCommitment P s iv i (leafKey s CheckedTree i j)) ≡ leafCommitment P s iv i (leafKey s Tree i j)
+        go : Dec (j ≡ hidden_index s ch i)
+            → cond (eqb j (hidden_index s ch i)) (hidden_leaf_commitment s Opened i) (leaf_commitment P s iv i (leaf_key s CheckedTree i j)) ≡ leaf_commitment P s iv i (leaf_key s Tree i j)
         go (yes e) =
-            ap (λ (b : Bool). cond b (hiddenLeafCommitment s Opened i) (leafCommitment P s iv i (leafKey s CheckedTree i j))) (eq-eqb j (hiddenIndex s ch i) e)
+            ap (λ (b : Bool). cond b (hidden_leaf_commitment s Opened i) (leaf_commitment P s iv i (leaf_key s CheckedTree i j))) (eq-eqb j (hidden_index s ch i) e)
             ∙ opening-hidden s f ch Tree SignerCommitments tree-length signer-commitments-length i h
-            ∙ commitments-at s f (signerLeafCommitment P s iv Tree) signer-long i (hiddenIndex s ch i) h (f.hidden-in ch i)
-            ∙ ap (signerLeafCommitment P s iv Tree i) (sym e)
+            ∙ commitments-at s f (signer_leaf_commitment P s iv Tree) signer-long i (hidden_index s ch i) h (f.hidden-in ch i)
+            ∙ ap (signer_leaf_commitment P s iv Tree i) (sym e)
         go (no d) =
-            ap (λ (b : Bool). cond b (hiddenLeafCommitment s Opened i) (leafCommitment P s iv i (leafKey s CheckedTree i j))) (ne_eqb j (hiddenIndex s ch i) d)
-            ∙ ap (leafCommitment P s iv i) (key-same i j h l d)
+            ap (λ (b : Bool). cond b (hidden_leaf_commitment s Opened i) (leaf_commitment P s iv i (leaf_key s CheckedTree i j))) (ne_eqb j (hidden_index s ch i) d)
+            ∙ ap (leaf_commitment P s iv i) (key-same i j h l d)
 
-    vector-same : (i : ℕ) → i < s.tau → vectorCommitments s (verifierLeafCommitment P s iv ch Opened CheckedTree) i ≡ vectorCommitments s (signerLeafCommitment P s iv Tree) i
-    unfolding vectorCommitments
-    vector-same i h = concat-same (verifierLeafCommitment P s iv ch Opened CheckedTree i) (signerLeafCommitment P s iv Tree i) (entriesOf s i) (λ j l. commitment-of-leaf i j h l)
+    vector-same : (i : ℕ) → i < s.tau → vector_commitments s (verifier_leaf_commitment P s iv ch Opened CheckedTree) i ≡ vector_commitments s (signer_leaf_commitment P s iv Tree) i
+    unfolding vector_commitments
+    vector-same i h = concat-same (verifier_leaf_commitment P s iv ch Opened CheckedTree i) (signer_leaf_commitment P s iv Tree i) (entries_of s i) (λ j l. commitment-of-leaf i j h l)
 
-    pub commitment-same : commitmentOf P s (verifierLeafCommitment P s iv ch Opened CheckedTree) ≡ commitmentOf P s (signerLeafCommitment P s iv Tree)
-    unfolding commitmentOf vectorHash
+    pub commitment-same : commitment_of P s (verifier_leaf_commitment P s iv ch Opened CheckedTree) ≡ commitment_of P s (signer_leaf_commitment P s iv Tree)
+    unfolding commitment_of vector_hash
     commitment-same =
-        ap (P.h1 s) (concat-same (λ i. P.h1 s (vectorCommitments s (verifierLeafCommitment P s iv ch Opened CheckedTree) i)) (λ i. P.h1 s (vectorCommitments s (signerLeafCommitment P s iv Tree) i)) s.tau
+        ap (P.h1 s) (concat-same (λ i. P.h1 s (vector_commitments s (verifier_leaf_commitment P s iv ch Opened CheckedTree) i)) (λ i. P.h1 s (vector_commitments s (signer_leaf_commitment P s iv Tree) i)) s.tau
         (λ i h. ap (P.h1 s) (vector-same i h)))
 
-    pub leaf-commitments-same : leafCommitments s (verifierLeafCommitment P s iv ch Opened CheckedTree) ≡ SignerCommitments
-    unfolding leafCommitments
-    leaf-commitments-same = concat-same (vectorCommitments s (verifierLeafCommitment P s iv ch Opened CheckedTree)) (vectorCommitments s (signerLeafCommitment P s iv Tree)) s.tau vector-same
+    pub leaf-commitments-same : leaf_commitments s (verifier_leaf_commitment P s iv ch Opened CheckedTree) ≡ SignerCommitments
+    unfolding leaf_commitments
+    leaf-commitments-same = concat-same (vector_commitments s (verifier_leaf_commitment P s iv ch Opened CheckedTree)) (vector_commitments s (signer_leaf_commitment P s iv Tree)) s.tau vector-same
 
     -- ---- rows
 
-    pub row_same : (z : Stretch) (i e p : ℕ) → i < s.tau → e < entriesOf s i → (e ≡ hiddenIndex s ch i → ⊥) → stretchByte P s z iv CheckedTree i e p ≡ stretchByte P s z iv Tree i e p
-    unfolding rowByte stretchByte
-    row_same z i e p h l d = ap (λ (k : List ℕ). P.prgByte s (leafSeed P s iv i k) iv (i + 2 ^ 31) (z.first + p)) (key-same i e h l d)
+    pub row_same : (z : Stretch) (i e p : ℕ) → i < s.tau → e < entries_of s i → (e ≡ hidden_index s ch i → ⊥) → stretch_byte P s z iv CheckedTree i e p ≡ stretch_byte P s z iv Tree i e p
+    unfolding row_byte stretch_byte
+    row_same z i e p h l d = ap (λ (k : List ℕ). P.prg_byte s (leaf_seed P s iv i k) iv (i + 2 ^ 31) (z.first + p)) (key-same i e h l d)

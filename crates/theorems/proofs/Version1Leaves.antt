@@ -12,10 +12,10 @@ use borrow.Author.Tests.{eq-eqb, ne_eqb}
 use Rattle.spec.specs.declared.Shape.{Shape}
 use Rattle.spec.specs.Bytes.{part, concat}
 use Rattle.spec.specs.Tree.{some}
-use Rattle.spec.specs.Shapes.{nodeBytes, entriesOf, firstEntry, leaves, hiddenIndex}
+use Rattle.spec.specs.Shapes.{node_bytes, entries_of, first_entry, leaves, hidden_index}
 use Rattle.spec.specs.Primitives.{Primitives}
-use Rattle.spec.specs.Leaves.{nodeAt, vectorCommitments, leafCommitments, vectorHash, commitmentOf}
-use Rattle.spec.specs.Version1.{signerTrees, firstNode, leafIn, leafKey1, leafCommitmentBytes1, hashedLeaf, leafSeed1, leafCommitment1, signerLeafCommitment1, row1Byte, leafCommitmentAt1, opening1Of, hiddenLeafCommitment1, on_path, reconstructedTrees, verifierLeafCommitment1, leafCommitments1Bytes}
+use Rattle.spec.specs.Leaves.{node_at, vector_commitments, leaf_commitments, vector_hash, commitment_of}
+use Rattle.spec.specs.Version1.{signer_trees, first_node, leaf_in, leaf_key1, leaf_commitment_bytes1, hashed_leaf, leaf_seed1, leaf_commitment1, signer_leaf_commitment1, row1_byte, leaf_commitment_at1, opening1_of, hidden_leaf_commitment1, on_path, reconstructed_trees, verifier_leaf_commitment1, leaf_commitments1_bytes}
 use Rattle.laws.proofs.Concat.{laid-length, laid-part, even-length, even-part, concat-same, mul-within}
 use Rattle.planning_laws.proofs.Covered.{covered-leaf}
 use Rattle.planning_laws.proofs.Depths.{entry-none, entry_next, entry-all}
@@ -28,96 +28,96 @@ use Rattle.theorems.proofs.Version1Trees.{trees-long, nodes-again}
 -- ---- strings of w bytes for each entry of each vector
 
 module _ (s : Shape) (f : ShapeFacts s) (w : ℕ) (lc : ℕ → ℕ → List ℕ) (long : (i j : ℕ) → length (lc i j) ≡ w) where
-  vector-length : (i : ℕ) → length (vectorCommitments s lc i) ≡ w * entriesOf s i
-  unfolding vectorCommitments
-  vector-length i = even-length (lc i) w (entriesOf s i) (λ j l. long i j)
+  vector-length : (i : ℕ) → length (vector_commitments s lc i) ≡ w * entries_of s i
+  unfolding vector_commitments
+  vector-length i = even-length (lc i) w (entries_of s i) (λ j l. long i j)
 
-  laid : (i : ℕ) → i < s.tau → w * firstEntry s (suc i) ≡ w * firstEntry s i + length (vectorCommitments s lc i)
-  laid i h = ap (λ (n : ℕ). w * n) (entry_next s i) ∙ mul-add w (firstEntry s i) (entriesOf s i) ∙ ap (λ (n : ℕ). w * firstEntry s i + n) (sym (vector-length i))
+  laid : (i : ℕ) → i < s.tau → w * first_entry s (suc i) ≡ w * first_entry s i + length (vector_commitments s lc i)
+  laid i h = ap (λ (n : ℕ). w * n) (entry_next s i) ∙ mul-add w (first_entry s i) (entries_of s i) ∙ ap (λ (n : ℕ). w * first_entry s i + n) (sym (vector-length i))
 
-  none : w * firstEntry s 0 ≡ 0
+  none : w * first_entry s 0 ≡ 0
   none = ap (λ (n : ℕ). w * n) (entry-none s) ∙ mul-zero w
 
-  pub entries-length : length (leafCommitments s lc) ≡ w * leaves s
-  unfolding leafCommitments
-  entries-length = laid-length (vectorCommitments s lc) (λ i. w * firstEntry s i) none s.tau laid ∙ ap (λ (n : ℕ). w * n) (entry-all s (let z = f.few in omega arith))
+  pub entries-length : length (leaf_commitments s lc) ≡ w * leaves s
+  unfolding leaf_commitments
+  entries-length = laid-length (vector_commitments s lc) (λ i. w * first_entry s i) none s.tau laid ∙ ap (λ (n : ℕ). w * n) (entry-all s (let z = f.few in omega arith))
 
-  pub entries_at : (i j : ℕ) → i < s.tau → j < entriesOf s i → part (leafCommitments s lc) (w * (firstEntry s i + j)) w ≡ lc i j
-  unfolding leafCommitments vectorCommitments
+  pub entries_at : (i j : ℕ) → i < s.tau → j < entries_of s i → part (leaf_commitments s lc) (w * (first_entry s i + j)) w ≡ lc i j
+  unfolding leaf_commitments vector_commitments
   entries_at i j h l =
       let c = vector-length i in
-      let m = mul-within w j (entriesOf s i) l in
-      ap (λ (n : ℕ). part (concat s.tau (λ i. concat (entriesOf s i) (lc i))) n w) (mul-add w (firstEntry s i) j)
-      ∙ laid-part (λ i. concat (entriesOf s i) (lc i)) (λ i. w * firstEntry s i) none s.tau i (w * j) w laid h (omega arith)
-      ∙ even-part (lc i) w (entriesOf s i) j (λ j l. long i j) l
+      let m = mul-within w j (entries_of s i) l in
+      ap (λ (n : ℕ). part (concat s.tau (λ i. concat (entries_of s i) (lc i))) n w) (mul-add w (first_entry s i) j)
+      ∙ laid-part (λ i. concat (entries_of s i) (lc i)) (λ i. w * first_entry s i) none s.tau i (w * j) w laid h (omega arith)
+      ∙ even-part (lc i) w (entries_of s i) j (λ j l. long i j) l
 
 module _ (P : Primitives) (whole : WholeHash P) (s : Shape) (f : ShapeFacts s) (root iv ch : List ℕ) where
   abbrev Trees : List ℕ
-  Trees = signerTrees P s root iv
+  Trees = signer_trees P s root iv
 
   abbrev Own : ℕ → ℕ → List ℕ
-  Own = signerLeafCommitment1 P s iv (signerTrees P s root iv)
+  Own = signer_leaf_commitment1 P s iv (signer_trees P s root iv)
 
   abbrev Lcs : List ℕ
-  Lcs = leafCommitments s (signerLeafCommitment1 P s iv (signerTrees P s root iv))
+  Lcs = leaf_commitments s (signer_leaf_commitment1 P s iv (signer_trees P s root iv))
 
-  own-long : (i j : ℕ) → length (Own i j) ≡ leafCommitmentBytes1 s
-  unfolding hashedLeaf leafCommitment1 signerLeafCommitment1
-  own-long i j = (let e = whole s (leafKey1 s Trees i j ++ iv) (nodeBytes s + leafCommitmentBytes1 s) in simp length-drop (omega arith))
+  own-long : (i j : ℕ) → length (Own i j) ≡ leaf_commitment_bytes1 s
+  unfolding hashed_leaf leaf_commitment1 signer_leaf_commitment1
+  own-long i j = (let e = whole s (leaf_key1 s Trees i j ++ iv) (node_bytes s + leaf_commitment_bytes1 s) in simp length-drop (omega arith))
 
-  pub lcs-long : length Lcs ≡ leafCommitments1Bytes s
-  unfolding leafCommitments1Bytes
-  lcs-long = entries-length s f (leafCommitmentBytes1 s) Own own-long
+  pub lcs-long : length Lcs ≡ leaf_commitments1_bytes s
+  unfolding leaf_commitments1_bytes
+  lcs-long = entries-length s f (leaf_commitment_bytes1 s) Own own-long
 
   abbrev Op : List ℕ
-  Op = opening1Of s ch (signerTrees P s root iv) (leafCommitments s (signerLeafCommitment1 P s iv (signerTrees P s root iv)))
+  Op = opening1_of s ch (signer_trees P s root iv) (leaf_commitments s (signer_leaf_commitment1 P s iv (signer_trees P s root iv)))
 
   abbrev Again : List ℕ
-  Again = reconstructedTrees P s iv ch Op
+  Again = reconstructed_trees P s iv ch Op
 
   -- a leaf that is not hidden is not on the way
-  leaf-off : (i j : ℕ) → j < entriesOf s i → (j ≡ hiddenIndex s ch i → ⊥) → on_path s ch i (leafIn s i j) ≡ false
-  unfolding on_path leafIn some
+  leaf-off : (i j : ℕ) → j < entries_of s i → (j ≡ hidden_index s ch i → ⊥) → on_path s ch i (leaf_in s i j) ≡ false
+  unfolding on_path leaf_in some
   leaf-off i j l n =
       let q = hidden-index-lt s ch i in
-      covered-leaf (entriesOf s i) (entriesOf s i - 1 + j) ((entriesOf s i - 1 + hiddenIndex s ch i) ∷ []) (omega arith, omega arith, tt) (omega arith)
-      ∙ ap (λ (b : Bool). b || false) (ne_eqb (entriesOf s i - 1 + j) (entriesOf s i - 1 + hiddenIndex s ch i) (λ e. n (omega arith)))
+      covered-leaf (entries_of s i) (entries_of s i - 1 + j) ((entries_of s i - 1 + hidden_index s ch i) ∷ []) (omega arith, omega arith, tt) (omega arith)
+      ∙ ap (λ (b : Bool). b || false) (ne_eqb (entries_of s i - 1 + j) (entries_of s i - 1 + hidden_index s ch i) (λ e. n (omega arith)))
 
-  leaf-in : (i j : ℕ) → j < entriesOf s i → leafIn s i j < 2 * entriesOf s i - 1
-  unfolding leafIn
+  leaf-in : (i j : ℕ) → j < entries_of s i → leaf_in s i j < 2 * entries_of s i - 1
+  unfolding leaf_in
   leaf-in i j l = omega arith
 
-  key-same : (i j : ℕ) → i < s.tau → j < entriesOf s i → (j ≡ hiddenIndex s ch i → ⊥) → leafKey1 s Again i j ≡ leafKey1 s Trees i j
-  unfolding leafKey1
-  key-same i j h l n = nodes-again P s f root iv ch Lcs lcs-long i (leafIn s i j) h (leaf-in i j l) (leaf-off i j l n)
+  key-same : (i j : ℕ) → i < s.tau → j < entries_of s i → (j ≡ hidden_index s ch i → ⊥) → leaf_key1 s Again i j ≡ leaf_key1 s Trees i j
+  unfolding leaf_key1
+  key-same i j h l n = nodes-again P s f root iv ch Lcs lcs-long i (leaf_in s i j) h (leaf-in i j l) (leaf-off i j l n)
 
-  commitment-same : (i j : ℕ) → i < s.tau → j < entriesOf s i → verifierLeafCommitment1 P s iv ch Op Again i j ≡ Own i j
-  unfolding signerLeafCommitment1 verifierLeafCommitment1 leafCommitmentAt1
-  commitment-same i j h l = go (ℕ_discrete j (hiddenIndex s ch i))
+  commitment-same : (i j : ℕ) → i < s.tau → j < entries_of s i → verifier_leaf_commitment1 P s iv ch Op Again i j ≡ Own i j
+  unfolding signer_leaf_commitment1 verifier_leaf_commitment1 leaf_commitment_at1
+  commitment-same i j h l = go (ℕ_discrete j (hidden_index s ch i))
     where
-      go : Dec (j ≡ hiddenIndex s ch i) → cond (eqb j (hiddenIndex s ch i)) (hiddenLeafCommitment1 s Op i) (leafCommitment1 P s iv (leafKey1 s Again i j)) ≡ leafCommitment1 P s iv (leafKey1 s Trees i j)
+      go : Dec (j ≡ hidden_index s ch i) → cond (eqb j (hidden_index s ch i)) (hidden_leaf_commitment1 s Op i) (leaf_commitment1 P s iv (leaf_key1 s Again i j)) ≡ leaf_commitment1 P s iv (leaf_key1 s Trees i j)
       go (yes e) =
-          ap (λ (b : Bool). cond b (hiddenLeafCommitment1 s Op i) (leafCommitment1 P s iv (leafKey1 s Again i j))) (eq-eqb j (hiddenIndex s ch i) e)
+          ap (λ (b : Bool). cond b (hidden_leaf_commitment1 s Op i) (leaf_commitment1 P s iv (leaf_key1 s Again i j))) (eq-eqb j (hidden_index s ch i) e)
           ∙ hidden-is s f ch Trees Lcs (trees-long P s f root iv ch Lcs lcs-long) lcs-long i h
-          ∙ entries_at s f (leafCommitmentBytes1 s) Own own-long i (hiddenIndex s ch i) h (hidden-index-lt s ch i)
+          ∙ entries_at s f (leaf_commitment_bytes1 s) Own own-long i (hidden_index s ch i) h (hidden-index-lt s ch i)
           ∙ ap (Own i) (sym e)
       go (no n) =
-          ap (λ (b : Bool). cond b (hiddenLeafCommitment1 s Op i) (leafCommitment1 P s iv (leafKey1 s Again i j))) (ne_eqb j (hiddenIndex s ch i) n)
-          ∙ ap (leafCommitment1 P s iv) (key-same i j h l n)
+          ap (λ (b : Bool). cond b (hidden_leaf_commitment1 s Op i) (leaf_commitment1 P s iv (leaf_key1 s Again i j))) (ne_eqb j (hidden_index s ch i) n)
+          ∙ ap (leaf_commitment1 P s iv) (key-same i j h l n)
 
-  vector-same : (i : ℕ) → i < s.tau → vectorCommitments s (verifierLeafCommitment1 P s iv ch Op Again) i ≡ vectorCommitments s Own i
-  unfolding vectorCommitments
-  vector-same i h = concat-same (verifierLeafCommitment1 P s iv ch Op Again i) (Own i) (entriesOf s i) (λ j l. commitment-same i j h l)
+  vector-same : (i : ℕ) → i < s.tau → vector_commitments s (verifier_leaf_commitment1 P s iv ch Op Again) i ≡ vector_commitments s Own i
+  unfolding vector_commitments
+  vector-same i h = concat-same (verifier_leaf_commitment1 P s iv ch Op Again i) (Own i) (entries_of s i) (λ j l. commitment-same i j h l)
 
-  pub commitments-same : leafCommitments s (verifierLeafCommitment1 P s iv ch Op Again) ≡ Lcs
-  unfolding leafCommitments
-  commitments-same = concat-same (vectorCommitments s (verifierLeafCommitment1 P s iv ch Op Again)) (vectorCommitments s Own) s.tau vector-same
+  pub commitments-same : leaf_commitments s (verifier_leaf_commitment1 P s iv ch Op Again) ≡ Lcs
+  unfolding leaf_commitments
+  commitments-same = concat-same (vector_commitments s (verifier_leaf_commitment1 P s iv ch Op Again)) (vector_commitments s Own) s.tau vector-same
 
-  pub hash-same : commitmentOf P s (verifierLeafCommitment1 P s iv ch Op Again) ≡ commitmentOf P s Own
-  unfolding commitmentOf vectorHash
+  pub hash-same : commitment_of P s (verifier_leaf_commitment1 P s iv ch Op Again) ≡ commitment_of P s Own
+  unfolding commitment_of vector_hash
   hash-same =
-      ap (P.h1 s) (concat-same (λ i. P.h1 s (vectorCommitments s (verifierLeafCommitment1 P s iv ch Op Again) i)) (λ i. P.h1 s (vectorCommitments s Own i)) s.tau (λ i h. ap (P.h1 s) (vector-same i h)))
+      ap (P.h1 s) (concat-same (λ i. P.h1 s (vector_commitments s (verifier_leaf_commitment1 P s iv ch Op Again) i)) (λ i. P.h1 s (vector_commitments s Own i)) s.tau (λ i h. ap (P.h1 s) (vector-same i h)))
 
-  pub row_same : (i e p : ℕ) → i < s.tau → e < entriesOf s i → (e ≡ hiddenIndex s ch i → ⊥) → row1Byte P s iv Again i e p ≡ row1Byte P s iv Trees i e p
-  unfolding row1Byte
-  row_same i e p h l n = ap (λ (k : List ℕ). P.prgByte s (leafSeed1 P s iv k) iv 0 p) (key-same i e h l n)
+  pub row_same : (i e p : ℕ) → i < s.tau → e < entries_of s i → (e ≡ hidden_index s ch i → ⊥) → row1_byte P s iv Again i e p ≡ row1_byte P s iv Trees i e p
+  unfolding row1_byte
+  row_same i e p h l n = ap (λ (k : List ℕ). P.prg_byte s (leaf_seed1 P s iv k) iv 0 p) (key-same i e h l n)

@@ -5,18 +5,18 @@ use Rattle.spec.specs.declared.Shape.{Shape}
 use Rattle.spec.specs.declared.Stretch.{Stretch}
 use Rattle.spec.specs.declared.Answer.{Answer}
 use Rattle.spec.specs.Bytes.{part, number, digits}
-use Rattle.spec.specs.Shapes.{resolved, shapeOk, hiddenIndex, hiddenIndices, planned, plannedCount}
+use Rattle.spec.specs.Shapes.{resolved, shape_ok, hidden_index, hidden_indices, planned, planned_count}
 use Rattle.spec.specs.Primitives.{Primitives}
 use Rattle.spec.specs.Calls.{Decode, Plan, Committed, Commit, CommitStretch, Open, Reconstructed, Reconstruct, ReconstructStretch}
 use Rattle.spec.specs.Version1Calls.{Commit1, Open1, Reconstruct1}
 use Rattle.spec.specs.Version1HostCalls.{HostCommit1, HostOpen1, HostReconstruct1}
-use Rattle.spec.specs.HostCalls.{word_bytes, countSlice, HostDecode, HostPlan, HostCommit, HostCommitStretch, HostOpen, HostReconstruct, HostReconstructStretch}
+use Rattle.spec.specs.HostCalls.{word_bytes, count_slice, HostDecode, HostPlan, HostCommit, HostCommitStretch, HostOpen, HostReconstruct, HostReconstructStretch}
 
 -- the exported call returns n and leaves `buffers` and count'; the call beneath answers r and leaves `beneath`
 pub record SameAnswer {A : Type 0} (r : Answer) (beneath : A) (n : ℕ) (buffers : A) (count count' : List ℕ) : Type 0 where
   pub number : n ≡ r.number
   pub bytes : buffers ≡ beneath
-  pub counted : count' ≡ countSlice r.number r.count count
+  pub counted : count' ≡ count_slice r.number r.count count
 
 -- xs are the numbers of the list's slice
 pub record ExportedCalls (P : Primitives) : Type 0 where
@@ -90,9 +90,9 @@ EveryList = (bytes : List ℕ) (m : ℕ) → ((i : ℕ) → get_or bytes i 0 < 2
 
 -- the four bytes of an index, of a node and of a count, read as a number: nothing of them is cut off
 pub record Readable (s : Shape) (ch : List ℕ) : Type 0 where
-  pub indices : (i : ℕ) → i < (resolved s).tau → number 8 (part (word_bytes (hiddenIndices (resolved s) ch)) (4 * i) 4) ≡ hiddenIndex (resolved s) ch i
-  pub nodes : (i : ℕ) → i < plannedCount (resolved s) ch → number 8 (part (word_bytes (planned (resolved s) ch)) (4 * i) 4) ≡ get_or (planned (resolved s) ch) i 0
-  pub count : number 8 (digits 8 4 (plannedCount (resolved s) ch)) ≡ plannedCount (resolved s) ch
+  pub indices : (i : ℕ) → i < (resolved s).tau → number 8 (part (word_bytes (hidden_indices (resolved s) ch)) (4 * i) 4) ≡ hidden_index (resolved s) ch i
+  pub nodes : (i : ℕ) → i < planned_count (resolved s) ch → number 8 (part (word_bytes (planned (resolved s) ch)) (4 * i) 4) ≡ get_or (planned (resolved s) ch) i 0
+  pub count : number 8 (digits 8 4 (planned_count (resolved s) ch)) ≡ planned_count (resolved s) ch
 
 abbrev pub EveryReadable : Type 0
-EveryReadable = (s : Shape) (ch : List ℕ) → shapeOk (resolved s) ≡ true → Readable s ch
+EveryReadable = (s : Shape) (ch : List ℕ) → shape_ok (resolved s) ≡ true → Readable s ch

@@ -2,13 +2,13 @@
 -- ../proofs/OneIndex.antt prove them.
 use Rattle.std.specs.Prelude.{ℕ, ◌+◌, ◌-◌, ◌*◌, ◌^◌, ◌≤◌, ◌<◌, ◌≡◌, true, not, List, eqb, length, get_or}
 use Rattle.spec.specs.declared.Shape.{Shape}
-use Rattle.spec.specs.Tree.{isAncestor, some, revealed}
-use Rattle.spec.specs.Shapes.{resolved, shapeOk, leaves, hiddenIndex, hiddenLeaves, planned, plannedCount}
+use Rattle.spec.specs.Tree.{is_ancestor, some, revealed}
+use Rattle.spec.specs.Shapes.{resolved, shape_ok, leaves, hidden_index, hidden_leaves, planned, planned_count}
 use Rattle.planning_laws.specs.Lists.{Leaves, WithoutDuplicates}
 
 -- leaf y is beneath one of the nodes, a leaf being beneath itself, exactly if it is not hidden
 abbrev pub RevealedAt : List ℕ → List ℕ → ℕ → Type 0
-RevealedAt hidden nodes y = some (λ a. isAncestor a y) nodes ≡ not (some (eqb y) hidden)
+RevealedAt hidden nodes y = some (λ a. is_ancestor a y) nodes ≡ not (some (eqb y) hidden)
 
 -- the leaves beneath the nodes are together exactly the leaves of the tree with L leaves that are not hidden
 abbrev pub Reveals : ℕ → List ℕ → List ℕ → Type 0
@@ -27,8 +27,8 @@ pub record NoSmallerOpening : Type 0 where
   pub of-leaves : (L : ℕ) (hidden : List ℕ) → Leaves L hidden → 1 ≤ length hidden → Fewest L hidden (revealed L hidden)
   pub of-challenge :
       (s : Shape) (ch : List ℕ)
-      → shapeOk (resolved s) ≡ true
-      → Fewest (leaves (resolved s)) (hiddenLeaves (resolved s) ch) (planned (resolved s) ch)
+      → shape_ok (resolved s) ≡ true
+      → Fewest (leaves (resolved s)) (hidden_leaves (resolved s) ch) (planned (resolved s) ch)
 
 -- D is the least number with 2^D at or above L
 pub record LeastPower (L D : ℕ) : Type 0 where
@@ -43,9 +43,9 @@ Within d m n = (m ≤ n + d) × (n ≤ m + d)
 pub record OneIndexMoves : Type 0 where
   pub moves :
       (s : Shape) (ch ch' : List ℕ) (v D : ℕ)
-      → shapeOk (resolved s) ≡ true
+      → shape_ok (resolved s) ≡ true
       → v < (resolved s).tau
-      → ((i : ℕ) → i < (resolved s).tau → (i ≡ v → ⊥) → hiddenIndex (resolved s) ch i ≡ hiddenIndex (resolved s) ch' i)
+      → ((i : ℕ) → i < (resolved s).tau → (i ≡ v → ⊥) → hidden_index (resolved s) ch i ≡ hidden_index (resolved s) ch' i)
       → LeastPower (leaves (resolved s)) D
-      → Within (D - 1) (plannedCount (resolved s) ch) (plannedCount (resolved s) ch')
+      → Within (D - 1) (planned_count (resolved s) ch) (planned_count (resolved s) ch')
   pub least-power : (L : ℕ) → (D : ℕ) × LeastPower L D

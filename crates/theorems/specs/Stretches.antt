@@ -17,7 +17,7 @@ Cut n b z whole cut = (c : ℕ) → c < n → part cut (z.width * c) z.width ≡
 pub record SignerCut (s : Shape) (b : ℕ) (z : Stretch) (whole cut : Committed) : Type 0 where
   pub commitment : cut.commitment ≡ whole.commitment
   pub tree : cut.tree ≡ whole.tree
-  pub leafCommitments : cut.leafCommitments ≡ whole.leafCommitments
+  pub leaf_commitments : cut.leaf_commitments ≡ whole.leaf_commitments
   pub u : Cut 1 b z whole.u cut.u
   pub v : Cut (level s) b z whole.v cut.v
   pub corrections : Cut (s.tau - 1) b z whole.corrections cut.corrections
@@ -26,7 +26,7 @@ pub record SignerCut (s : Shape) (b : ℕ) (z : Stretch) (whole cut : Committed)
 pub record VerifierCut (s : Shape) (b : ℕ) (z : Stretch) (whole cut : Reconstructed) : Type 0 where
   pub commitment : cut.commitment ≡ whole.commitment
   pub tree : cut.tree ≡ whole.tree
-  pub leafCommitments : cut.leafCommitments ≡ whole.leafCommitments
+  pub leaf_commitments : cut.leaf_commitments ≡ whole.leaf_commitments
   pub q : Cut (level s) b z whole.q cut.q
 
 -- the calls answer 0. reconstruct_stretch is lent the corrections cut likewise

@@ -4,11 +4,11 @@ use Rattle.std.specs.Prelude.{ℕ, ◌+◌, ◌-◌, ◌*◌, ◌/◌, ◌<◌, 
 use Rattle.spec.specs.declared.Shape.{Shape}
 use Rattle.spec.specs.declared.Answer.{Answer}
 use Rattle.spec.specs.Bytes.{zeros}
-use Rattle.spec.specs.Shapes.{level, nodeBytes, challengeBytes, hashBytes, depth_of, entriesOf, hiddenIndex, matrixBytes}
+use Rattle.spec.specs.Shapes.{level, node_bytes, challenge_bytes, hash_bytes, depth_of, entries_of, hidden_index, matrix_bytes}
 use Rattle.spec.specs.Primitives.{Primitives}
-use Rattle.spec.specs.Leaves.{nodeAt}
+use Rattle.spec.specs.Leaves.{node_at}
 use Rattle.spec.specs.Calls.{Committed, Reconstructed}
-use Rattle.spec.specs.Version1.{firstNode, siblings, leafCommitmentAt1, opening1Of, on_path, trees1Bytes, leafCommitments1Bytes, opening1Bytes}
+use Rattle.spec.specs.Version1.{first_node, siblings, leaf_commitment_at1, opening1_of, on_path, trees1_bytes, leaf_commitments1_bytes, opening1_bytes}
 use Rattle.spec.specs.Version1Calls.{Commit1, Open1, Reconstruct1}
 use Rattle.laws.specs.Lengths.{Sized}
 use Rattle.theorems.specs.Demands.{ColumnRule}
@@ -17,13 +17,13 @@ use Rattle.theorems.specs.Demands.{ColumnRule}
 pub record Accepted1 (s : Shape) (b : ℕ) (ch : List ℕ) (signer : Committed) (opening : List ℕ) (verifier : Reconstructed) (opened checked : Answer) : Type 0 where
   pub open-number : opened.number ≡ 0
   pub open-count : opened.count ≡ 0
-  pub open-bytes : opening ≡ opening1Of s ch signer.tree signer.leafCommitments
+  pub open-bytes : opening ≡ opening1_of s ch signer.tree signer.leaf_commitments
   pub check-number : checked.number ≡ 0
   pub check-count : checked.count ≡ 0
   pub commitment : verifier.commitment ≡ signer.commitment
-  pub leafCommitments : verifier.leafCommitments ≡ signer.leafCommitments
-  pub nodes : (i a : ℕ) → i < s.tau → a < 2 * entriesOf s i - 1 → on_path s ch i a ≡ false → nodeAt s verifier.tree (firstNode s i + a) ≡ nodeAt s signer.tree (firstNode s i + a)
-  pub hidden : (i a : ℕ) → i < s.tau → a < 2 * entriesOf s i - 1 → on_path s ch i a ≡ true → nodeAt s verifier.tree (firstNode s i + a) ≡ zeros (nodeBytes s)
+  pub leaf_commitments : verifier.leaf_commitments ≡ signer.leaf_commitments
+  pub nodes : (i a : ℕ) → i < s.tau → a < 2 * entries_of s i - 1 → on_path s ch i a ≡ false → node_at s verifier.tree (first_node s i + a) ≡ node_at s signer.tree (first_node s i + a)
+  pub hidden : (i a : ℕ) → i < s.tau → a < 2 * entries_of s i - 1 → on_path s ch i a ≡ true → node_at s verifier.tree (first_node s i + a) ≡ zeros (node_bytes s)
   pub columns : ColumnRule (level s) b ch signer.u signer.v verifier.q
 
 -- a leaf commitment is a part of H0's output, so its length is that of the part only if H0 gives what it is asked for
@@ -37,15 +37,15 @@ pub record Version1Demand3 (P : Primitives) : Type 0 where
       → (s : Shape) (n : ℕ) (root iv ch opening opening' : List ℕ) (signer signer' : Committed) (verifier verifier' : Reconstructed) (made opened checked : Answer)
       → Commit1 P s n root iv signer signer' made
       → made.number ≡ 0
-      → Open1 s ch signer'.tree signer'.leafCommitments opening opening' opened
+      → Open1 s ch signer'.tree signer'.leaf_commitments opening opening' opened
       → Reconstruct1 P s n iv ch signer'.corrections opening' verifier verifier' checked
       → Sized
-      ((length ch, challengeBytes s)
-      ∷ (length opening, opening1Bytes s)
-      ∷ (length verifier.commitment, hashBytes s)
-      ∷ (length verifier.tree, trees1Bytes s)
-      ∷ (length verifier.leafCommitments, leafCommitments1Bytes s)
-      ∷ (length verifier.q, matrixBytes s (n / 8))
+      ((length ch, challenge_bytes s)
+      ∷ (length opening, opening1_bytes s)
+      ∷ (length verifier.commitment, hash_bytes s)
+      ∷ (length verifier.tree, trees1_bytes s)
+      ∷ (length verifier.leaf_commitments, leaf_commitments1_bytes s)
+      ∷ (length verifier.q, matrix_bytes s (n / 8))
       ∷ [])
       → Accepted1 s (n / 8) ch signer' opening' verifier' opened checked
 
@@ -69,8 +69,8 @@ pub record Alike1 (s : Shape) (ch trees lcs trees₂ lcs₂ opening opening₂ :
   pub count : r.count ≡ r₂.count
   pub bytes :
       r.number ≡ 0
-      → ((i l : ℕ) → i < s.tau → l < depth_of s i → nodeAt s trees (firstNode s i + get_or (siblings s ch i) l 0) ≡ nodeAt s trees₂ (firstNode s i + get_or (siblings s ch i) l 0))
-      → ((i : ℕ) → i < s.tau → leafCommitmentAt1 s lcs i (hiddenIndex s ch i) ≡ leafCommitmentAt1 s lcs₂ i (hiddenIndex s ch i))
+      → ((i l : ℕ) → i < s.tau → l < depth_of s i → node_at s trees (first_node s i + get_or (siblings s ch i) l 0) ≡ node_at s trees₂ (first_node s i + get_or (siblings s ch i) l 0))
+      → ((i : ℕ) → i < s.tau → leaf_commitment_at1 s lcs i (hidden_index s ch i) ≡ leaf_commitment_at1 s lcs₂ i (hidden_index s ch i))
       → opening ≡ opening₂
 
 -- two signers that agree on shape, challenge and buffer lengths get the same number and count; with answer 0, if they agree on the siblings of the paths and the hidden leaf commitments too, they get the

@@ -1,11 +1,13 @@
 // One step of the tree of document 000, figure 5.4: a node is the generator's key of its two children. Both halves use it.
+#![tactic(auto)]
+
 ghost use Rattle.std.specs.Prelude.{◌≡◌, true, ◌++◌, ◌+◌, ◌*◌, ◌%◌, ◌^◌, ◌≤◌, ◌<◌, length, take, drop};
 ghost use Rattle.spec.specs.declared.Shape.{Shape};
 ghost use Rattle.spec.specs.Bytes.{part};
 ghost use Rattle.spec.specs.Gf256.{SboxTable};
-ghost use Rattle.spec.specs.Shapes.{nodeBytes, shapeOk};
+ghost use Rattle.spec.specs.Shapes.{node_bytes, shape_ok};
 ghost use Rattle.spec.specs.Leaves.{children};
-ghost use Rattle.job.specs.Versions.{primitivesOf};
+ghost use Rattle.job.specs.Versions.{primitives_of};
 
 use job::{Nonce, Version};
 
@@ -20,8 +22,8 @@ pub fn expand_node(
 )
     requires sbox_table { SboxTable t.now }
     requires le_n { (16 ≤ n) × (n ≤ 32) × (n % 8 ≡ 0) × (n * (2 * a + 3) ≤ length tree.old) × (length tree.old < 2 ^ 32) }
-    ensures { (s : Shape) → shapeOk s ≡ true → n ≡ nodeBytes s
-        → tree.new ≡ take (n * (2 * a + 1)) tree.old ++ (children (primitivesOf version) s iv a (part tree.old (n * a) n) ++ drop (n * (2 * a + 3)) tree.old) }
+    ensures { (s : Shape) → shape_ok s ≡ true → n ≡ node_bytes s
+        → tree.new ≡ take (n * (2 * a + 1)) tree.old ++ (children (primitives_of version) s iv a (part tree.old (n * a) n) ++ drop (n * (2 * a + 3)) tree.old) }
 {
     let from = n * (2 * a + 1);
     let keys = aes::key_schedule(t, &tree[n * a..n * a + n]);

@@ -10,7 +10,7 @@ use Rattle.theorems.proofs.Version1.{version1-demand3, whole-hash}
 use Rattle.v1_round_trip.specs.RoundTrip.{RoundTrip1}
 
 pub claim : (s : Shape) (n : ℕ) (root iv ch opening opening' : List ℕ) (signer signer' : Committed) (verifier verifier' : Reconstructed) (made opened checked : Answer)
-    → Commit1 faest1 s n root iv signer signer' made → Open1 s ch signer'.tree signer'.leafCommitments opening opening' opened
+    → Commit1 faest1 s n root iv signer signer' made → Open1 s ch signer'.tree signer'.leaf_commitments opening opening' opened
     → Reconstruct1 faest1 s n iv ch signer'.corrections opening' verifier verifier' checked
     → RoundTrip1 s n root iv ch signer signer' opening opening' verifier verifier' made opened checked
 claim s n root iv ch opening opening' signer signer' verifier verifier' made opened checked c o r =

@@ -2,26 +2,26 @@
 use Rattle.std.specs.Prelude.{ℕ, ◌/◌, ◌≡◌, List, [], ◌∷◌, length}
 use Rattle.spec.specs.declared.Shape.{Shape}
 use Rattle.spec.specs.declared.Answer.{Answer}
-use Rattle.spec.specs.Shapes.{challengeBytes, hashBytes, matrixBytes}
+use Rattle.spec.specs.Shapes.{challenge_bytes, hash_bytes, matrix_bytes}
 use Rattle.spec.specs.Calls.{Committed, Reconstructed}
-use Rattle.spec.specs.Version1.{faest1, trees1Bytes, leafCommitments1Bytes, opening1Bytes}
+use Rattle.spec.specs.Version1.{faest1, trees1_bytes, leaf_commitments1_bytes, opening1_bytes}
 use Rattle.spec.specs.Version1Calls.{Commit1, Open1, Reconstruct1}
 use Rattle.laws.specs.Lengths.{Sized}
 use Rattle.theorems.specs.Version1Demands.{Accepted1}
 
 pub record RoundTrip1 (s : Shape) (n : ℕ) (root iv ch : List ℕ) (signer signer' : Committed) (opening opening' : List ℕ) (verifier verifier' : Reconstructed) (made opened checked : Answer) : Type 0 where
   pub commits : Commit1 faest1 s n root iv signer signer' made
-  pub opens : Open1 s ch signer'.tree signer'.leafCommitments opening opening' opened
+  pub opens : Open1 s ch signer'.tree signer'.leaf_commitments opening opening' opened
   pub checks : Reconstruct1 faest1 s n iv ch signer'.corrections opening' verifier verifier' checked
   -- the opening is made and accepted
   pub accepted :
       made.number ≡ 0
       → Sized
-      ((length ch, challengeBytes s)
-      ∷ (length opening, opening1Bytes s)
-      ∷ (length verifier.commitment, hashBytes s)
-      ∷ (length verifier.tree, trees1Bytes s)
-      ∷ (length verifier.leafCommitments, leafCommitments1Bytes s)
-      ∷ (length verifier.q, matrixBytes s (n / 8))
+      ((length ch, challenge_bytes s)
+      ∷ (length opening, opening1_bytes s)
+      ∷ (length verifier.commitment, hash_bytes s)
+      ∷ (length verifier.tree, trees1_bytes s)
+      ∷ (length verifier.leaf_commitments, leaf_commitments1_bytes s)
+      ∷ (length verifier.q, matrix_bytes s (n / 8))
       ∷ [])
       → Accepted1 s (n / 8) ch signer' opening' verifier' opened checked

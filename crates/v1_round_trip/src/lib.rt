@@ -1,10 +1,12 @@
 // Demand 3 of version 1 over its three calls: commit, open and reconstruct, made one after another on lent buffers, each lent what the calls before it wrote.
+#![tactic(auto)]
+
 ghost use Rattle.v1_round_trip.specs.RoundTrip.{RoundTrip1};
 
 use spec::{Answer, Shape};
 
 // The answers of the three calls.
-#[derive(Drop)]
+#[derive(Clone, Copy)]
 pub struct Answers {
     pub made: Answer,
     pub opened: Answer,
@@ -31,11 +33,11 @@ pub fn round_trip(
     q: &mut [u8],
 ) -> Answers
     ensures { RoundTrip1 shape row_bits root.now iv.now challenge.now
-        (record { commitment = commitment.entry.now; tree = trees.old; leafCommitments = leaf_commitments.old; u = u.old; v = v.old; corrections = corrections.old })
-        (record { commitment = commitment.exit.now; tree = trees.new; leafCommitments = leaf_commitments.new; u = u.new; v = v.new; corrections = corrections.new })
+        (record { commitment = commitment.entry.now; tree = trees.old; leaf_commitments = leaf_commitments.old; u = u.old; v = v.old; corrections = corrections.old })
+        (record { commitment = commitment.exit.now; tree = trees.new; leaf_commitments = leaf_commitments.new; u = u.new; v = v.new; corrections = corrections.new })
         opening.old opening.new
-        (record { commitment = commitment2.old; tree = trees2.old; leafCommitments = leaf_commitments2.old; q = q.old })
-        (record { commitment = commitment2.new; tree = trees2.new; leafCommitments = leaf_commitments2.new; q = q.new })
+        (record { commitment = commitment2.old; tree = trees2.old; leaf_commitments = leaf_commitments2.old; q = q.old })
+        (record { commitment = commitment2.new; tree = trees2.new; leaf_commitments = leaf_commitments2.new; q = q.new })
         result.made result.opened result.checked }
 {
     let made = v1_signer::commit(

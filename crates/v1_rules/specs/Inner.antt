@@ -4,11 +4,11 @@ use Rattle.spec.specs.declared.Shape.{Shape}
 use Rattle.job.specs.declared.Version.TheVariants.{One}
 use Rattle.job.specs.declared.Job.{Job}
 
-abbrev pub withKind : ℕ → Shape → Shape
-withKind k s = record { tau = s.tau; k = s.k; w = s.w; t = s.t; level = s.level; kind = k }
+abbrev pub with_kind : ℕ → Shape → Shape
+with_kind k s = record { tau = s.tau; k = s.k; w = s.w; t = s.t; level = s.level; kind = k }
 
 abbrev pub inner : Shape → Shape
-inner s = withKind 1 s
+inner s = with_kind 1 s
 
 -- rows of b bytes, whole
 abbrev pub job_of : Shape → ℕ → List ℕ → Job

@@ -1,18 +1,20 @@
 // The signing half of version 1 (document 02, E12): its public calls commit and open.
+#![tactic(auto)]
+
 ghost use Rattle.std.specs.Prelude.{◌≡◌, true, List, [], ◌∷◌, ◌*◌, ◌/◌, ◌≤◌, length};
-ghost use Rattle.spec.specs.Shapes.{nodeBytes, challengeBytes, hashBytes, ivBytes, shapeOk, matrixBytes, correctionsBytes};
+ghost use Rattle.spec.specs.Shapes.{node_bytes, challenge_bytes, hash_bytes, iv_bytes, shape_ok, matrix_bytes, corrections_bytes};
 ghost use Rattle.spec.specs.Calls.{fits, Committed};
-ghost use Rattle.spec.specs.Version1.{faest1, shape1Ok, leafCommitmentBytes1, trees1Bytes, leafCommitments1Bytes, opening1Bytes};
-ghost use Rattle.spec.specs.Version1Calls.{row1Number, open1Number, committed1, Commit1, Open1};
+ghost use Rattle.spec.specs.Version1.{faest1, shape1_ok, leaf_commitment_bytes1, trees1_bytes, leaf_commitments1_bytes, opening1_bytes};
+ghost use Rattle.spec.specs.Version1Calls.{row1_number, open1_number, committed1, Commit1, Open1};
 
 use refusals::{CommitLengths, OpenLengths};
 use spec::{Answer, Shape};
 
 // Whether the buffers of commit have their lengths, for rows of b bytes.
 fn commit_fits(s: Shape, b: usize, x: CommitLengths) -> bool
-    requires { (shapeOk s ≡ true) × (b ≤ 8192) }
-    ensures { result ≡ fits ((x.root, nodeBytes s) ∷ (x.iv, ivBytes) ∷ (x.commitment, hashBytes s) ∷ (x.tree, trees1Bytes s) ∷ (x.leaf_commitments, leafCommitments1Bytes s)
-        ∷ (x.u, b) ∷ (x.v, matrixBytes s b) ∷ (x.corrections, correctionsBytes s b) ∷ []) }
+    requires { (shape_ok s ≡ true) × (b ≤ 8192) }
+    ensures { result ≡ fits ((x.root, node_bytes s) ∷ (x.iv, iv_bytes) ∷ (x.commitment, hash_bytes s) ∷ (x.tree, trees1_bytes s) ∷ (x.leaf_commitments, leaf_commitments1_bytes s)
+        ∷ (x.u, b) ∷ (x.v, matrix_bytes s b) ∷ (x.corrections, corrections_bytes s b) ∷ []) }
 {
     let node = rules::node_bytes(s);
     let hash = rules::hash_bytes(s);
@@ -30,8 +32,8 @@ fn commit_fits(s: Shape, b: usize, x: CommitLengths) -> bool
 
 // The number of commit, by its tests in their order: 1, 2, 3, or 0.
 fn commit_number(s: Shape, row_bits: usize, x: CommitLengths) -> usize
-    ensures { result ≡ row1Number s row_bits ((x.root, nodeBytes s) ∷ (x.iv, ivBytes) ∷ (x.commitment, hashBytes s) ∷ (x.tree, trees1Bytes s) ∷ (x.leaf_commitments, leafCommitments1Bytes s)
-        ∷ (x.u, row_bits / 8) ∷ (x.v, matrixBytes s (row_bits / 8)) ∷ (x.corrections, correctionsBytes s (row_bits / 8)) ∷ []) }
+    ensures { result ≡ row1_number s row_bits ((x.root, node_bytes s) ∷ (x.iv, iv_bytes) ∷ (x.commitment, hash_bytes s) ∷ (x.tree, trees1_bytes s) ∷ (x.leaf_commitments, leaf_commitments1_bytes s)
+        ∷ (x.u, row_bits / 8) ∷ (x.v, matrix_bytes s (row_bits / 8)) ∷ (x.corrections, corrections_bytes s (row_bits / 8)) ∷ []) }
 {
     let front = v1_rules::front_number(s, row_bits);
     if front != 0 {
@@ -56,9 +58,9 @@ fn write_all(
     v: &mut [u8],
     corrections: &mut [u8],
 )
-    requires s_value { (shape1Ok s ≡ true) × (b ≤ 8192) × (length root.now ≡ nodeBytes s) × (length iv.now ≡ ivBytes) × (length keys.now ≡ leafCommitmentBytes1 s * s.tau) × (length hashes.old ≡ hashBytes s * s.tau) }
-    requires commitment_len { (length commitment.old ≡ hashBytes s) × (length trees.old ≡ trees1Bytes s) × (length lcs.old ≡ leafCommitments1Bytes s) × (length u.old ≡ b) × (length v.old ≡ matrixBytes s b) × (length corrections.old ≡ correctionsBytes s b) }
-    ensures { ◌≡◌ {A = Committed} (record { commitment = commitment.exit.now; tree = trees.new; leafCommitments = lcs.new; u = u.new; v = v.new; corrections = corrections.new })
+    requires s_value { (shape1_ok s ≡ true) × (b ≤ 8192) × (length root.now ≡ node_bytes s) × (length iv.now ≡ iv_bytes) × (length keys.now ≡ leaf_commitment_bytes1 s * s.tau) × (length hashes.old ≡ hash_bytes s * s.tau) }
+    requires commitment_len { (length commitment.old ≡ hash_bytes s) × (length trees.old ≡ trees1_bytes s) × (length lcs.old ≡ leaf_commitments1_bytes s) × (length u.old ≡ b) × (length v.old ≡ matrix_bytes s b) × (length corrections.old ≡ corrections_bytes s b) }
+    ensures { ◌≡◌ {A = Committed} (record { commitment = commitment.exit.now; tree = trees.new; leaf_commitments = lcs.new; u = u.new; v = v.new; corrections = corrections.new })
         (committed1 faest1 s b root.now iv.now) }
 {
     let r = rules::rate_bytes(s);
@@ -83,9 +85,9 @@ fn write_commitment(
     v: &mut [u8],
     corrections: &mut [u8],
 )
-    requires s_value { (shape1Ok s ≡ true) × (b ≤ 8192) × (length root.now ≡ nodeBytes s) × (length iv.now ≡ ivBytes) }
-    requires commitment_len { (length commitment.old ≡ hashBytes s) × (length trees.old ≡ trees1Bytes s) × (length lcs.old ≡ leafCommitments1Bytes s) × (length u.old ≡ b) × (length v.old ≡ matrixBytes s b) × (length corrections.old ≡ correctionsBytes s b) }
-    ensures { ◌≡◌ {A = Committed} (record { commitment = commitment.exit.now; tree = trees.new; leafCommitments = lcs.new; u = u.new; v = v.new; corrections = corrections.new })
+    requires s_value { (shape1_ok s ≡ true) × (b ≤ 8192) × (length root.now ≡ node_bytes s) × (length iv.now ≡ iv_bytes) }
+    requires commitment_len { (length commitment.old ≡ hash_bytes s) × (length trees.old ≡ trees1_bytes s) × (length lcs.old ≡ leaf_commitments1_bytes s) × (length u.old ≡ b) × (length v.old ≡ matrix_bytes s b) × (length corrections.old ≡ corrections_bytes s b) }
+    ensures { ◌≡◌ {A = Committed} (record { commitment = commitment.exit.now; tree = trees.new; leaf_commitments = lcs.new; u = u.new; v = v.new; corrections = corrections.new })
         (committed1 faest1 s b root.now iv.now) }
 {
     let n = rules::hash_bytes(s) * s.tau;
@@ -121,8 +123,8 @@ pub fn commit(
     corrections: &mut [u8],
 ) -> Answer
     ensures { Commit1 faest1 shape row_bits root.now iv.now
-        (record { commitment = commitment.entry.now; tree = trees.old; leafCommitments = leaf_commitments.old; u = u.old; v = v.old; corrections = corrections.old })
-        (record { commitment = commitment.exit.now; tree = trees.new; leafCommitments = leaf_commitments.new; u = u.new; v = v.new; corrections = corrections.new })
+        (record { commitment = commitment.entry.now; tree = trees.old; leaf_commitments = leaf_commitments.old; u = u.old; v = v.old; corrections = corrections.old })
+        (record { commitment = commitment.exit.now; tree = trees.new; leaf_commitments = leaf_commitments.new; u = u.new; v = v.new; corrections = corrections.new })
         result }
 {
     let x = CommitLengths {
@@ -156,8 +158,8 @@ pub fn commit(
 
 // Whether the buffers of open have their lengths.
 fn open_fits(s: Shape, x: OpenLengths) -> bool
-    requires { shapeOk s ≡ true }
-    ensures { result ≡ fits ((x.challenge, challengeBytes s) ∷ (x.tree, trees1Bytes s) ∷ (x.leaf_commitments, leafCommitments1Bytes s) ∷ (x.opening, opening1Bytes s) ∷ []) }
+    requires { shape_ok s ≡ true }
+    ensures { result ≡ fits ((x.challenge, challenge_bytes s) ∷ (x.tree, trees1_bytes s) ∷ (x.leaf_commitments, leaf_commitments1_bytes s) ∷ (x.opening, opening1_bytes s) ∷ []) }
 {
     let node = rules::node_bytes(s);
     let trees = v1_rules::trees_bytes(s);
@@ -169,7 +171,7 @@ fn open_fits(s: Shape, x: OpenLengths) -> bool
 
 // The number of open, by its tests in their order: 1, 3, or 0.
 fn open_number(s: Shape, x: OpenLengths) -> usize
-    ensures { result ≡ open1Number s ((x.challenge, challengeBytes s) ∷ (x.tree, trees1Bytes s) ∷ (x.leaf_commitments, leafCommitments1Bytes s) ∷ (x.opening, opening1Bytes s) ∷ []) }
+    ensures { result ≡ open1_number s ((x.challenge, challenge_bytes s) ∷ (x.tree, trees1_bytes s) ∷ (x.leaf_commitments, leaf_commitments1_bytes s) ∷ (x.opening, opening1_bytes s) ∷ []) }
 {
     if !v1_rules::is_shape(s) {
         return refusals::SHAPE;

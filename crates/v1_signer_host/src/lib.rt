@@ -1,4 +1,6 @@
 // The signing half of version 1 for a C host: commit and open on numbers and byte slices.
+#![tactic(auto)]
+
 ghost use Rattle.spec.specs.Version1.{faest1};
 ghost use Rattle.spec.specs.Version1HostCalls.{HostCommit1, HostOpen1};
 
@@ -25,8 +27,8 @@ pub extern "C" fn rachnoel_v1_commit(
     count: &mut [u8],
 ) -> usize
     ensures { HostCommit1 faest1 (record { tau = tau; k = k; w = w; t = t; level = level; kind = kind }) row_bits root.now iv.now
-        (record { commitment = commitment.entry.now; tree = trees.old; leafCommitments = leaf_commitments.old; u = u.old; v = v.old; corrections = corrections.old })
-        (record { commitment = commitment.exit.now; tree = trees.new; leafCommitments = leaf_commitments.new; u = u.new; v = v.new; corrections = corrections.new })
+        (record { commitment = commitment.entry.now; tree = trees.old; leaf_commitments = leaf_commitments.old; u = u.old; v = v.old; corrections = corrections.old })
+        (record { commitment = commitment.exit.now; tree = trees.new; leaf_commitments = leaf_commitments.new; u = u.new; v = v.new; corrections = corrections.new })
         count.old count.new result }
 {
     let n = host_words::passed_on(root.len(), count.len());

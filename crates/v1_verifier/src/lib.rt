@@ -1,18 +1,20 @@
 // The checking half of version 1 (document 02, E12): its public call reconstruct.
+#![tactic(auto)]
+
 ghost use Rattle.std.specs.Prelude.{◌≡◌, true, [], ◌∷◌, ◌*◌, ◌/◌, ◌≤◌, length};
-ghost use Rattle.spec.specs.Shapes.{challengeBytes, hashBytes, ivBytes, shapeOk, matrixBytes, correctionsBytes};
+ghost use Rattle.spec.specs.Shapes.{challenge_bytes, hash_bytes, iv_bytes, shape_ok, matrix_bytes, corrections_bytes};
 ghost use Rattle.spec.specs.Calls.{fits, Reconstructed};
-ghost use Rattle.spec.specs.Version1.{faest1, shape1Ok, leafCommitmentBytes1, trees1Bytes, leafCommitments1Bytes, opening1Bytes};
-ghost use Rattle.spec.specs.Version1Calls.{row1Number, reconstructed1, Reconstruct1};
+ghost use Rattle.spec.specs.Version1.{faest1, shape1_ok, leaf_commitment_bytes1, trees1_bytes, leaf_commitments1_bytes, opening1_bytes};
+ghost use Rattle.spec.specs.Version1Calls.{row1_number, reconstructed1, Reconstruct1};
 
 use refusals::ReconstructLengths;
 use spec::{Answer, Shape};
 
 // Whether the buffers of reconstruct have their lengths, for rows of b bytes.
 fn reconstruct_fits(s: Shape, b: usize, x: ReconstructLengths) -> bool
-    requires { (shapeOk s ≡ true) × (b ≤ 8192) }
-    ensures { result ≡ fits ((x.iv, ivBytes) ∷ (x.challenge, challengeBytes s) ∷ (x.corrections, correctionsBytes s b) ∷ (x.opening, opening1Bytes s) ∷ (x.commitment, hashBytes s)
-        ∷ (x.tree, trees1Bytes s) ∷ (x.leaf_commitments, leafCommitments1Bytes s) ∷ (x.q, matrixBytes s b) ∷ []) }
+    requires { (shape_ok s ≡ true) × (b ≤ 8192) }
+    ensures { result ≡ fits ((x.iv, iv_bytes) ∷ (x.challenge, challenge_bytes s) ∷ (x.corrections, corrections_bytes s b) ∷ (x.opening, opening1_bytes s) ∷ (x.commitment, hash_bytes s)
+        ∷ (x.tree, trees1_bytes s) ∷ (x.leaf_commitments, leaf_commitments1_bytes s) ∷ (x.q, matrix_bytes s b) ∷ []) }
 {
     let node = rules::node_bytes(s);
     let corrections = lengths::corrections_bytes(s, b);
@@ -32,8 +34,8 @@ fn reconstruct_fits(s: Shape, b: usize, x: ReconstructLengths) -> bool
 
 // The number of reconstruct, by its tests in their order: 1, 2, 3, or 0.
 fn reconstruct_number(s: Shape, row_bits: usize, x: ReconstructLengths) -> usize
-    ensures { result ≡ row1Number s row_bits ((x.iv, ivBytes) ∷ (x.challenge, challengeBytes s) ∷ (x.corrections, correctionsBytes s (row_bits / 8)) ∷ (x.opening, opening1Bytes s)
-        ∷ (x.commitment, hashBytes s) ∷ (x.tree, trees1Bytes s) ∷ (x.leaf_commitments, leafCommitments1Bytes s) ∷ (x.q, matrixBytes s (row_bits / 8)) ∷ []) }
+    ensures { result ≡ row1_number s row_bits ((x.iv, iv_bytes) ∷ (x.challenge, challenge_bytes s) ∷ (x.corrections, corrections_bytes s (row_bits / 8)) ∷ (x.opening, opening1_bytes s)
+        ∷ (x.commitment, hash_bytes s) ∷ (x.tree, trees1_bytes s) ∷ (x.leaf_commitments, leaf_commitments1_bytes s) ∷ (x.q, matrix_bytes s (row_bits / 8)) ∷ []) }
 {
     let front = v1_rules::front_number(s, row_bits);
     if front != 0 {
@@ -58,10 +60,10 @@ fn write_all(
     lcs: &mut [u8],
     q: &mut [u8],
 )
-    requires s_value { (shape1Ok s ≡ true) × (b ≤ 8192) × (length keys.now ≡ leafCommitmentBytes1 s * s.tau) × (length hashes.old ≡ hashBytes s * s.tau) }
-    requires iv_len { (length iv.now ≡ ivBytes) × (length ch.now ≡ challengeBytes s) × (length corrections.now ≡ correctionsBytes s b) × (length opening.now ≡ opening1Bytes s) }
-    requires commitment_len { (length commitment.old ≡ hashBytes s) × (length trees.old ≡ trees1Bytes s) × (length lcs.old ≡ leafCommitments1Bytes s) × (length q.old ≡ matrixBytes s b) }
-    ensures { ◌≡◌ {A = Reconstructed} (record { commitment = commitment.exit.now; tree = trees.new; leafCommitments = lcs.new; q = q.new })
+    requires s_value { (shape1_ok s ≡ true) × (b ≤ 8192) × (length keys.now ≡ leaf_commitment_bytes1 s * s.tau) × (length hashes.old ≡ hash_bytes s * s.tau) }
+    requires iv_len { (length iv.now ≡ iv_bytes) × (length ch.now ≡ challenge_bytes s) × (length corrections.now ≡ corrections_bytes s b) × (length opening.now ≡ opening1_bytes s) }
+    requires commitment_len { (length commitment.old ≡ hash_bytes s) × (length trees.old ≡ trees1_bytes s) × (length lcs.old ≡ leaf_commitments1_bytes s) × (length q.old ≡ matrix_bytes s b) }
+    ensures { ◌≡◌ {A = Reconstructed} (record { commitment = commitment.exit.now; tree = trees.new; leaf_commitments = lcs.new; q = q.new })
         (reconstructed1 faest1 s b iv.now ch.now corrections.now opening.now) }
 {
     let r = rules::rate_bytes(s);
@@ -87,10 +89,10 @@ fn write_reconstruction(
     lcs: &mut [u8],
     q: &mut [u8],
 )
-    requires s_value { (shape1Ok s ≡ true) × (b ≤ 8192) }
-    requires iv_len { (length iv.now ≡ ivBytes) × (length ch.now ≡ challengeBytes s) × (length corrections.now ≡ correctionsBytes s b) × (length opening.now ≡ opening1Bytes s) }
-    requires commitment_len { (length commitment.old ≡ hashBytes s) × (length trees.old ≡ trees1Bytes s) × (length lcs.old ≡ leafCommitments1Bytes s) × (length q.old ≡ matrixBytes s b) }
-    ensures { ◌≡◌ {A = Reconstructed} (record { commitment = commitment.exit.now; tree = trees.new; leafCommitments = lcs.new; q = q.new })
+    requires s_value { (shape1_ok s ≡ true) × (b ≤ 8192) }
+    requires iv_len { (length iv.now ≡ iv_bytes) × (length ch.now ≡ challenge_bytes s) × (length corrections.now ≡ corrections_bytes s b) × (length opening.now ≡ opening1_bytes s) }
+    requires commitment_len { (length commitment.old ≡ hash_bytes s) × (length trees.old ≡ trees1_bytes s) × (length lcs.old ≡ leaf_commitments1_bytes s) × (length q.old ≡ matrix_bytes s b) }
+    ensures { ◌≡◌ {A = Reconstructed} (record { commitment = commitment.exit.now; tree = trees.new; leaf_commitments = lcs.new; q = q.new })
         (reconstructed1 faest1 s b iv.now ch.now corrections.now opening.now) }
 {
     let n = rules::hash_bytes(s) * s.tau;
@@ -127,8 +129,8 @@ pub fn reconstruct(
     q: &mut [u8],
 ) -> Answer
     ensures { Reconstruct1 faest1 shape row_bits iv.now challenge.now corrections.now opening.now
-        (record { commitment = commitment.entry.now; tree = trees.old; leafCommitments = leaf_commitments.old; q = q.old })
-        (record { commitment = commitment.exit.now; tree = trees.new; leafCommitments = leaf_commitments.new; q = q.new })
+        (record { commitment = commitment.entry.now; tree = trees.old; leaf_commitments = leaf_commitments.old; q = q.old })
+        (record { commitment = commitment.exit.now; tree = trees.new; leaf_commitments = leaf_commitments.new; q = q.new })
         result }
 {
     let x = ReconstructLengths {

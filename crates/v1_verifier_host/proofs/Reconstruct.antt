@@ -8,33 +8,33 @@ use lib.Dec.{eqb}
 use lib.ListN.{length, take}
 use Rattle.spec.specs.declared.Shape.{Shape}
 use Rattle.spec.specs.declared.Answer.{Answer}
-use Rattle.spec.specs.Calls.{countGiven, row_ok, Reconstructed}
-use Rattle.spec.specs.Version1.{shape1Ok, faest1}
-use Rattle.spec.specs.Version1Calls.{row1Number, reconstructed1, reconstruct1Lengths, Reconstruct1}
-use Rattle.spec.specs.HostCalls.{countSlice, withCount}
+use Rattle.spec.specs.Calls.{count_given, row_ok, Reconstructed}
+use Rattle.spec.specs.Version1.{shape1_ok, faest1}
+use Rattle.spec.specs.Version1Calls.{row1_number, reconstructed1, reconstruct1_lengths, Reconstruct1}
+use Rattle.spec.specs.HostCalls.{count_slice, with_count}
 use Rattle.spec.specs.Version1HostCalls.{HostReconstruct1}
 use Rattle.host_words.proofs.Passed as passed
 
 module _ (s : Shape) (n : ℕ) (iv ch cs op : List ℕ) (x y : Reconstructed) (count : List ℕ) (r : Answer) (m : ℕ)
     (e : m ≡ cond (eqb (length count) 4) (length iv) 0) (o : Reconstruct1 faest1 s n (take m iv) ch cs op x y r) where
   abbrev beneath : List ℕ → ℕ
-  beneath q = row1Number s n (reconstruct1Lengths s (n / 8) q ch cs op x)
+  beneath q = row1_number s n (reconstruct1_lengths s (n / 8) q ch cs op x)
 
   abbrev host : ℕ
-  host = row1Number s n (withCount count (reconstruct1Lengths s (n / 8) iv ch cs op x))
+  host = row1_number s n (with_count count (reconstruct1_lengths s (n / 8) iv ch cs op x))
 
   full : eqb (length count) 4 ≡ true → beneath iv ≡ host
-  unfolding row1Number
+  unfolding row1_number
   full t = rw t refl
 
   none : eqb (length count) 4 ≡ false → (beneath [] ≡ host) × passed.Silent host
-  unfolding row1Number
-  none t = (rw t refl, rw t (passed.silent (shape1Ok s) _ 1 (passed.silent (row_ok n) 3 2 (refl, refl) (refl, refl)) (refl, refl)))
+  unfolding row1_number
+  none t = (rw t refl, rw t (passed.silent (shape1_ok s) _ 1 (passed.silent (row_ok n) 3 2 (refl, refl) (refl, refl)) (refl, refl)))
 
-  pub reconstruct-sized : countGiven r.number ≡ true → length count ≡ 4
+  pub reconstruct-sized : count_given r.number ≡ true → length count ≡ 4
   reconstruct-sized = passed.sized iv count m e beneath host full none r.number o.number
 
-  pub reconstruct-host : (count' : List ℕ) → count' ≡ countSlice r.number r.count count → HostReconstruct1 faest1 s n iv ch cs op x y count count' r.number
+  pub reconstruct-host : (count' : List ℕ) → count' ≡ count_slice r.number r.count count → HostReconstruct1 faest1 s n iv ch cs op x y count count' r.number
   reconstruct-host count' d =
       record {
         number = passed.number iv count m e beneath host full none r.number o.number;

@@ -1,4 +1,6 @@
 // The checking half of version 1 for a C host: reconstruct on numbers and byte slices. Nothing here depends on the signing half.
+#![tactic(auto)]
+
 ghost use Rattle.spec.specs.Version1.{faest1};
 ghost use Rattle.spec.specs.Version1HostCalls.{HostReconstruct1};
 
@@ -25,8 +27,8 @@ pub extern "C" fn rachnoel_v1_reconstruct(
     count: &mut [u8],
 ) -> usize
     ensures { HostReconstruct1 faest1 (record { tau = tau; k = k; w = w; t = t; level = level; kind = kind }) row_bits iv.now challenge.now corrections.now opening.now
-        (record { commitment = commitment.entry.now; tree = trees.old; leafCommitments = leaf_commitments.old; q = q.old })
-        (record { commitment = commitment.exit.now; tree = trees.new; leafCommitments = leaf_commitments.new; q = q.new })
+        (record { commitment = commitment.entry.now; tree = trees.old; leaf_commitments = leaf_commitments.old; q = q.old })
+        (record { commitment = commitment.exit.now; tree = trees.new; leaf_commitments = leaf_commitments.new; q = q.new })
         count.old count.new result }
 {
     let n = host_words::passed_on(iv.len(), count.len());

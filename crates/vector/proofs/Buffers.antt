@@ -13,10 +13,10 @@ use mir.Syntax.{w64}
 use mir.Val.{Fits}
 use Rattle.spec.specs.declared.Shape.{Shape}
 use Rattle.spec.specs.Bytes.{part, concat, zeros}
-use Rattle.spec.specs.Shapes.{leafCommitmentBytes, depth_of, entriesOf, firstBit, firstEntry, shapeOk, leafCommitmentsBytes, matrixBytes}
+use Rattle.spec.specs.Shapes.{leaf_commitment_bytes, depth_of, entries_of, first_bit, first_entry, shape_ok, leaf_commitments_bytes, matrix_bytes}
 use Rattle.laws.proofs.Lists.{length_part}
 use Rattle.laws.proofs.Putting.{behind, put, put_next}
-use Rattle.laws.proofs.Strings.{getD-append-zeros}
+use Rattle.laws.proofs.Strings.{get_or-append-zeros}
 use Rattle.laws.proofs.Concat.{part-whole, mul_next, mul-within}
 use Rattle.laws.proofs.Segments.{segment-before}
 use Rattle.planning_laws.proofs.Depths.{bit-next, entry_next}
@@ -71,45 +71,45 @@ module _ (at n d : ℕ) (e : at + n ≤ d) (h : d < 2 ^ 64) where
   pub end_fits : Fits w64 (at + n)
   end_fits = record { fits = omega arith }
 
--- ---- the parts of vector i: its leaf commitments from `leafCommitmentBytes s * firstEntry s i` on, its columns from `b * firstBit s i` on
+-- ---- the parts of vector i: its leaf commitments from `leaf_commitment_bytes s * first_entry s i` on, its columns from `b * first_bit s i` on
 
 module _ (s : Shape) (i : ℕ) where
-  pub commitments-next : leafCommitmentBytes s * firstEntry s (i + 1) ≡ leafCommitmentBytes s * firstEntry s i + leafCommitmentBytes s * entriesOf s i
-  commitments-next = ap (λ (n : ℕ). leafCommitmentBytes s * n) (ap (firstEntry s) (add-one i) ∙ entry_next s i) ∙ mul-add (leafCommitmentBytes s) (firstEntry s i) (entriesOf s i)
+  pub commitments-next : leaf_commitment_bytes s * first_entry s (i + 1) ≡ leaf_commitment_bytes s * first_entry s i + leaf_commitment_bytes s * entries_of s i
+  commitments-next = ap (λ (n : ℕ). leaf_commitment_bytes s * n) (ap (first_entry s) (add-one i) ∙ entry_next s i) ∙ mul-add (leaf_commitment_bytes s) (first_entry s i) (entries_of s i)
 
-  pub columns-next : (b : ℕ) → b * firstBit s (i + 1) ≡ b * firstBit s i + b * depth_of s i
-  columns-next b = ap (λ (n : ℕ). b * n) (ap (firstBit s) (add-one i) ∙ bit-next s i) ∙ mul-add b (firstBit s i) (depth_of s i)
+  pub columns-next : (b : ℕ) → b * first_bit s (i + 1) ≡ b * first_bit s i + b * depth_of s i
+  columns-next b = ap (λ (n : ℕ). b * n) (ap (first_bit s) (add-one i) ∙ bit-next s i) ∙ mul-add b (first_bit s i) (depth_of s i)
 
   -- as a part is lent, from v to w
-  pub commitments-size : (v w : ℕ) → v ≡ leafCommitmentBytes s * firstEntry s i → w ≡ leafCommitmentBytes s * firstEntry s (i + 1) → w ≡ v + leafCommitmentBytes s * entriesOf s i
+  pub commitments-size : (v w : ℕ) → v ≡ leaf_commitment_bytes s * first_entry s i → w ≡ leaf_commitment_bytes s * first_entry s (i + 1) → w ≡ v + leaf_commitment_bytes s * entries_of s i
   commitments-size v w ev ew = (let n = commitments-next in omega arith)
 
-  pub columns-size : (b v w : ℕ) → v ≡ b * firstBit s i → w ≡ b * firstBit s (i + 1) → w ≡ v + b * depth_of s i
+  pub columns-size : (b v w : ℕ) → v ≡ b * first_bit s i → w ≡ b * first_bit s (i + 1) → w ≡ v + b * depth_of s i
   columns-size b v w ev ew = (let n = columns-next b in omega arith)
 
-module _ (s : Shape) (ok : shapeOk s ≡ true) where
+module _ (s : Shape) (ok : shape_ok s ≡ true) where
   -- those of all vectors; to the columns the last w are added
-  pub all-commitments : leafCommitmentBytes s * firstEntry s s.tau ≡ leafCommitmentsBytes s
-  unfolding leafCommitmentsBytes
-  all-commitments = ap (λ (n : ℕ). leafCommitmentBytes s * n) (shape-laws s ok).entry-all
+  pub all-commitments : leaf_commitment_bytes s * first_entry s s.tau ≡ leaf_commitments_bytes s
+  unfolding leaf_commitments_bytes
+  all-commitments = ap (λ (n : ℕ). leaf_commitment_bytes s * n) (shape-laws s ok).entry-all
 
-  pub all-columns : (b : ℕ) → b * firstBit s s.tau + b * s.w ≡ matrixBytes s b
-  unfolding matrixBytes
-  all-columns b = sym (mul-add b (firstBit s s.tau) s.w) ∙ ap (λ (n : ℕ). b * n) (bit-all s (shape-facts s ok))
+  pub all-columns : (b : ℕ) → b * first_bit s s.tau + b * s.w ≡ matrix_bytes s b
+  unfolding matrix_bytes
+  all-columns b = sym (mul-add b (first_bit s s.tau) s.w) ∙ ap (λ (n : ℕ). b * n) (bit-all s (shape-facts s ok))
 
   -- each ends within its buffer: w is where, d the buffer's length
-  pub commitments-end : (i w d : ℕ) → i < s.tau → w ≡ leafCommitmentBytes s * firstEntry s (i + 1) → d ≡ leafCommitmentsBytes s → w ≤ d
+  pub commitments-end : (i w d : ℕ) → i < s.tau → w ≡ leaf_commitment_bytes s * first_entry s (i + 1) → d ≡ leaf_commitments_bytes s → w ≤ d
   commitments-end i w d h ew ed =
-      let a = segment-before (firstEntry s) (entriesOf s) s.tau i (λ n l. entry_next s n) h in
-      let e = ap (firstEntry s) (add-one i) ∙ entry_next s i in
-      let m : leafCommitmentBytes s * firstEntry s (i + 1) ≤ leafCommitmentBytes s * firstEntry s s.tau = mul-le-mul (le_refl (leafCommitmentBytes s)) (omega arith) in
+      let a = segment-before (first_entry s) (entries_of s) s.tau i (λ n l. entry_next s n) h in
+      let e = ap (first_entry s) (add-one i) ∙ entry_next s i in
+      let m : leaf_commitment_bytes s * first_entry s (i + 1) ≤ leaf_commitment_bytes s * first_entry s s.tau = mul-le-mul (le_refl (leaf_commitment_bytes s)) (omega arith) in
       omega (arith, all-commitments)
 
-  pub columns-end : (b i w d : ℕ) → i < s.tau → w ≡ b * firstBit s (i + 1) → d ≡ matrixBytes s b → w ≤ d
+  pub columns-end : (b i w d : ℕ) → i < s.tau → w ≡ b * first_bit s (i + 1) → d ≡ matrix_bytes s b → w ≤ d
   columns-end b i w d h ew ed =
-      let a = segment-before (firstBit s) (depth_of s) s.tau i (λ n l. bit-next s n) h in
-      let e = ap (firstBit s) (add-one i) ∙ bit-next s i in
-      let m : b * firstBit s (i + 1) ≤ b * firstBit s s.tau = mul-le-mul (le_refl b) (omega arith) in
+      let a = segment-before (first_bit s) (depth_of s) s.tau i (λ n l. bit-next s n) h in
+      let e = ap (first_bit s) (add-one i) ∙ bit-next s i in
+      let m : b * first_bit s (i + 1) ≤ b * first_bit s s.tau = mul-le-mul (le_refl b) (omega arith) in
       omega (arith, all-columns b)
 
 -- ---- a buffer into which a string of w bytes was copied
@@ -121,7 +121,7 @@ copied at w d y new l e = e ∙ ap₂ (λ (v z : List ℕ). take at d ++ (v ++ z
 
 module _ (at n : ℕ) (old new : List ℕ) (h : at ≤ length old) (e : new ≡ take at old ++ zeros n) where
   pub cleared-before : (q : ℕ) → q < at → get_or new q 0 ≡ get_or old q 0
-  cleared-before q l = ap (λ (x : List ℕ). get_or x q 0) e ∙ getD-append-zeros (take at old) n q ∙ get_or-take at old q 0 l
+  cleared-before q l = ap (λ (x : List ℕ). get_or x q 0) e ∙ get_or-append-zeros (take at old) n q ∙ get_or-take at old q 0 l
 
   pub cleared-behind : (q : ℕ) → at ≤ q → get_or new q 0 ≡ 0
-  cleared-behind q l = ap (λ (x : List ℕ). get_or x q 0) e ∙ getD-append-zeros (take at old) n q ∙ get_or-eq_default (take at old) 0 (omega (arith, length-take-le at old h))
+  cleared-behind q l = ap (λ (x : List ℕ). get_or x q 0) e ∙ get_or-append-zeros (take at old) n q ∙ get_or-eq_default (take at old) 0 (omega (arith, length-take-le at old h))

@@ -9,19 +9,19 @@ use native.Mathlib.Omega.{arith}
 use lib.Bits.{bit_xor}
 use lib.ListN.{length, take}
 use Rattle.spec.specs.Bytes.{tabulate, concat, zeros}
-use Rattle.spec.specs.Shapes.{depth_of, entriesOf, shapeOk}
-use Rattle.spec.specs.Rows.{columnByte}
+use Rattle.spec.specs.Shapes.{depth_of, entries_of, shape_ok}
+use Rattle.spec.specs.Rows.{column_byte}
 use Rattle.columns.specs.Columns.{Running, Marked}
 use Rattle.columns.proofs.Running.{marked_start, running-marked, running-end}
 use Rattle.job.specs.declared.Job.{Job}
 use Rattle.vector.specs.declared.Run.{Run}
-use Rattle.job.specs.Jobs.{entryByte}
+use Rattle.job.specs.Jobs.{entry_byte}
 use Rattle.vector.specs.Entries.{numbered, Inside}
 use Rattle.vector.proofs.Buffers.{cleared-behind}
 use Rattle.vector.proofs.Numbers.{height, whole_is, half_is, columns-by-number}
 
 -- n is the number of entries of vector i
-module _ (g : Job) (ok : shapeOk g.shape ≡ true) (i mask n : ℕ) (e : n ≡ entriesOf g.shape i) (m : mask < entriesOf g.shape i) where
+module _ (g : Job) (ok : shape_ok g.shape ≡ true) (i mask n : ℕ) (e : n ≡ entries_of g.shape i) (m : mask < entries_of g.shape i) where
   abbrev pub lower : ℕ → Run
   lower first = record { vector = i; from = first; to = n / 2; mask = mask }
 
@@ -52,7 +52,7 @@ module _ (g : Job) (ok : shapeOk g.shape ≡ true) (i mask n : ℕ) (e : n ≡ e
   upper-marked tree first x r = running-marked g.stretch.width h (numbered g tree upper) first (n / 2) h x (le_refl h) halves.0 r
 
   pub columns_of : (tree y : List ℕ) → Running g.stretch.width h (n / 2) n (numbered g tree upper) y
-      → y ≡ concat (depth_of g.shape i) (λ j. tabulate g.stretch.width (columnByte g.shape (entryByte g tree) (λ e. bit_xor e mask) i j))
+      → y ≡ concat (depth_of g.shape i) (λ j. tabulate g.stretch.width (column_byte g.shape (entry_byte g tree) (λ e. bit_xor e mask) i j))
   columns_of tree y r =
       running-end g.stretch.width h (numbered g tree upper) (n / 2) n y halves.0 (whole_is g.shape i (depth_of g.shape i) ok refl n e) r
-      ∙ columns-by-number g.shape (entryByte g tree) i mask m g.stretch.width (h + 1) n (height g.shape i (depth_of g.shape i) ok refl) e
+      ∙ columns-by-number g.shape (entry_byte g tree) i mask m g.stretch.width (h + 1) n (height g.shape i (depth_of g.shape i) ok refl) e

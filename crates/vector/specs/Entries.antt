@@ -3,28 +3,28 @@ use Rattle.std.specs.Prelude.{ℕ, ◌*◌, ◌≤◌, ◌<◌, ◌≡◌, List,
 use Rattle.std.specs.Int.Bits.{bit_xor}
 use Rattle.spec.specs.Bytes.{part}
 use Rattle.spec.specs.Gf256.{SboxTable}
-use Rattle.spec.specs.Shapes.{entriesOf}
+use Rattle.spec.specs.Shapes.{entries_of}
 use Rattle.job.specs.declared.Job.{Job}
-use Rattle.job.specs.Versions.{nodesBytes}
-use Rattle.job.specs.Jobs.{Ready, entryByte}
+use Rattle.job.specs.Versions.{nodes_bytes}
+use Rattle.job.specs.Jobs.{Ready, entry_byte}
 use Rattle.vector.specs.declared.Run.{Run}
 
 -- the rows of a run, by the numbers of their entries
 abbrev pub numbered : Job → List ℕ → Run → ℕ → ℕ → ℕ
-numbered g tree r x = entryByte g tree r.vector (bit_xor x r.mask)
+numbered g tree r x = entry_byte g tree r.vector (bit_xor x r.mask)
 
 -- what is lent with a job: the table of the S-box, and the nodes of its tree, or of its trees
 pub record Lent (g : Job) (box nodes : List ℕ) : Type 0 where
   pub job : Ready g
   pub table : SboxTable box
-  pub tree : length nodes ≡ nodesBytes g.version g.shape
+  pub tree : length nodes ≡ nodes_bytes g.version g.shape
 
 -- the numbers of a run are those of entries of its vector
 pub record Inside (g : Job) (r : Run) : Type 0 where
   pub vector : r.vector < g.shape.tau
   pub order : r.from ≤ r.to
-  pub all : r.to ≤ entriesOf g.shape r.vector
-  pub mask : r.mask < entriesOf g.shape r.vector
+  pub all : r.to ≤ entries_of g.shape r.vector
+  pub mask : r.mask < entries_of g.shape r.vector
 
 -- number x is that of entry x xor the mask, w the length of a leaf commitment. The entries of the numbers from `from` on and below n have their leaf commitments in their places, and those of the
 -- numbers below `from` have what they had

@@ -1,19 +1,21 @@
 // The entries of one vector: their leaf commitments, the xor of their rows, and the columns, from the bytes of a tree; and a vector's parts of the buffers of
 // all vectors. The rows are added in the order of their numbers to one sum, which stands in the place of the last column, and from there to another column only
 // where its bit of the number changes.
+#![tactic(auto)]
+
 ghost use Rattle.std.specs.Prelude.{◌≡◌, true, ◌+◌, ◌-◌, ◌*◌, ◌≤◌, ◌<◌, length};
-ghost use Rattle.spec.specs.Shapes.{nodeBytes, leafCommitmentBytes, shapeOk, depth_of, entriesOf, firstBit, firstEntry};
+ghost use Rattle.spec.specs.Shapes.{node_bytes, leaf_commitment_bytes, shape_ok, depth_of, entries_of, first_bit, first_entry};
 ghost use Rattle.leaf.specs.HashKeys.{HashMultiples};
 ghost use Rattle.columns.specs.Columns.{Xored, Marked, Running};
-ghost use Rattle.job.specs.Versions.{leafNode, nodesBytes};
-ghost use Rattle.job.specs.Jobs.{entryCommitment, entryByte};
+ghost use Rattle.job.specs.Versions.{leaf_node, nodes_bytes};
+ghost use Rattle.job.specs.Jobs.{entry_commitment, entry_byte};
 ghost use Rattle.vector.specs.Entries.{numbered, Lent, Inside, Written};
 
 use job::{Job, Nonce, Version};
 use spec::Shape;
 
 // Entries of a vector, in the order of their numbers: those whose numbers are from `from` on and below `to`. Number x is that of entry x xor the mask.
-#[derive(Drop)]
+#[derive(Clone, Copy)]
 pub struct Run {
     pub vector: usize,
     pub from: usize,
@@ -23,24 +25,24 @@ pub struct Run {
 
 // Where the leaf commitments of vector i begin, and those before it end.
 pub fn commitments_from(s: Shape, i: usize) -> usize
-    requires { (shapeOk s ≡ true) × (i ≤ s.tau) }
-    ensures { result ≡ leafCommitmentBytes s * firstEntry s i }
+    requires { (shape_ok s ≡ true) × (i ≤ s.tau) }
+    ensures { result ≡ leaf_commitment_bytes s * first_entry s i }
 {
     rules::commitment_bytes(s) * rules::first_entry(s, i)
 }
 
 // The same of its columns.
 pub fn columns_from(s: Shape, i: usize, b: usize) -> usize
-    requires { (shapeOk s ≡ true) × (i ≤ s.tau) × (b ≤ 8192) }
-    ensures { result ≡ b * firstBit s i }
+    requires { (shape_ok s ≡ true) × (i ≤ s.tau) × (b ≤ 8192) }
+    ensures { result ≡ b * first_bit s i }
 {
     b * rules::first_bit(s, i)
 }
 
 // Where the leaf of entry e of vector i stands among the nodes lent.
 fn leaf_node(g: Job, i: usize, e: usize) -> usize
-    requires { (shapeOk g.shape ≡ true) × (i < g.shape.tau) × (e < entriesOf g.shape i) }
-    ensures { (result ≡ leafNode g.version g.shape i e) × (nodeBytes g.shape * result + nodeBytes g.shape ≤ nodesBytes g.version g.shape) × (result < 172032) }
+    requires { (shape_ok g.shape ≡ true) × (i < g.shape.tau) × (e < entries_of g.shape i) }
+    ensures { (result ≡ leaf_node g.version g.shape i e) × (node_bytes g.shape * result + node_bytes g.shape ≤ nodes_bytes g.version g.shape) × (result < 172032) }
 {
     let s = g.shape;
     let version = g.version;
@@ -62,10 +64,10 @@ fn add_leaf(
     commitment: &mut [u8],
     sum: &mut [u8],
 )
-    requires lent { Lent g t.now tree.now × HashMultiples g.shape g.iv i m.now × (i < g.shape.tau) × (e < entriesOf g.shape i) }
-    requires seed_len { (length seed.old ≡ nodeBytes g.shape) × (length commitment.old ≡ leafCommitmentBytes g.shape) × (length sum.old ≡ g.stretch.width) }
-    ensures commitment_after { commitment.new ≡ entryCommitment g tree.now i e }
-    ensures xored { Xored 0 (length sum.old) (entryByte g tree.now i e) sum.old sum.new }
+    requires lent { Lent g t.now tree.now × HashMultiples g.shape g.iv i m.now × (i < g.shape.tau) × (e < entries_of g.shape i) }
+    requires seed_len { (length seed.old ≡ node_bytes g.shape) × (length commitment.old ≡ leaf_commitment_bytes g.shape) × (length sum.old ≡ g.stretch.width) }
+    ensures commitment_after { commitment.new ≡ entry_commitment g tree.now i e }
+    ensures xored { Xored 0 (length sum.old) (entry_byte g tree.now i e) sum.old sum.new }
 {
     let s = g.shape;
     let iv = g.iv;
@@ -107,10 +109,10 @@ fn add_entry(
     commitment: &mut [u8],
     sum: &mut [u8],
 )
-    requires lent { Lent g t.now tree.now × HashMultiples g.shape g.iv i m.now × (i < g.shape.tau) × (e < entriesOf g.shape i) }
-    requires commitment_len { (length commitment.old ≡ leafCommitmentBytes g.shape) × (length sum.old ≡ g.stretch.width) }
-    ensures commitment_after { commitment.new ≡ entryCommitment g tree.now i e }
-    ensures xored { Xored 0 (length sum.old) (entryByte g tree.now i e) sum.old sum.new }
+    requires lent { Lent g t.now tree.now × HashMultiples g.shape g.iv i m.now × (i < g.shape.tau) × (e < entries_of g.shape i) }
+    requires commitment_len { (length commitment.old ≡ leaf_commitment_bytes g.shape) × (length sum.old ≡ g.stretch.width) }
+    ensures commitment_after { commitment.new ≡ entry_commitment g tree.now i e }
+    ensures xored { Xored 0 (length sum.old) (entry_byte g tree.now i e) sum.old sum.new }
 {
     let n = rules::node_bytes(g.shape);
     let mut seed = [0u8; 32];
@@ -129,9 +131,9 @@ pub fn add_half(
     cols: &mut [u8],
 )
     requires lent { Lent g t.now tree.now × HashMultiples g.shape g.iv run.vector m.now × Inside g run }
-    requires commitments_len { (length commitments.old ≡ leafCommitmentBytes g.shape * entriesOf g.shape run.vector)
+    requires commitments_len { (length commitments.old ≡ leaf_commitment_bytes g.shape * entries_of g.shape run.vector)
         × Marked g.stretch.width (depth_of g.shape run.vector - 1) run.from (numbered g tree.now run) cols.old }
-    ensures written { Written (leafCommitmentBytes g.shape) (entryCommitment g tree.now run.vector) run.mask run.from run.to commitments.old commitments.new }
+    ensures written { Written (leaf_commitment_bytes g.shape) (entry_commitment g tree.now run.vector) run.mask run.from run.to commitments.old commitments.new }
     ensures running { Running g.stretch.width (depth_of g.shape run.vector - 1) run.from run.to (numbered g tree.now run) cols.new }
 {
     let i = run.vector;

@@ -4,7 +4,7 @@ use spec::Shape;
 use test_support::lengths::{Lengths, Rows, at_most, challenge, leaves, product};
 
 // A call: the version of FAEST, 1 or 2, the shape, the rows, and the lengths of what is lent.
-#[derive(Drop)]
+#[derive(Clone, Copy)]
 pub struct Call {
     pub version: usize,
     pub shape: Shape,
@@ -13,7 +13,7 @@ pub struct Call {
 }
 
 // The bytes that a case gives the calls.
-#[derive(Drop)]
+#[derive(Clone, Copy)]
 pub struct Inputs {
     pub root: Bytes,
     pub iv: Bytes,

@@ -1,4 +1,6 @@
 // The calls on lent buffers, and cases of them: what the command line of reference/ prints of each call.
+#![tactic(auto)]
+
 mod calls;
 mod cases;
 mod inputs;

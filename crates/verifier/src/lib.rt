@@ -1,4 +1,6 @@
 // The checking half's public calls: reconstruct and reconstruct_stretch. Nothing here depends on the signing half.
+#![tactic(auto)]
+
 ghost use Rattle.spec.specs.Primitives.{faest};
 ghost use Rattle.spec.specs.Calls.{Reconstruct, ReconstructStretch};
 
@@ -21,8 +23,8 @@ pub fn reconstruct_stretch(
     q: &mut [u8],
 ) -> Answer
     ensures { ReconstructStretch faest shape row_bits stretch iv.now challenge.now corrections.now opening.now
-        (record { commitment = commitment.entry.now; tree = tree.old; leafCommitments = leaf_commitments.old; q = q.old })
-        (record { commitment = commitment.exit.now; tree = tree.new; leafCommitments = leaf_commitments.new; q = q.new })
+        (record { commitment = commitment.entry.now; tree = tree.old; leaf_commitments = leaf_commitments.old; q = q.old })
+        (record { commitment = commitment.exit.now; tree = tree.new; leaf_commitments = leaf_commitments.new; q = q.new })
         result }
 {
     let s = rules::resolve(shape);
@@ -70,8 +72,8 @@ pub fn reconstruct(
     q: &mut [u8],
 ) -> Answer
     ensures { Reconstruct faest shape row_bits iv.now challenge.now corrections.now opening.now
-        (record { commitment = commitment.entry.now; tree = tree.old; leafCommitments = leaf_commitments.old; q = q.old })
-        (record { commitment = commitment.exit.now; tree = tree.new; leafCommitments = leaf_commitments.new; q = q.new })
+        (record { commitment = commitment.entry.now; tree = tree.old; leaf_commitments = leaf_commitments.old; q = q.old })
+        (record { commitment = commitment.exit.now; tree = tree.new; leaf_commitments = leaf_commitments.new; q = q.new })
         result }
 {
     let whole = Stretch {

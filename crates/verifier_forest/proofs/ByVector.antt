@@ -9,12 +9,12 @@ use lib.ListN.{length, take, drop}
 use lib.Seq.{take-add, drop-drop}
 use Rattle.spec.specs.declared.Shape.{Shape}
 use Rattle.spec.specs.Bytes.{part, tabulate, zeros, index_of}
-use Rattle.spec.specs.Tree.{isAncestor, some, covered, expandTree}
-use Rattle.spec.specs.Shapes.{nodeBytes, entriesOf, hiddenIndex}
+use Rattle.spec.specs.Tree.{is_ancestor, some, covered, expand_tree}
+use Rattle.spec.specs.Shapes.{node_bytes, entries_of, hidden_index}
 use Rattle.spec.specs.Primitives.{prg}
 use Rattle.spec.specs.Leaves.{children}
-use Rattle.spec.specs.Version1.{faest1, prg1, children1, leafIn, siblingAt, siblings, slot1, on_path, givenNode1, reconstructedChildren1}
-use Rattle.job.specs.Versions.{primitivesOf}
+use Rattle.spec.specs.Version1.{faest1, prg1, children1, leaf_in, sibling_at, siblings, slot1, on_path, given_node1, reconstructed_children1}
+use Rattle.job.specs.Versions.{primitives_of}
 use Rattle.job.specs.declared.Version.TheVariants.{One}
 use Rattle.tree.proofs.Growing.{node-place, length-children, grown-more}
 use Rattle.planning_laws.proofs.Path.{up_from, leaf-is, above}
@@ -44,64 +44,64 @@ two-more w a x =
 
 module _ (w d j : ℕ) (slots : List ℕ) (s : Shape) (ch opening : List ℕ) (i : ℕ) (v : VectorOf w d j slots s ch opening i) (small : j < 2 ^ d) (iv : List ℕ) where
   abbrev Kids : ℕ → List ℕ → List ℕ
-  Kids = reconstructedChildren1 faest1 s iv ch opening i
+  Kids = reconstructed_children1 faest1 s iv ch opening i
 
-  hides-is : (a : ℕ) → on_path s ch i a ≡ isAncestor a (up_from d j 0)
-  unfolding on_path covered some leafIn entriesOf
+  hides-is : (a : ℕ) → on_path s ch i a ≡ is_ancestor a (up_from d j 0)
+  unfolding on_path covered some leaf_in entries_of
   hides-is a =
-      or-false (isAncestor a (leafIn s i (hiddenIndex s ch i)))
-      ∙ ap₂ (λ (n m : ℕ). isAncestor a (2 ^ n - 1 + m)) (sym v.depth) (sym v.index)
-      ∙ ap (isAncestor a) (sym (leaf-is d j))
+      or-false (is_ancestor a (leaf_in s i (hidden_index s ch i)))
+      ∙ ap₂ (λ (n m : ℕ). is_ancestor a (2 ^ n - 1 + m)) (sym v.depth) (sym v.index)
+      ∙ ap (is_ancestor a) (sym (leaf-is d j))
 
-  siblings-is : siblings s ch i ≡ tabulate d (λ l. siblingAt d j (l + 1))
+  siblings-is : siblings s ch i ≡ tabulate d (λ l. sibling_at d j (l + 1))
   unfolding siblings
-  siblings-is = ap₂ (λ (n m : ℕ). tabulate n (λ l. siblingAt n m (l + 1))) (sym v.depth) (sym v.index)
+  siblings-is = ap₂ (λ (n m : ℕ). tabulate n (λ l. sibling_at n m (l + 1))) (sym v.depth) (sym v.index)
 
   -- a node of the way, and the sibling of one
-  given-on : (c m : ℕ) → m ≤ d → c ≡ up_from d j m → givenNode1 s ch opening i c ≡ zeros w
-  unfolding givenNode1
+  given-on : (c m : ℕ) → m ≤ d → c ≡ up_from d j m → given_node1 s ch opening i c ≡ zeros w
+  unfolding given_node1
   given-on c m h e =
-      ap (λ (b : Bool). cond b (zeros (nodeBytes s)) (slot1 s opening i (index_of c (siblings s ch i)))) (hides-is c ∙ ap (λ (n : ℕ). isAncestor n (up_from d j 0)) e ∙ above d j m h)
+      ap (λ (b : Bool). cond b (zeros (node_bytes s)) (slot1 s opening i (index_of c (siblings s ch i)))) (hides-is c ∙ ap (λ (n : ℕ). is_ancestor n (up_from d j 0)) e ∙ above d j m h)
       ∙ ap zeros (sym v.width)
 
-  given-off : (c l : ℕ) → l < d → c ≡ siblingAt d j (l + 1) → isAncestor c (up_from d j 0) ≡ false → givenNode1 s ch opening i c ≡ part slots (w * l) w
-  unfolding givenNode1
+  given-off : (c l : ℕ) → l < d → c ≡ sibling_at d j (l + 1) → is_ancestor c (up_from d j 0) ≡ false → given_node1 s ch opening i c ≡ part slots (w * l) w
+  unfolding given_node1
   given-off c l h e o =
-      ap (λ (b : Bool). cond b (zeros (nodeBytes s)) (slot1 s opening i (index_of c (siblings s ch i)))) (hides-is c ∙ o)
+      ap (λ (b : Bool). cond b (zeros (node_bytes s)) (slot1 s opening i (index_of c (siblings s ch i)))) (hides-is c ∙ o)
       ∙ ap (slot1 s opening i) (ap₂ index_of e siblings-is ∙ sibling-place d j l small h)
       ∙ sym (v.given l h)
 
-  other-kids : (a : ℕ) (x : List ℕ) → isAncestor a (up_from d j 0) ≡ false → children (primitivesOf One) s iv a x ≡ Kids a x
-  unfolding children prg prg1 children1 faest1 primitivesOf reconstructedChildren1
-  other-kids a x o = sym (ap (λ (b : Bool). cond b (givenNode1 s ch opening i (2 * a + 1) ++ givenNode1 s ch opening i (2 * a + 2)) (children1 faest1 s iv a x)) (hides-is a ∙ o))
+  other-kids : (a : ℕ) (x : List ℕ) → is_ancestor a (up_from d j 0) ≡ false → children (primitives_of One) s iv a x ≡ Kids a x
+  unfolding children prg prg1 children1 faest1 primitives_of reconstructed_children1
+  other-kids a x o = sym (ap (λ (b : Bool). cond b (given_node1 s ch opening i (2 * a + 1) ++ given_node1 s ch opening i (2 * a + 2)) (children1 faest1 s iv a x)) (hides-is a ∙ o))
 
-  way-kids : (a l : ℕ) (x : List ℕ) → a ≡ up_from d j (d - l) → givenNode1 s ch opening i (2 * a + 1) ++ givenNode1 s ch opening i (2 * a + 2) ≡ Kids a x
-  unfolding reconstructedChildren1
+  way-kids : (a l : ℕ) (x : List ℕ) → a ≡ up_from d j (d - l) → given_node1 s ch opening i (2 * a + 1) ++ given_node1 s ch opening i (2 * a + 2) ≡ Kids a x
+  unfolding reconstructed_children1
   way-kids a l x e =
       sym
-      (ap (λ (b : Bool). cond b (givenNode1 s ch opening i (2 * a + 1) ++ givenNode1 s ch opening i (2 * a + 2)) (children1 faest1 s iv a x))
-      (hides-is a ∙ ap (λ (n : ℕ). isAncestor n (up_from d j 0)) e ∙ above d j (d - l) (omega arith)))
+      (ap (λ (b : Bool). cond b (given_node1 s ch opening i (2 * a + 1) ++ given_node1 s ch opening i (2 * a + 2)) (children1 faest1 s iv a x))
+      (hides-is a ∙ ap (λ (n : ℕ). is_ancestor n (up_from d j 0)) e ∙ above d j (d - l) (omega arith)))
 
   -- the children of the node of the way at level l are written
   pub way-grown : (a l : ℕ) (old new : List ℕ) → l < d → a ≡ up_from d j (d - l) → CoveredPair w a (j / 2 ^ (d - 1 - l) % 2) (part slots (w * l) w) old new
-      → take (w * (2 * a + 1)) old ≡ expandTree w (zeros w) Kids a → take (w * (2 * (a + 1) + 1)) new ≡ expandTree w (zeros w) Kids (a + 1)
-  unfolding expandTree
+      → take (w * (2 * a + 1)) old ≡ expand_tree w (zeros w) Kids a → take (w * (2 * (a + 1) + 1)) new ≡ expand_tree w (zeros w) Kids (a + 1)
+  unfolding expand_tree
   way-grown a l old new h e p g =
       let b = j / 2 ^ (d - 1 - l) % 2 in
       let on = given-on (2 * a + 1 + b) (d - 1 - l) (omega arith) (child-on d j a l h e) in
       let sib = child-off d j a l h e in
-      let off = given-off (2 * a + 2 - b) l h sib (ap (λ (n : ℕ). isAncestor n (up_from d j 0)) sib ∙ off-way d j a l h e) in
+      let off = given-off (2 * a + 2 - b) l h sib (ap (λ (n : ℕ). is_ancestor n (up_from d j 0)) sib ∙ off-way d j a l h e) in
       two-more w a new
       ∙ ap₂ ◌++◌ (p.front ∙ g)
-      (both (λ c. part new (w * c) w) (givenNode1 s ch opening i) a b (omega arith) (p.cleared ∙ sym on) (p.copied ∙ sym off) ∙ way-kids a l (part (expandTree w (zeros w) Kids a) (w * a) w) e)
-      ∙ ap (expandTree w (zeros w) Kids) (sym (add-one a))
+      (both (λ c. part new (w * c) w) (given_node1 s ch opening i) a b (omega arith) (p.cleared ∙ sym on) (p.copied ∙ sym off) ∙ way-kids a l (part (expand_tree w (zeros w) Kids a) (w * a) w) e)
+      ∙ ap (expand_tree w (zeros w) Kids) (sym (add-one a))
 
   -- the children of any other node are written
-  pub other-grown : (a : ℕ) (old new : List ℕ) → isAncestor a (up_from d j 0) ≡ false → w * (2 * a + 1) ≤ length old
-      → new ≡ take (w * (2 * a + 1)) old ++ (children (primitivesOf One) s iv a (part old (w * a) w) ++ drop (w * (2 * a + 3)) old)
-      → take (w * (2 * a + 1)) old ≡ expandTree w (zeros w) Kids a → take (w * (2 * (a + 1) + 1)) new ≡ expandTree w (zeros w) Kids (a + 1)
+  pub other-grown : (a : ℕ) (old new : List ℕ) → is_ancestor a (up_from d j 0) ≡ false → w * (2 * a + 1) ≤ length old
+      → new ≡ take (w * (2 * a + 1)) old ++ (children (primitives_of One) s iv a (part old (w * a) w) ++ drop (w * (2 * a + 3)) old)
+      → take (w * (2 * a + 1)) old ≡ expand_tree w (zeros w) Kids a → take (w * (2 * (a + 1) + 1)) new ≡ expand_tree w (zeros w) Kids (a + 1)
   other-grown a old new o h e g =
       let x = part old (w * a) w in
       let k = other-kids a x o in
       ap (take (w * (2 * (a + 1) + 1))) (e ∙ ap (λ (y : List ℕ). take (w * (2 * a + 1)) old ++ (y ++ drop (w * (2 * a + 3)) old)) k)
-      ∙ grown-more w (zeros w) Kids a old h (sym (ap length k) ∙ length-children (primitivesOf One) s iv a x ∙ ap (λ (m : ℕ). 2 * m) (sym v.width)) g
+      ∙ grown-more w (zeros w) Kids a old h (sym (ap length k) ∙ length-children (primitives_of One) s iv a x ∙ ap (λ (m : ℕ). 2 * m) (sym v.width)) g

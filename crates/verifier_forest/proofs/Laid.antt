@@ -10,8 +10,8 @@ use lib.ListN.{length, take}
 use lib.Seq.{take_all}
 use Rattle.spec.specs.declared.Shape.{Shape}
 use Rattle.spec.specs.Bytes.{part, concat}
-use Rattle.spec.specs.Shapes.{level, nodeBytes, depth_of, entriesOf, firstBit, leaves, shapeOk, hiddenIndex}
-use Rattle.spec.specs.Version1.{firstNode, decommitmentFrom, slot1, trees1Bytes, opening1Bytes}
+use Rattle.spec.specs.Shapes.{level, node_bytes, depth_of, entries_of, first_bit, leaves, shape_ok, hidden_index}
+use Rattle.spec.specs.Version1.{first_node, decommitment_from, slot1, trees1_bytes, opening1_bytes}
 use Rattle.laws.proofs.Lists.{length_part, part-part}
 use Rattle.laws.proofs.Concat.{mul-limit, mul-within}
 use Rattle.laws.proofs.Putting.{put_next}
@@ -21,50 +21,50 @@ use Rattle.planning_laws.proofs.ShapeFacts.{shape-facts, vector-bits}
 use Rattle.planning_laws.proofs.Forest.{node-next, node-all}
 use Rattle.verifier_forest.specs.ByWay.{VectorOf}
 
-module _ (s : Shape) (ok : shapeOk s ≡ true) (w i : ℕ) (e : w ≡ nodeBytes s) where
+module _ (s : Shape) (ok : shape_ok s ≡ true) (w i : ℕ) (e : w ≡ node_bytes s) where
   -- the trees before vector i have x nodes, and with its own y
-  module _ (x y : ℕ) (ex : x ≡ firstNode s i) (ey : y ≡ firstNode s (i + 1)) where
-    tree-size : w * y ≡ w * x + w * (2 * entriesOf s i - 1)
+  module _ (x y : ℕ) (ex : x ≡ first_node s i) (ey : y ≡ first_node s (i + 1)) where
+    tree-size : w * y ≡ w * x + w * (2 * entries_of s i - 1)
     tree-size =
-        let n = ey ∙ ap (firstNode s) (add-one i) ∙ node-next s (shape-facts s ok) i in
-        let z : y ≡ x + (2 * entriesOf s i - 1) = omega arith in
-        ap (λ (m : ℕ). w * m) z ∙ mul-add w x (2 * entriesOf s i - 1)
+        let n = ey ∙ ap (first_node s) (add-one i) ∙ node-next s (shape-facts s ok) i in
+        let z : y ≡ x + (2 * entries_of s i - 1) = omega arith in
+        ap (λ (m : ℕ). w * m) z ∙ mul-add w x (2 * entries_of s i - 1)
 
-    tree-within : i < s.tau → w * y ≤ trees1Bytes s
-    unfolding trees1Bytes
+    tree-within : i < s.tau → w * y ≤ trees1_bytes s
+    unfolding trees1_bytes
     tree-within h =
         let f = shape-facts s ok in
-        let n = ey ∙ ap (firstNode s) (add-one i) ∙ node-next s f i in
-        let a = segment-before (firstNode s) (λ i. 2 * entriesOf s i - 1) s.tau i (λ m q. node-next s f m) h in
+        let n = ey ∙ ap (first_node s) (add-one i) ∙ node-next s f i in
+        let a = segment-before (first_node s) (λ i. 2 * entries_of s i - 1) s.tau i (λ m q. node-next s f m) h in
         let t = node-all s f in
-        mul-limit w y (nodeBytes s) (2 * leaves s - s.tau) (omega arith) (omega arith)
+        mul-limit w y (node_bytes s) (2 * leaves s - s.tau) (omega arith) (omega arith)
 
     -- the part of the trees that is lent
-    tree_lent : (trees : List ℕ) → w * y ≤ length trees → length (part trees (w * x) (w * y - w * x)) ≡ w * (2 * entriesOf s i - 1)
+    tree_lent : (trees : List ℕ) → w * y ≤ length trees → length (part trees (w * x) (w * y - w * x)) ≡ w * (2 * entries_of s i - 1)
     tree_lent trees h =
         let t = tree-size in
-        let z : w * y - w * x ≡ w * (2 * entriesOf s i - 1) = omega arith in
-        ap (λ (m : ℕ). length (part trees (w * x) m)) z ∙ length_part trees (w * x) (w * (2 * entriesOf s i - 1)) (omega arith)
+        let z : w * y - w * x ≡ w * (2 * entries_of s i - 1) = omega arith in
+        ap (λ (m : ℕ). length (part trees (w * x) m)) z ∙ length_part trees (w * x) (w * (2 * entries_of s i - 1)) (omega arith)
 
     -- tree i put behind those before
-    tree-put : (f : ℕ → List ℕ) (d z y' : List ℕ) → w * y ≤ length d → length y' ≡ w * (2 * entriesOf s i - 1) → y' ≡ f i → take (w * firstNode s i) d ≡ concat i f
-        → take (w * firstNode s (i + 1)) (take (w * x) d ++ (y' ++ z)) ≡ concat (i + 1) f
+    tree-put : (f : ℕ → List ℕ) (d z y' : List ℕ) → w * y ≤ length d → length y' ≡ w * (2 * entries_of s i - 1) → y' ≡ f i → take (w * first_node s i) d ≡ concat i f
+        → take (w * first_node s (i + 1)) (take (w * x) d ++ (y' ++ z)) ≡ concat (i + 1) f
     tree-put f d z y' h l m g =
         let t = tree-size in
         ap (λ (n : ℕ). take (w * n) (take (w * x) d ++ (y' ++ z))) (sym ey)
         ∙ ap (λ (n : ℕ). take n (take (w * x) d ++ (y' ++ z))) t
-        ∙ put_next f [] (w * (2 * entriesOf s i - 1)) i (w * x) d (take (w * x) d ++ (y' ++ z)) z (omega arith) (sym (ap length m) ∙ l) (ap (λ (n : ℕ). take (w * n) d) ex ∙ g)
+        ∙ put_next f [] (w * (2 * entries_of s i - 1)) i (w * x) d (take (w * x) d ++ (y' ++ z)) z (omega arith) (sym (ap length m) ∙ l) (ap (λ (n : ℕ). take (w * n) d) ex ∙ g)
         (ap (λ (v : List ℕ). take (w * x) d ++ (v ++ z)) m)
 
   -- the decommitment of vector i begins at byte `from`
-  module _ (h : i < s.tau) (from : ℕ) (ef : from ≡ decommitmentFrom s i) (opening : List ℕ) (long : length opening ≡ opening1Bytes s) where
+  module _ (h : i < s.tau) (from : ℕ) (ef : from ≡ decommitment_from s i) (opening : List ℕ) (long : length opening ≡ opening1_bytes s) where
     slots-within : from + w * depth_of s i ≤ length opening
-    unfolding decommitmentFrom opening1Bytes
+    unfolding decommitment_from opening1_bytes
     slots-within =
         let b = vector-bits s i (shape-facts s ok) h in
-        let v = ef ∙ ap (λ (n : ℕ). n * (firstBit s i + 2 * i)) (sym e) in
-        let a = mul-add w (firstBit s i + 2 * i) (depth_of s i) in
-        let m = mul-limit w (firstBit s i + 2 * i + depth_of s i) (nodeBytes s) (level s + 2 * s.tau) (omega arith) (omega arith) in
+        let v = ef ∙ ap (λ (n : ℕ). n * (first_bit s i + 2 * i)) (sym e) in
+        let a = mul-add w (first_bit s i + 2 * i) (depth_of s i) in
+        let m = mul-limit w (first_bit s i + 2 * i + depth_of s i) (node_bytes s) (level s + 2 * s.tau) (omega arith) (omega arith) in
         omega arith
 
     from-within : from ≤ length opening
@@ -77,7 +77,7 @@ module _ (s : Shape) (ok : shapeOk s ≡ true) (w i : ℕ) (e : w ≡ nodeBytes 
         let m = ap (λ (m : ℕ). w * m) ed in
         omega arith
 
-    vector-of : (d j : ℕ) (ch : List ℕ) → d ≡ depth_of s i → j ≡ hiddenIndex s ch i → VectorOf w d j (part opening from (length opening - from)) s ch opening i
+    vector-of : (d j : ℕ) (ch : List ℕ) → d ≡ depth_of s i → j ≡ hidden_index s ch i → VectorOf w d j (part opening from (length opening - from)) s ch opening i
     unfolding slot1
     vector-of d j ch ed ej =
         record {
@@ -93,11 +93,11 @@ module _ (s : Shape) (ok : shapeOk s ≡ true) (w i : ℕ) (e : w ≡ nodeBytes 
         }
 
   -- the trees of all vectors
-  pub all-stand : (trees : List ℕ) (f : ℕ → List ℕ) → i ≡ s.tau → length trees ≡ trees1Bytes s → take (w * firstNode s i) trees ≡ concat i f → trees ≡ concat s.tau f
-  unfolding trees1Bytes
+  pub all-stand : (trees : List ℕ) (f : ℕ → List ℕ) → i ≡ s.tau → length trees ≡ trees1_bytes s → take (w * first_node s i) trees ≡ concat i f → trees ≡ concat s.tau f
+  unfolding trees1_bytes
   all-stand trees f last long g =
-      let t : w * firstNode s i ≡ nodeBytes s * (2 * leaves s - s.tau) = ap₂ ◌*◌ e (ap (firstNode s) last ∙ node-all s (shape-facts s ok)) in
-      sym (take_all (w * firstNode s i) trees (omega arith)) ∙ g ∙ ap (λ (n : ℕ). concat n f) last
+      let t : w * first_node s i ≡ node_bytes s * (2 * leaves s - s.tau) = ap₂ ◌*◌ e (ap (first_node s) last ∙ node-all s (shape-facts s ok)) in
+      sym (take_all (w * first_node s i) trees (omega arith)) ∙ g ∙ ap (λ (n : ℕ). concat n f) last
 
 -- ---- what is lent for vector i
 
@@ -109,16 +109,16 @@ pub record Lent (s : Shape) (w i d j from x y : ℕ) (ch opening trees : List �
   pub slots : w * d ≤ length (part opening from (length opening - from))
   pub tree : length (part trees (w * x) (w * y - w * x)) ≡ w * (2 * 2 ^ d - 1)
   pub vector : VectorOf w d j (part opening from (length opening - from)) s ch opening i
-  pub put : (f : ℕ → List ℕ) (z t : List ℕ) → length t ≡ w * (2 * 2 ^ d - 1) → t ≡ f i → take (w * firstNode s i) trees ≡ concat i f
-      → take (w * firstNode s (i + 1)) (take (w * x) trees ++ (t ++ z)) ≡ concat (i + 1) f
+  pub put : (f : ℕ → List ℕ) (z t : List ℕ) → length t ≡ w * (2 * 2 ^ d - 1) → t ≡ f i → take (w * first_node s i) trees ≡ concat i f
+      → take (w * first_node s (i + 1)) (take (w * x) trees ++ (t ++ z)) ≡ concat (i + 1) f
 
-pub lent : (s : Shape) (w i d j from x y : ℕ) (ch opening trees : List ℕ) → shapeOk s ≡ true → w ≡ nodeBytes s → i < s.tau → d ≡ depth_of s i → j ≡ hiddenIndex s ch i
-    → from ≡ decommitmentFrom s i → x ≡ firstNode s i → y ≡ firstNode s (i + 1) → length opening ≡ opening1Bytes s → length trees ≡ trees1Bytes s → Lent s w i d j from x y ch opening trees
-unfolding entriesOf
+pub lent : (s : Shape) (w i d j from x y : ℕ) (ch opening trees : List ℕ) → shape_ok s ≡ true → w ≡ node_bytes s → i < s.tau → d ≡ depth_of s i → j ≡ hidden_index s ch i
+    → from ≡ decommitment_from s i → x ≡ first_node s i → y ≡ first_node s (i + 1) → length opening ≡ opening1_bytes s → length trees ≡ trees1_bytes s → Lent s w i d j from x y ch opening trees
+unfolding entries_of
 lent s w i d j from x y ch opening trees ok e h ed ej ef ex ey lo lt =
     let t = tree-size s ok w i e x y ex ey in
     let n = tree-within s ok w i e x y ex ey h in
-    let size : w * (2 * entriesOf s i - 1) ≡ w * (2 * 2 ^ d - 1) = ap (λ (m : ℕ). w * (2 * 2 ^ m - 1)) (sym ed) in
+    let size : w * (2 * entries_of s i - 1) ≡ w * (2 * 2 ^ d - 1) = ap (λ (m : ℕ). w * (2 * 2 ^ m - 1)) (sym ed) in
     let room : w * y ≤ length trees = omega arith in
     record {
       start = from-within s ok w i e h from ef opening lo;

@@ -9,8 +9,8 @@ use native.Mathlib.Omega.{arith}
 use lib.Pow.{pow_pos, pow_mono, shr-shr, shr_lt}
 use lib.Bits.{bit_xor, differ, xor_step, xor_zero_r, xor_lt}
 use Rattle.spec.specs.Bytes.{tabulate, index_of}
-use Rattle.spec.specs.Tree.{isAncestor}
-use Rattle.spec.specs.Version1.{siblingAt}
+use Rattle.spec.specs.Tree.{is_ancestor}
+use Rattle.spec.specs.Version1.{sibling_at}
 use Rattle.laws.proofs.Xor.{digit-cases}
 use Rattle.planning_laws.proofs.Path.{up_from, below, leaf-is, between, sibling-off, index-of}
 
@@ -23,7 +23,7 @@ pub record Walk (d j a path l : ℕ) : Type 0 where
   pub level : l ≤ d
   pub node : path ≡ up_from d j (d - l)
   pub reached : a ≤ path
-  pub off : (b : ℕ) → a ≤ b → b < path → isAncestor b (up_from d j 0) ≡ false
+  pub off : (b : ℕ) → a ≤ b → b < path → is_ancestor b (up_from d j 0) ≡ false
 
 module _ (d j : ℕ) where
   pub walk_start : j < 2 ^ d → Walk d j 0 0 0
@@ -43,7 +43,7 @@ module _ (d j : ℕ) where
           go (no l) = absurd (n (omega arith))
 
   -- the node that is passed does not lie above the leaf
-  pub walk-off : (a path l : ℕ) → Walk d j a path l → (a ≡ path → ⊥) → isAncestor a (up_from d j 0) ≡ false
+  pub walk-off : (a path l : ℕ) → Walk d j a path l → (a ≡ path → ⊥) → is_ancestor a (up_from d j 0) ≡ false
   walk-off a path l k n = (let z = (walk-past a path l k n).reached in k.off a (omega arith) (omega arith))
 
   -- a node of the way that is no leaf
@@ -73,15 +73,15 @@ module _ (d j : ℕ) where
     pub child-on : 2 * a + 1 + j / 2 ^ (d - 1 - l) % 2 ≡ up_from d j (d - 1 - l)
     child-on = (let c = child m (omega arith) in let u = up in omega arith)
 
-    sibling-as : siblingAt d j (l + 1) ≡ 2 ^ (d - m) - 1 + bit_xor (j / 2 ^ m) 1
-    unfolding siblingAt
+    sibling-as : sibling_at d j (l + 1) ≡ 2 ^ (d - m) - 1 + bit_xor (j / 2 ^ m) 1
+    unfolding sibling_at
     sibling-as = ap₂ (λ (x y : ℕ). 2 ^ x - 1 + bit_xor (j / 2 ^ y) 1) (let z : l + 1 ≡ d - (d - 1 - l) = omega arith in z) (let z : d - (l + 1) ≡ d - 1 - l = omega arith in z)
 
-    pub child-off : 2 * a + 2 - j / 2 ^ (d - 1 - l) % 2 ≡ siblingAt d j (l + 1)
+    pub child-off : 2 * a + 2 - j / 2 ^ (d - 1 - l) % 2 ≡ sibling_at d j (l + 1)
     child-off = (let c = child m (omega arith) in let u = up in let f = flip (j / 2 ^ m) in let b = below d j m (omega arith) in let s = sibling-as in omega arith)
 
-    pub off-way : isAncestor (siblingAt d j (l + 1)) (up_from d j 0) ≡ false
-    off-way = ap (λ (n : ℕ). isAncestor n (up_from d j 0)) sibling-as ∙ sibling-off d j m (omega arith)
+    pub off-way : is_ancestor (sibling_at d j (l + 1)) (up_from d j 0) ≡ false
+    off-way = ap (λ (n : ℕ). is_ancestor n (up_from d j 0)) sibling-as ∙ sibling-off d j m (omega arith)
 
     pub walk-down : Walk d j (a + 1) (2 * a + 1 + j / 2 ^ (d - 1 - l) % 2) (l + 1)
     walk-down =
@@ -97,12 +97,12 @@ module _ (d j : ℕ) where
 
   -- ---- the siblings of two levels differ, since each lies on its own
 
-  low : (l : ℕ) → 2 ^ (l + 1) - 1 ≤ siblingAt d j (l + 1)
-  unfolding siblingAt
+  low : (l : ℕ) → 2 ^ (l + 1) - 1 ≤ sibling_at d j (l + 1)
+  unfolding sibling_at
   low l = omega arith
 
-  high : (l : ℕ) → j < 2 ^ d → l < d → siblingAt d j (l + 1) < 2 ^ (l + 1) + 2 ^ (l + 1) - 1
-  unfolding siblingAt
+  high : (l : ℕ) → j < 2 ^ d → l < d → sibling_at d j (l + 1) < 2 ^ (l + 1) + 2 ^ (l + 1) - 1
+  unfolding sibling_at
   high l h k =
       let r = d - (l + 1) in
       let whole : d ≡ l + 1 + r = omega arith in
@@ -115,6 +115,6 @@ module _ (d j : ℕ) where
   twice-le m l h = (let a = ap (λ (n : ℕ). 2 ^ n) (add-one (m + 1)) ∙ two-pow-succ (m + 1) in let b = pow_mono {i = m + 1 + 1} {j = l + 1} (omega arith) in omega arith)
 
   -- so the sibling of level l + 1 is found at place l
-  pub sibling-place : (l : ℕ) → j < 2 ^ d → l < d → index_of (siblingAt d j (l + 1)) (tabulate d (λ l. siblingAt d j (l + 1))) ≡ l
+  pub sibling-place : (l : ℕ) → j < 2 ^ d → l < d → index_of (sibling_at d j (l + 1)) (tabulate d (λ l. sibling_at d j (l + 1))) ≡ l
   sibling-place l small k =
-      index-of d (λ l. siblingAt d j (l + 1)) l k (λ m n q. (let a = high m small (omega arith) in let b = low l in let z = twice-le m l n in omega arith))
+      index-of d (λ l. sibling_at d j (l + 1)) l k (λ m n q. (let a = high m small (omega arith) in let b = low l in let z = twice-le m l n in omega arith))

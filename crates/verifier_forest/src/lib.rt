@@ -1,10 +1,12 @@
 // The trees that the checking half of version 1 makes of an opening (document 02, E12): one for each vector.
+#![tactic(auto)]
+
 ghost use Rattle.std.specs.Prelude.{◌≡◌, true, List, ℕ, ◌+◌, ◌-◌, ◌*◌, ◌%◌, ◌^◌, ◌≤◌, ◌<◌, length};
 ghost use Rattle.spec.specs.declared.Shape.{Shape};
 ghost use Rattle.spec.specs.Bytes.{part};
 ghost use Rattle.spec.specs.Gf256.{SboxTable};
-ghost use Rattle.spec.specs.Shapes.{challengeBytes, shapeOk};
-ghost use Rattle.spec.specs.Version1.{faest1, reconstructedVectorTree, reconstructedTrees, trees1Bytes, opening1Bytes};
+ghost use Rattle.spec.specs.Shapes.{challenge_bytes, shape_ok};
+ghost use Rattle.spec.specs.Version1.{faest1, reconstructed_vector_tree, reconstructed_trees, trees1_bytes, opening1_bytes};
 ghost use Rattle.verifier_forest.specs.ByWay.{CoveredPair, VectorOf};
 
 use job::Version;
@@ -33,7 +35,7 @@ fn write_tree(
     requires sbox_table { SboxTable t.now }
     requires le_w { (16 ≤ w) × (w ≤ 32) × (w % 8 ≡ 0) × (d ≤ 12) × (j < 2 ^ d) × (w * d ≤ length slots.now) × (length tree.old ≡ w * (2 * 2 ^ d - 1)) }
     ensures { (s : Shape) (ch opening : List ℕ) (i : ℕ) → VectorOf w d j slots.now s ch opening i
-        → tree.new ≡ reconstructedVectorTree faest1 s iv ch opening i }
+        → tree.new ≡ reconstructed_vector_tree faest1 s iv ch opening i }
 {
     buffers::clear_from(&mut tree[0..w], 0);
     let inner = (1usize << d) - 1;
@@ -66,8 +68,8 @@ pub fn reconstruct_trees(
     trees: &mut [u8],
 )
     requires sbox_table { SboxTable t.now }
-    requires s_value { (shapeOk s ≡ true) × (length ch.now ≡ challengeBytes s) × (length opening.now ≡ opening1Bytes s) × (length trees.old ≡ trees1Bytes s) }
-    ensures { trees.new ≡ reconstructedTrees faest1 s iv ch.now opening.now }
+    requires s_value { (shape_ok s ≡ true) × (length ch.now ≡ challenge_bytes s) × (length opening.now ≡ opening1_bytes s) × (length trees.old ≡ trees1_bytes s) }
+    ensures { trees.new ≡ reconstructed_trees faest1 s iv ch.now opening.now }
 {
     let w = rules::node_bytes(s);
     let tau = s.tau;

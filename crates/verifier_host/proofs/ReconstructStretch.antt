@@ -9,35 +9,35 @@ use lib.ListN.{length, take}
 use Rattle.spec.specs.declared.Shape.{Shape}
 use Rattle.spec.specs.declared.Stretch.{Stretch}
 use Rattle.spec.specs.declared.Answer.{Answer}
-use Rattle.spec.specs.Shapes.{resolved, shapeOk, plannedCount}
+use Rattle.spec.specs.Shapes.{resolved, shape_ok, planned_count}
 use Rattle.spec.specs.Primitives.{faest}
-use Rattle.spec.specs.Calls.{countGiven, row_ok, stretchOk, Reconstructed, reconstructed, reconstructLengths, reconstructStretchNumber, ReconstructStretch}
-use Rattle.spec.specs.HostCalls.{countSlice, withCount, HostReconstructStretch}
+use Rattle.spec.specs.Calls.{count_given, row_ok, stretch_ok, Reconstructed, reconstructed, reconstruct_lengths, reconstruct_stretch_number, ReconstructStretch}
+use Rattle.spec.specs.HostCalls.{count_slice, with_count, HostReconstructStretch}
 use Rattle.host_words.proofs.Passed as passed
 
 module _ (s : Shape) (n : ℕ) (z : Stretch) (iv ch cs op : List ℕ) (x y : Reconstructed) (count : List ℕ) (r : Answer) (m : ℕ)
     (e : m ≡ cond (eqb (length count) 4) (length iv) 0) (o : ReconstructStretch faest s n z (take m iv) ch cs op x y r) where
   abbrev beneath : List ℕ → ℕ
-  beneath q = reconstructStretchNumber (resolved s) n z ch op (reconstructLengths (resolved s) z.width q ch cs op x)
+  beneath q = reconstruct_stretch_number (resolved s) n z ch op (reconstruct_lengths (resolved s) z.width q ch cs op x)
 
   abbrev host : ℕ
-  host = reconstructStretchNumber (resolved s) n z ch op (withCount count (reconstructLengths (resolved s) z.width iv ch cs op x))
+  host = reconstruct_stretch_number (resolved s) n z ch op (with_count count (reconstruct_lengths (resolved s) z.width iv ch cs op x))
 
   full : eqb (length count) 4 ≡ true → beneath iv ≡ host
-  unfolding reconstructStretchNumber
+  unfolding reconstruct_stretch_number
   full t = rw t refl
 
   none : eqb (length count) 4 ≡ false → (beneath [] ≡ host) × passed.Silent host
-  unfolding reconstructStretchNumber
-  none t = (rw t refl, rw t (passed.silent (shapeOk (resolved s)) _ 1 (passed.silent (row_ok n) _ 2 (passed.silent (stretchOk (n / 8) z) 3 8 (refl, refl) (refl, refl)) (refl, refl)) (refl, refl)))
+  unfolding reconstruct_stretch_number
+  none t = (rw t refl, rw t (passed.silent (shape_ok (resolved s)) _ 1 (passed.silent (row_ok n) _ 2 (passed.silent (stretch_ok (n / 8) z) 3 8 (refl, refl) (refl, refl)) (refl, refl)) (refl, refl)))
 
-  pub stretch-sized : countGiven r.number ≡ true → length count ≡ 4
+  pub stretch-sized : count_given r.number ≡ true → length count ≡ 4
   stretch-sized = passed.sized iv count m e beneath host full none r.number o.number
 
-  pub stretch-host : (count' : List ℕ) → count' ≡ countSlice r.number r.count count → HostReconstructStretch faest s n z iv ch cs op x y count count' r.number
+  pub stretch-host : (count' : List ℕ) → count' ≡ count_slice r.number r.count count → HostReconstructStretch faest s n z iv ch cs op x y count count' r.number
   stretch-host count' d =
       record {
         number = passed.number iv count m e beneath host full none r.number o.number;
         buffers = passed.bytes iv count m e beneath host full none r.number o.number (λ q. reconstructed faest (resolved s) z q ch cs op) x y o.buffers;
-        counted = passed.counted iv count m e beneath host full none r.number o.number (λ q. plannedCount (resolved s) ch) r.count count' o.count d;
+        counted = passed.counted iv count m e beneath host full none r.number o.number (λ q. planned_count (resolved s) ch) r.count count' o.count d;
       }

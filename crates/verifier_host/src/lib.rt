@@ -1,4 +1,6 @@
 // The checking half for a C host: reconstruct, of the rows and of a stretch of them, on numbers and byte slices. Nothing here depends on the signing half.
+#![tactic(auto)]
+
 ghost use Rattle.spec.specs.Primitives.{faest};
 ghost use Rattle.spec.specs.HostCalls.{HostReconstruct, HostReconstructStretch};
 
@@ -25,8 +27,8 @@ pub extern "C" fn rachnoel_reconstruct(
     count: &mut [u8],
 ) -> usize
     ensures { HostReconstruct faest (record { tau = tau; k = k; w = w; t = t; level = level; kind = kind }) row_bits iv.now challenge.now corrections.now opening.now
-        (record { commitment = commitment.entry.now; tree = tree.old; leafCommitments = leaf_commitments.old; q = q.old })
-        (record { commitment = commitment.exit.now; tree = tree.new; leafCommitments = leaf_commitments.new; q = q.new })
+        (record { commitment = commitment.entry.now; tree = tree.old; leaf_commitments = leaf_commitments.old; q = q.old })
+        (record { commitment = commitment.exit.now; tree = tree.new; leaf_commitments = leaf_commitments.new; q = q.new })
         count.old count.new result }
 {
     let n = host_words::passed_on(iv.len(), count.len());
@@ -75,8 +77,8 @@ pub extern "C" fn rachnoel_reconstruct_stretch(
     count: &mut [u8],
 ) -> usize
     ensures { HostReconstructStretch faest (record { tau = tau; k = k; w = w; t = t; level = level; kind = kind }) row_bits (record { first = first; width = width }) iv.now challenge.now corrections.now opening.now
-        (record { commitment = commitment.entry.now; tree = tree.old; leafCommitments = leaf_commitments.old; q = q.old })
-        (record { commitment = commitment.exit.now; tree = tree.new; leafCommitments = leaf_commitments.new; q = q.new })
+        (record { commitment = commitment.entry.now; tree = tree.old; leaf_commitments = leaf_commitments.old; q = q.old })
+        (record { commitment = commitment.exit.now; tree = tree.new; leaf_commitments = leaf_commitments.new; q = q.new })
         count.old count.new result }
 {
     let n = host_words::passed_on(iv.len(), count.len());

@@ -1,17 +1,19 @@
 // The answer of reconstruct, by its list of tests. Nothing here can write what the call is lent.
+#![tactic(auto)]
+
 ghost use Rattle.std.specs.Prelude.{◌≡◌, true, ◌≤◌, length};
-ghost use Rattle.spec.specs.Shapes.{shapeOk, plannedCount};
-ghost use Rattle.spec.specs.Calls.{fits, commitStretchNumber, reconstructStretchNumber};
+ghost use Rattle.spec.specs.Shapes.{shape_ok, planned_count};
+ghost use Rattle.spec.specs.Calls.{fits, commit_stretch_number, reconstruct_stretch_number};
 ghost use Rattle.refusals.specs.Numbers.{Answered};
-ghost use Rattle.refusals.specs.Sizes.{reconstructSizes};
+ghost use Rattle.refusals.specs.Sizes.{reconstruct_sizes};
 
 use refusals::ReconstructLengths;
 use spec::{Answer, Shape, Stretch};
 
 // Whether the buffers of reconstruct have their lengths, for a stretch of b bytes.
 fn reconstruct_fits(s: Shape, b: usize, x: ReconstructLengths) -> bool
-    requires { (shapeOk s ≡ true) × (b ≤ 8192) }
-    ensures { result ≡ fits (reconstructSizes s b x) }
+    requires { (shape_ok s ≡ true) × (b ≤ 8192) }
+    ensures { result ≡ fits (reconstruct_sizes s b x) }
 {
     let node = rules::node_bytes(s);
     let corrections = lengths::corrections_bytes(s, b);
@@ -31,7 +33,7 @@ fn reconstruct_fits(s: Shape, b: usize, x: ReconstructLengths) -> bool
 
 // The number of the tests that reconstruct_stretch begins with, which are those of commit_stretch: 1, 2, 8, 3, or 0.
 fn reconstruct_number(s: Shape, row_bits: usize, z: Stretch, x: ReconstructLengths) -> usize
-    ensures { result ≡ commitStretchNumber s row_bits z (reconstructSizes s z.width x) }
+    ensures { result ≡ commit_stretch_number s row_bits z (reconstruct_sizes s z.width x) }
 {
     let first = refusals::front_number(s, row_bits, z);
     if first != 0 {
@@ -50,7 +52,7 @@ pub fn reconstruct_answer(
     opening: &[u8],
 ) -> Answer
     requires { (x.challenge ≡ length ch.now) × (x.opening ≡ length opening.now) }
-    ensures { Answered (reconstructStretchNumber s row_bits z ch.now opening.now (reconstructSizes s z.width x)) (plannedCount s ch.now) result }
+    ensures { Answered (reconstruct_stretch_number s row_bits z ch.now opening.now (reconstruct_sizes s z.width x)) (planned_count s ch.now) result }
 {
     let first = reconstruct_number(s, row_bits, z, x);
     if first != 0 {

@@ -10,8 +10,8 @@ use lib.ListN.{length, take, drop, length-append}
 use lib.Seq.{drop_at, drop-drop, length-take-le}
 use Rattle.spec.specs.declared.Shape.{Shape}
 use Rattle.spec.specs.Bytes.{part, zeros}
-use Rattle.spec.specs.Tree.{siblingToReveal, revealedFrom}
-use Rattle.spec.specs.Shapes.{nodeBytes}
+use Rattle.spec.specs.Tree.{sibling_to_reveal, revealed_from}
+use Rattle.spec.specs.Shapes.{node_bytes}
 use Rattle.spec.specs.Primitives.{faest}
 use Rattle.spec.specs.Leaves.{children}
 use Rattle.laws.proofs.Conjunctions.{contrary}
@@ -20,7 +20,7 @@ use Rattle.laws.proofs.Putting.{behind, put-take}
 use Rattle.planning_laws.proofs.Revealed.{revealed-longer}
 use Rattle.laws.proofs.Concat.{mul-within}
 use Rattle.tree.proofs.Growing.{node-place, length-children}
-use Rattle.verifier_tree.specs.ByNodes.{listed, readBefore, readWith, node_by, childrenBy}
+use Rattle.verifier_tree.specs.ByNodes.{listed, read_before, read_with, node_by, children_by}
 
 -- ---- parts of a buffer
 
@@ -59,12 +59,12 @@ put_two at w d y z h l =
 -- ---- a child of a listed node
 
 module _ (w : ℕ) (nodes slots : List ℕ) (n read x : ℕ) where
-  pub listed-read : listed nodes x ≡ true → read ≡ readWith nodes x read
-  unfolding readWith
+  pub listed-read : listed nodes x ≡ true → read ≡ read_with nodes x read
+  unfolding read_with
   listed-read m = sym (ap (λ (b : Bool). cond b read (read + 1)) m)
 
-  pub other-read : listed nodes x ≡ false → read + 1 ≡ readWith nodes x read
-  unfolding readWith
+  pub other-read : listed nodes x ≡ false → read + 1 ≡ read_with nodes x read
+  unfolding read_with
   other-read m = sym (ap (λ (b : Bool). cond b read (read + 1)) m)
 
   pub listed-node : listed nodes x ≡ true → zeros w ≡ node_by w nodes slots n read x
@@ -75,21 +75,21 @@ module _ (w : ℕ) (nodes slots : List ℕ) (n read x : ℕ) where
   unfolding node_by
   other-node m = sym (ap (λ (b : Bool). cond b (zeros w) (part slots (w * (n - (read + 1))) w)) m)
 
-  length-node : readWith nodes x read ≤ n → w * n ≤ length slots → length (node_by w nodes slots n read x) ≡ w
-  unfolding node_by readWith
+  length-node : read_with nodes x read ≤ n → w * n ≤ length slots → length (node_by w nodes slots n read x) ≡ w
+  unfolding node_by read_with
   length-node h l = go (listed nodes x) h
     where
       go : (b : Bool) → cond b read (read + 1) ≤ n → length (cond b (zeros w) (part slots (w * (n - (read + 1))) w)) ≡ w
       go true h = length-zeros w
       go false h = length_part slots (w * (n - (read + 1))) w (let m = mul-within w (n - (read + 1)) n (omega arith) in omega arith)
 
-pub read-longer : (nodes : List ℕ) (a l : ℕ) → a ≤ l → readBefore nodes a ≤ readBefore nodes l
-unfolding readBefore
+pub read-longer : (nodes : List ℕ) (a l : ℕ) → a ≤ l → read_before nodes a ≤ read_before nodes l
+unfolding read_before
 read-longer nodes a l h = revealed-longer (listed nodes) a l h
 
 -- the slots of two children are there where those of both together are
-both-within : (nodes : List ℕ) (x y read n : ℕ) → readWith nodes y (readWith nodes x read) ≤ n → (readWith nodes x read ≤ n) × (readWith nodes y read ≤ n)
-unfolding readWith
+both-within : (nodes : List ℕ) (x y read n : ℕ) → read_with nodes y (read_with nodes x read) ≤ n → (read_with nodes x read ≤ n) × (read_with nodes y read ≤ n)
+unfolding read_with
 both-within nodes x y read n h = go (listed nodes x) (listed nodes y) h
   where
     go : (p q : Bool) → cond q (cond p read (read + 1)) (cond p read (read + 1) + 1) ≤ n → (cond p read (read + 1) ≤ n) × (cond q read (read + 1) ≤ n)
@@ -100,50 +100,50 @@ both-within nodes x y read n h = go (listed nodes x) (listed nodes y) h
 
 -- ---- node a
 
-module _ (w : ℕ) (nodes slots : List ℕ) (n a : ℕ) (by : listed nodes a ≡ (listed nodes (2 * a + 1) || listed nodes (2 * a + 2))) (within : readBefore nodes (a + 1) ≤ n) where
+module _ (w : ℕ) (nodes slots : List ℕ) (n a : ℕ) (by : listed nodes a ≡ (listed nodes (2 * a + 1) || listed nodes (2 * a + 2))) (within : read_before nodes (a + 1) ≤ n) where
   -- any node but a listed one reveals nothing, and has the children that the generator gives
-  pub other-reads : listed nodes a ≡ false → readBefore nodes a ≡ readBefore nodes (a + 1)
-  unfolding readBefore siblingToReveal revealedFrom
+  pub other-reads : listed nodes a ≡ false → read_before nodes a ≡ read_before nodes (a + 1)
+  unfolding read_before sibling_to_reveal revealed_from
   other-reads e =
       sym
-      (ap (λ (n : ℕ). length (revealedFrom (listed nodes) n)) (add-one a) ∙ count (listed nodes (2 * a + 1)) (listed nodes (2 * a + 2)) (revealedFrom (listed nodes) a) (sym by ∙ e))
+      (ap (λ (n : ℕ). length (revealed_from (listed nodes) n)) (add-one a) ∙ count (listed nodes (2 * a + 1)) (listed nodes (2 * a + 2)) (revealed_from (listed nodes) a) (sym by ∙ e))
     where
-      count : (p q : Bool) (l : List ℕ) → (p || q) ≡ false → length (siblingToReveal p q a ++ l) ≡ length l
+      count : (p q : Bool) (l : List ℕ) → (p || q) ≡ false → length (sibling_to_reveal p q a ++ l) ≡ length l
       count true q l h = contrary refl h
       count false true l h = contrary refl h
       count false false l h = refl
 
-  pub other-children : (s : Shape) (iv x : List ℕ) → listed nodes a ≡ false → children faest s iv a x ≡ childrenBy w nodes slots n s iv a x
-  unfolding childrenBy
+  pub other-children : (s : Shape) (iv x : List ℕ) → listed nodes a ≡ false → children faest s iv a x ≡ children_by w nodes slots n s iv a x
+  unfolding children_by
   other-children s iv x e =
       sym
       (ap
-      (λ (b : Bool). cond b (node_by w nodes slots n (readBefore nodes a) (2 * a + 1) ++ node_by w nodes slots n (readBefore nodes a) (2 * a + 2)) (children faest s iv a x)) e)
+      (λ (b : Bool). cond b (node_by w nodes slots n (read_before nodes a) (2 * a + 1) ++ node_by w nodes slots n (read_before nodes a) (2 * a + 2)) (children faest s iv a x)) e)
 
   -- a listed node reads as many slots as it reveals
-  pub listed-reads : listed nodes a ≡ true → readWith nodes (2 * a + 2) (readWith nodes (2 * a + 1) (readBefore nodes a)) ≡ readBefore nodes (a + 1)
-  unfolding readBefore readWith siblingToReveal revealedFrom
+  pub listed-reads : listed nodes a ≡ true → read_with nodes (2 * a + 2) (read_with nodes (2 * a + 1) (read_before nodes a)) ≡ read_before nodes (a + 1)
+  unfolding read_before read_with sibling_to_reveal revealed_from
   listed-reads e =
       sym
-      (ap (λ (n : ℕ). length (revealedFrom (listed nodes) n)) (add-one a) ∙ count (listed nodes (2 * a + 1)) (listed nodes (2 * a + 2)) (revealedFrom (listed nodes) a) (sym by ∙ e))
+      (ap (λ (n : ℕ). length (revealed_from (listed nodes) n)) (add-one a) ∙ count (listed nodes (2 * a + 1)) (listed nodes (2 * a + 2)) (revealed_from (listed nodes) a) (sym by ∙ e))
     where
-      count : (p q : Bool) (l : List ℕ) → (p || q) ≡ true → length (siblingToReveal p q a ++ l) ≡ cond q (cond p (length l) (length l + 1)) (cond p (length l) (length l + 1) + 1)
+      count : (p q : Bool) (l : List ℕ) → (p || q) ≡ true → length (sibling_to_reveal p q a ++ l) ≡ cond q (cond p (length l) (length l + 1)) (cond p (length l) (length l + 1) + 1)
       count true true l h = refl
       count true false l h = omega arith
       count false true l h = omega arith
       count false false l h = contrary h refl
 
-  pub right-within : (read left : ℕ) → listed nodes a ≡ true → read ≡ readBefore nodes a → left ≡ readWith nodes (2 * a + 1) read → readWith nodes (2 * a + 2) left ≤ n
+  pub right-within : (read left : ℕ) → listed nodes a ≡ true → read ≡ read_before nodes a → left ≡ read_with nodes (2 * a + 1) read → read_with nodes (2 * a + 2) left ≤ n
   right-within read left e r l =
-      let z = ap (readWith nodes (2 * a + 2)) (l ∙ ap (readWith nodes (2 * a + 1)) r) ∙ listed-reads e in
+      let z = ap (read_with nodes (2 * a + 2)) (l ∙ ap (read_with nodes (2 * a + 1)) r) ∙ listed-reads e in
       omega arith
 
-  pub left-within : (read : ℕ) → listed nodes a ≡ true → read ≡ readBefore nodes a → readWith nodes (2 * a + 1) read ≤ n
-  left-within read e r = (both-within nodes (2 * a + 1) (2 * a + 2) read n (right-within read (readWith nodes (2 * a + 1) read) e r refl)).0
+  pub left-within : (read : ℕ) → listed nodes a ≡ true → read ≡ read_before nodes a → read_with nodes (2 * a + 1) read ≤ n
+  left-within read e r = (both-within nodes (2 * a + 1) (2 * a + 2) read n (right-within read (read_with nodes (2 * a + 1) read) e r refl)).0
 
   -- where the right child takes a slot the left child took none
-  right-slot : (read : ℕ) → listed nodes a ≡ true → node_by w nodes slots n (readWith nodes (2 * a + 1) read) (2 * a + 2) ≡ node_by w nodes slots n read (2 * a + 2)
-  unfolding node_by readWith
+  right-slot : (read : ℕ) → listed nodes a ≡ true → node_by w nodes slots n (read_with nodes (2 * a + 1) read) (2 * a + 2) ≡ node_by w nodes slots n read (2 * a + 2)
+  unfolding node_by read_with
   right-slot read e = go (listed nodes (2 * a + 1)) (listed nodes (2 * a + 2)) (sym by ∙ e)
     where
       go : (p q : Bool) → (p || q) ≡ true
@@ -152,26 +152,26 @@ module _ (w : ℕ) (nodes slots : List ℕ) (n a : ℕ) (by : listed nodes a ≡
       go true false h = refl
       go false false h = contrary h refl
 
-  pub length-by : (s : Shape) (iv x : List ℕ) → w ≡ nodeBytes s → w * n ≤ length slots → length (childrenBy w nodes slots n s iv a x) ≡ 2 * w
-  unfolding childrenBy
+  pub length-by : (s : Shape) (iv x : List ℕ) → w ≡ node_bytes s → w * n ≤ length slots → length (children_by w nodes slots n s iv a x) ≡ 2 * w
+  unfolding children_by
   length-by s iv x k l = go (listed nodes a) refl
     where
       go : (b : Bool) → listed nodes a ≡ b
-          → length (cond b (node_by w nodes slots n (readBefore nodes a) (2 * a + 1) ++ node_by w nodes slots n (readBefore nodes a) (2 * a + 2)) (children faest s iv a x)) ≡ 2 * w
+          → length (cond b (node_by w nodes slots n (read_before nodes a) (2 * a + 1) ++ node_by w nodes slots n (read_before nodes a) (2 * a + 2)) (children faest s iv a x)) ≡ 2 * w
       go true e =
-          let b = both-within nodes (2 * a + 1) (2 * a + 2) (readBefore nodes a) n (let z = listed-reads e in omega arith) in
-          let p = length-node w nodes slots n (readBefore nodes a) (2 * a + 1) b.0 l in
-          let q = length-node w nodes slots n (readBefore nodes a) (2 * a + 2) b.1 l in
+          let b = both-within nodes (2 * a + 1) (2 * a + 2) (read_before nodes a) n (let z = listed-reads e in omega arith) in
+          let p = length-node w nodes slots n (read_before nodes a) (2 * a + 1) b.0 l in
+          let q = length-node w nodes slots n (read_before nodes a) (2 * a + 2) b.1 l in
           simp length-append (omega arith)
       go false e = length-children faest s iv a x ∙ ap (λ (m : ℕ). 2 * m) (sym k)
 
   -- both children written
-  pub listed-children : (s : Shape) (iv x : List ℕ) (read left : ℕ) (d e f : List ℕ) → listed nodes a ≡ true → read ≡ readBefore nodes a → left ≡ readWith nodes (2 * a + 1) read
+  pub listed-children : (s : Shape) (iv x : List ℕ) (read left : ℕ) (d e f : List ℕ) → listed nodes a ≡ true → read ≡ read_before nodes a → left ≡ read_with nodes (2 * a + 1) read
       → w * n ≤ length slots → w * (2 * a + 3) ≤ length d
       → e ≡ take (w * (2 * a + 1)) d ++ (node_by w nodes slots n read (2 * a + 1) ++ drop (w * (2 * a + 1) + w) d)
       → f ≡ take (w * (2 * a + 2)) e ++ (node_by w nodes slots n left (2 * a + 2) ++ drop (w * (2 * a + 2) + w) e)
-      → f ≡ take (w * (2 * a + 1)) d ++ (childrenBy w nodes slots n s iv a x ++ drop (w * (2 * a + 3)) d)
-  unfolding childrenBy
+      → f ≡ take (w * (2 * a + 1)) d ++ (children_by w nodes slots n s iv a x ++ drop (w * (2 * a + 3)) d)
+  unfolding children_by
   listed-children s iv x read left d e f m r l room long p q =
       let y = node_by w nodes slots n read (2 * a + 1) in
       let z = node_by w nodes slots n read (2 * a + 2) in
@@ -189,4 +189,4 @@ module _ (w : ℕ) (nodes slots : List ℕ) (n a : ℕ) (by : listed nodes a ≡
       (ap (λ (k : ℕ). node_by w nodes slots n k (2 * a + 1) ++ node_by w nodes slots n k (2 * a + 2)) r
       ∙ sym
       (ap
-      (λ (b : Bool). cond b (node_by w nodes slots n (readBefore nodes a) (2 * a + 1) ++ node_by w nodes slots n (readBefore nodes a) (2 * a + 2)) (children faest s iv a x)) m))
+      (λ (b : Bool). cond b (node_by w nodes slots n (read_before nodes a) (2 * a + 1) ++ node_by w nodes slots n (read_before nodes a) (2 * a + 2)) (children faest s iv a x)) m))

@@ -1,20 +1,22 @@
 // The tree that the checking half makes of an opening (document 000, figure 5.5).
+#![tactic(auto)]
+
 ghost use Rattle.std.specs.Prelude.{◌≡◌, true, ◌||◌, ◌++◌, ◌+◌, ◌-◌, ◌*◌, ◌%◌, ◌^◌, ◌≤◌, ◌<◌, length, take, drop};
 ghost use Rattle.spec.specs.declared.Shape.{Shape};
 ghost use Rattle.spec.specs.Bytes.{part, zeros};
 ghost use Rattle.spec.specs.Gf256.{SboxTable};
-ghost use Rattle.spec.specs.Tree.{expandTree};
-ghost use Rattle.spec.specs.Shapes.{nodeBytes, challengeBytes, shapeOk, plannedCount, treeBytes, openingBytes};
+ghost use Rattle.spec.specs.Tree.{expand_tree};
+ghost use Rattle.spec.specs.Shapes.{node_bytes, challenge_bytes, shape_ok, planned_count, tree_bytes, opening_bytes};
 ghost use Rattle.spec.specs.Primitives.{faest};
-ghost use Rattle.spec.specs.Verifier.{reconstructedTree};
+ghost use Rattle.spec.specs.Verifier.{reconstructed_tree};
 ghost use Rattle.planning_laws.specs.Lists.{Descending};
-ghost use Rattle.verifier_tree.specs.ByNodes.{listed, atOrAfter, ByChildren, readBefore, Before, readWith, node_by, childrenBy};
+ghost use Rattle.verifier_tree.specs.ByNodes.{listed, at_or_after, ByChildren, read_before, Before, read_with, node_by, children_by};
 
 use job::Version;
 use spec::Shape;
 
 // Where the writing stands: how many of the covered nodes are at or after the node whose children come next, and how many at or after the next child; how many slots are read.
-#[derive(Drop)]
+#[derive(Clone, Copy)]
 pub struct Place {
     pub node: usize,
     pub child: usize,
@@ -30,7 +32,7 @@ fn wide(x: u32) -> usize
 
 // Whether x is covered, where `left` of the covered nodes are at or after it: then it is the last of these.
 fn is_next(nodes: &[u32], left: usize, x: usize) -> bool
-    requires { Descending nodes.now × (left ≡ atOrAfter nodes.now x) }
+    requires { Descending nodes.now × (left ≡ at_or_after nodes.now x) }
     ensures { result ≡ listed nodes.now x }
 {
     if left == 0 {
@@ -49,8 +51,8 @@ fn write_child(
     n: usize,
     tree: &mut [u8],
 ) -> Place
-    requires { Descending nodes.now × (p.child ≡ atOrAfter nodes.now c) × (readWith nodes.now c p.read ≤ n) × (w * n ≤ length slots.now) × (w * c + w ≤ length tree.old) }
-    ensures { (result.child ≡ atOrAfter nodes.now (c + 1)) × (result.read ≡ readWith nodes.now c p.read)
+    requires { Descending nodes.now × (p.child ≡ at_or_after nodes.now c) × (read_with nodes.now c p.read ≤ n) × (w * n ≤ length slots.now) × (w * c + w ≤ length tree.old) }
+    ensures { (result.child ≡ at_or_after nodes.now (c + 1)) × (result.read ≡ read_with nodes.now c p.read)
         × (tree.new ≡ take (w * c) tree.old ++ (node_by w nodes.now slots.now n p.read c ++ drop (w * c + w) tree.old)) }
 {
     let node = p.node;
@@ -87,11 +89,11 @@ fn write_children(
 ) -> Place
     requires sbox_table { SboxTable t.now }
     requires descending { Descending nodes.now × (listed nodes.now a ≡ (listed nodes.now (2 * a + 1) || listed nodes.now (2 * a + 2)))
-        × Before nodes.now a p × (readBefore nodes.now (a + 1) ≤ n) × (w * n ≤ length slots.now)
+        × Before nodes.now a p × (read_before nodes.now (a + 1) ≤ n) × (w * n ≤ length slots.now)
         × (w * (2 * a + 3) ≤ length tree.old) × (length tree.old < 2 ^ 32) × (16 ≤ w) × (w ≤ 32) × (w % 8 ≡ 0) }
     ensures { Before nodes.now (a + 1) result
-        × ((s : Shape) → shapeOk s ≡ true → w ≡ nodeBytes s
-        → tree.new ≡ take (w * (2 * a + 1)) tree.old ++ (childrenBy w nodes.now slots.now n s iv a (part tree.old (w * a) w) ++ drop (w * (2 * a + 3)) tree.old)) }
+        × ((s : Shape) → shape_ok s ≡ true → w ≡ node_bytes s
+        → tree.new ≡ take (w * (2 * a + 1)) tree.old ++ (children_by w nodes.now slots.now n s iv a (part tree.old (w * a) w) ++ drop (w * (2 * a + 3)) tree.old)) }
 {
     let node = p.node;
     if !is_next(nodes, node, a) {
@@ -119,9 +121,9 @@ fn write_tree(
     tree: &mut [u8],
 )
     requires sbox_table { SboxTable t.now }
-    requires le_l { (1 ≤ l) × Descending nodes.now × (listed nodes.now 0 ≡ true) × ByChildren (listed nodes.now) (l - 1) × (n ≡ readBefore nodes.now (l - 1))
+    requires le_l { (1 ≤ l) × Descending nodes.now × (listed nodes.now 0 ≡ true) × ByChildren (listed nodes.now) (l - 1) × (n ≡ read_before nodes.now (l - 1))
         × (w * n ≤ length slots.now) × (length tree.old ≡ w * (2 * l - 1)) × (length tree.old < 2 ^ 32) × (16 ≤ w) × (w ≤ 32) × (w % 8 ≡ 0) }
-    ensures { (s : Shape) → shapeOk s ≡ true → w ≡ nodeBytes s → tree.new ≡ expandTree w (zeros w) (childrenBy w nodes.now slots.now n s iv) (l - 1) }
+    ensures { (s : Shape) → shape_ok s ≡ true → w ≡ node_bytes s → tree.new ≡ expand_tree w (zeros w) (children_by w nodes.now slots.now n s iv) (l - 1) }
 {
     buffers::clear_from(&mut tree[0..w], 0);
     let m = nodes.len();
@@ -146,8 +148,8 @@ pub fn reconstruct_tree(
     tree: &mut [u8],
 )
     requires sbox_table { SboxTable t.now }
-    requires s_value { (shapeOk s ≡ true) × (length ch.now ≡ challengeBytes s) × (n ≡ plannedCount s ch.now) × (n ≤ s.t) × (length opening.now ≡ openingBytes s) × (length tree.old ≡ treeBytes s) }
-    ensures { tree.new ≡ reconstructedTree faest s iv ch.now opening.now }
+    requires s_value { (shape_ok s ≡ true) × (length ch.now ≡ challenge_bytes s) × (n ≡ planned_count s ch.now) × (n ≤ s.t) × (length opening.now ≡ opening_bytes s) × (length tree.old ≡ tree_bytes s) }
+    ensures { tree.new ≡ reconstructed_tree faest s iv ch.now opening.now }
 {
     let w = rules::node_bytes(s);
     let first = rules::commitment_bytes(s) * s.tau;

@@ -1,14 +1,16 @@
 // One vector of the checking half: the leaf commitments of its entries, its columns without the correction, and its hash, from the bytes of a tree. The
 // hidden entry's leaf commitment comes from the opening, and its leaf is never stretched.
+#![tactic(auto)]
+
 ghost use Rattle.std.specs.Prelude.{◌≡◌, List, ◌++◌, ℕ, ◌+◌, ◌*◌, ◌≤◌, ◌<◌, length, take, drop};
 ghost use Rattle.std.specs.Int.Bits.{bit_xor};
 ghost use Rattle.spec.specs.Bytes.{part, tabulate, concat};
 ghost use Rattle.spec.specs.Hashes.{hash1};
-ghost use Rattle.spec.specs.Shapes.{leafCommitmentBytes, hashBytes, depth_of, entriesOf, hiddenIndex};
-ghost use Rattle.spec.specs.Rows.{columnByte};
+ghost use Rattle.spec.specs.Shapes.{leaf_commitment_bytes, hash_bytes, depth_of, entries_of, hidden_index};
+ghost use Rattle.spec.specs.Rows.{column_byte};
 ghost use Rattle.leaf.specs.HashKeys.{HashKeys, HashMultiples};
-ghost use Rattle.job.specs.Versions.{hiddenFrom};
-ghost use Rattle.job.specs.Jobs.{entryCommitment, entryByte, givenCommitment};
+ghost use Rattle.job.specs.Versions.{hidden_from};
+ghost use Rattle.job.specs.Jobs.{entry_commitment, entry_byte, given_commitment};
 ghost use Rattle.vector.specs.Entries.{Lent};
 ghost use Rattle.vector.specs.Vectors.{Converted};
 ghost use Rattle.verifier_vector.specs.Vector.{given, uncorrected};
@@ -17,7 +19,7 @@ use job::Job;
 use vector::Run;
 
 // A vector, and the entry of it that is hidden.
-#[derive(Drop)]
+#[derive(Clone, Copy)]
 pub struct Hidden {
     pub vector: usize,
     pub entry: usize,
@@ -47,10 +49,10 @@ fn add_visible(
     lcs: &mut [u8],
     cols: &mut [u8],
 )
-    requires lent { Lent g t.now tree.now × HashMultiples g.shape g.iv x.vector m.now × (x.vector < g.shape.tau) × (x.entry < entriesOf g.shape x.vector) }
-    requires hidden_len { (length hidden.now ≡ leafCommitmentBytes g.shape) × (length lcs.old ≡ leafCommitmentBytes g.shape * entriesOf g.shape x.vector) × (length cols.old ≡ g.stretch.width * depth_of g.shape x.vector) }
-    ensures lcs_after { lcs.new ≡ concat (entriesOf g.shape x.vector) (given hidden.now (entryCommitment g tree.now x.vector) x.entry) }
-    ensures cols_after { cols.new ≡ concat (depth_of g.shape x.vector) (λ j. tabulate g.stretch.width (columnByte g.shape (entryByte g tree.now) (λ e. bit_xor e x.entry) x.vector j)) }
+    requires lent { Lent g t.now tree.now × HashMultiples g.shape g.iv x.vector m.now × (x.vector < g.shape.tau) × (x.entry < entries_of g.shape x.vector) }
+    requires hidden_len { (length hidden.now ≡ leaf_commitment_bytes g.shape) × (length lcs.old ≡ leaf_commitment_bytes g.shape * entries_of g.shape x.vector) × (length cols.old ≡ g.stretch.width * depth_of g.shape x.vector) }
+    ensures lcs_after { lcs.new ≡ concat (entries_of g.shape x.vector) (given hidden.now (entry_commitment g tree.now x.vector) x.entry) }
+    ensures cols_after { cols.new ≡ concat (depth_of g.shape x.vector) (λ j. tabulate g.stretch.width (column_byte g.shape (entry_byte g tree.now) (λ e. bit_xor e x.entry) x.vector j)) }
 {
     let w = rules::commitment_bytes(g.shape);
     let n = rules::entry_count(g.shape, x.vector);
@@ -85,10 +87,10 @@ pub fn convert(
     cols: &mut [u8],
     hash: &mut [u8],
 )
-    requires lent { Lent g t.now tree.now × HashKeys g.shape g.iv keys.now × (x.vector < g.shape.tau) × (x.entry < entriesOf g.shape x.vector) × (length hidden.now ≡ leafCommitmentBytes g.shape) }
-    requires lcs_len { (length lcs.old ≡ leafCommitmentBytes g.shape * entriesOf g.shape x.vector) × (length cols.old ≡ g.stretch.width * depth_of g.shape x.vector) × (length hash.old ≡ hashBytes g.shape) }
-    ensures { (ch opening : List ℕ) → x.entry ≡ hiddenIndex g.shape ch x.vector → hidden.now ≡ part opening (hiddenFrom g.version g.shape x.vector) (leafCommitmentBytes g.shape)
-        → Converted g.shape (givenCommitment g ch opening tree.now) (uncorrected g.shape g.stretch.width (entryByte g tree.now) ch) x.vector lcs.new cols.new hash.new }
+    requires lent { Lent g t.now tree.now × HashKeys g.shape g.iv keys.now × (x.vector < g.shape.tau) × (x.entry < entries_of g.shape x.vector) × (length hidden.now ≡ leaf_commitment_bytes g.shape) }
+    requires lcs_len { (length lcs.old ≡ leaf_commitment_bytes g.shape * entries_of g.shape x.vector) × (length cols.old ≡ g.stretch.width * depth_of g.shape x.vector) × (length hash.old ≡ hash_bytes g.shape) }
+    ensures { (ch opening : List ℕ) → x.entry ≡ hidden_index g.shape ch x.vector → hidden.now ≡ part opening (hidden_from g.version g.shape x.vector) (leaf_commitment_bytes g.shape)
+        → Converted g.shape (given_commitment g ch opening tree.now) (uncorrected g.shape g.stretch.width (entry_byte g tree.now) ch) x.vector lcs.new cols.new hash.new }
 {
     let w = rules::commitment_bytes(g.shape);
     let r = rules::rate_bytes(g.shape);

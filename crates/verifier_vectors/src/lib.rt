@@ -1,15 +1,17 @@
 // All vectors of the checking half: leaf commitments and the hashes of the vectors, and the matrix, from the bytes of a tree, an opening and a challenge; and
 // the corrections, added to the matrix.
+#![tactic(auto)]
+
 ghost use Rattle.std.specs.Prelude.{◌≡◌, true, List, ℕ, ◌+◌, ◌*◌, ◌≤◌, ◌<◌, length};
 ghost use Rattle.spec.specs.Bytes.{concat};
-ghost use Rattle.spec.specs.Shapes.{challengeBytes, leafCommitmentBytes, hashBytes, shapeOk, hiddenIndex, entriesOf, leafCommitmentsBytes, matrixBytes, correctionsBytes};
+ghost use Rattle.spec.specs.Shapes.{challenge_bytes, leaf_commitment_bytes, hash_bytes, shape_ok, hidden_index, entries_of, leaf_commitments_bytes, matrix_bytes, corrections_bytes};
 ghost use Rattle.spec.specs.Primitives.{faest};
-ghost use Rattle.spec.specs.Leaves.{leafCommitments, vectorHash};
-ghost use Rattle.spec.specs.Rows.{matrixOf};
-ghost use Rattle.spec.specs.Verifier.{verifierColumn};
+ghost use Rattle.spec.specs.Leaves.{leaf_commitments, vector_hash};
+ghost use Rattle.spec.specs.Rows.{matrix_of};
+ghost use Rattle.spec.specs.Verifier.{verifier_column};
 ghost use Rattle.leaf.specs.HashKeys.{HashKeys};
-ghost use Rattle.job.specs.Versions.{openingLength, hiddenFrom};
-ghost use Rattle.job.specs.Jobs.{Ready, entryByte, givenCommitment};
+ghost use Rattle.job.specs.Versions.{opening_length, hidden_from};
+ghost use Rattle.job.specs.Jobs.{Ready, entry_byte, given_commitment};
 ghost use Rattle.vector.specs.Entries.{Lent};
 ghost use Rattle.vector.specs.Vectors.{Before};
 ghost use Rattle.verifier_vector.specs.Vector.{uncorrected};
@@ -22,7 +24,7 @@ use verifier_vector::Hidden;
 // Where an opening has the hidden leaf commitment of vector i.
 fn hidden_from(g: Job, i: usize) -> usize
     requires { Ready g × (i < g.shape.tau) }
-    ensures { (result ≡ hiddenFrom g.version g.shape i) × (result + leafCommitmentBytes g.shape ≤ openingLength g.version g.shape) }
+    ensures { (result ≡ hidden_from g.version g.shape i) × (result + leaf_commitment_bytes g.shape ≤ opening_length g.version g.shape) }
 {
     let s = g.shape;
     let version = g.version;
@@ -45,11 +47,11 @@ fn next_vector(
     q: &mut [u8],
     hashes: &mut [u8],
 )
-    requires lent { Lent g t.now tree.now × HashKeys g.shape g.iv keys.now × (x.vector < g.shape.tau) × (x.entry < entriesOf g.shape x.vector) × (length opening.now ≡ openingLength g.version g.shape) }
-    requires lcs_len { (length lcs.old ≡ leafCommitmentsBytes g.shape) × (length q.old ≡ matrixBytes g.shape g.stretch.width) × (length hashes.old ≡ hashBytes g.shape * g.shape.tau) }
-    ensures { (ch : List ℕ) → x.entry ≡ hiddenIndex g.shape ch x.vector
-        → Before g.shape g.stretch.width (givenCommitment g ch opening.now tree.now) (uncorrected g.shape g.stretch.width (entryByte g tree.now) ch) x.vector lcs.old q.old hashes.old
-        → Before g.shape g.stretch.width (givenCommitment g ch opening.now tree.now) (uncorrected g.shape g.stretch.width (entryByte g tree.now) ch) (x.vector + 1) lcs.new q.new hashes.new }
+    requires lent { Lent g t.now tree.now × HashKeys g.shape g.iv keys.now × (x.vector < g.shape.tau) × (x.entry < entries_of g.shape x.vector) × (length opening.now ≡ opening_length g.version g.shape) }
+    requires lcs_len { (length lcs.old ≡ leaf_commitments_bytes g.shape) × (length q.old ≡ matrix_bytes g.shape g.stretch.width) × (length hashes.old ≡ hash_bytes g.shape * g.shape.tau) }
+    ensures { (ch : List ℕ) → x.entry ≡ hidden_index g.shape ch x.vector
+        → Before g.shape g.stretch.width (given_commitment g ch opening.now tree.now) (uncorrected g.shape g.stretch.width (entry_byte g tree.now) ch) x.vector lcs.old q.old hashes.old
+        → Before g.shape g.stretch.width (given_commitment g ch opening.now tree.now) (uncorrected g.shape g.stretch.width (entry_byte g tree.now) ch) (x.vector + 1) lcs.new q.new hashes.new }
 {
     let s = g.shape;
     let i = x.vector;
@@ -85,11 +87,11 @@ pub fn write_vectors(
     q: &mut [u8],
     hashes: &mut [u8],
 )
-    requires lent { Lent g t.now tree.now × HashKeys g.shape g.iv keys.now × (length ch.now ≡ challengeBytes g.shape) × (length opening.now ≡ openingLength g.version g.shape) }
-    requires lcs_len { (length lcs.old ≡ leafCommitmentsBytes g.shape) × (length q.old ≡ matrixBytes g.shape g.stretch.width) × (length hashes.old ≡ hashBytes g.shape * g.shape.tau) }
-    ensures lcs_after { lcs.new ≡ leafCommitments g.shape (givenCommitment g ch.now opening.now tree.now) }
-    ensures q_after { q.new ≡ matrixOf g.shape g.stretch.width (uncorrected g.shape g.stretch.width (entryByte g tree.now) ch.now) }
-    ensures hashes_after { hashes.new ≡ concat g.shape.tau (vectorHash faest g.shape (givenCommitment g ch.now opening.now tree.now)) }
+    requires lent { Lent g t.now tree.now × HashKeys g.shape g.iv keys.now × (length ch.now ≡ challenge_bytes g.shape) × (length opening.now ≡ opening_length g.version g.shape) }
+    requires lcs_len { (length lcs.old ≡ leaf_commitments_bytes g.shape) × (length q.old ≡ matrix_bytes g.shape g.stretch.width) × (length hashes.old ≡ hash_bytes g.shape * g.shape.tau) }
+    ensures lcs_after { lcs.new ≡ leaf_commitments g.shape (given_commitment g ch.now opening.now tree.now) }
+    ensures q_after { q.new ≡ matrix_of g.shape g.stretch.width (uncorrected g.shape g.stretch.width (entry_byte g tree.now) ch.now) }
+    ensures hashes_after { hashes.new ≡ concat g.shape.tau (vector_hash faest g.shape (given_commitment g ch.now opening.now tree.now)) }
 {
     let n = g.shape.tau;
     for i in 0..n {
@@ -105,7 +107,7 @@ pub fn write_vectors(
 
 // Adds the correction of vector i, from 1 on, to its columns where the bit of the hidden index is set; b is the length of a column.
 fn correct_vector(s: Shape, b: usize, i: usize, ch: &[u8], corrections: &[u8], q: &mut [u8])
-    requires { (shapeOk s ≡ true) × (1 ≤ i) × (i < s.tau) × (b ≤ 8192) × (length ch.now ≡ challengeBytes s) × (length corrections.now ≡ correctionsBytes s b) × (length q.old ≡ matrixBytes s b) }
+    requires { (shape_ok s ≡ true) × (1 ≤ i) × (i < s.tau) × (b ≤ 8192) × (length ch.now ≡ challenge_bytes s) × (length corrections.now ≡ corrections_bytes s b) × (length q.old ≡ matrix_bytes s b) }
     ensures { (row : ℕ → ℕ → ℕ → ℕ) → Corrected s b row ch.now corrections.now i q.old → Corrected s b row ch.now corrections.now (i + 1) q.new }
 {
     let at = b * (i - 1);
@@ -123,8 +125,8 @@ fn correct_vector(s: Shape, b: usize, i: usize, ch: &[u8], corrections: &[u8], q
 
 // Adds the corrections to the columns of all vectors but the first.
 pub fn correct_vectors(s: Shape, b: usize, ch: &[u8], corrections: &[u8], q: &mut [u8])
-    requires { (shapeOk s ≡ true) × (b ≤ 8192) × (length ch.now ≡ challengeBytes s) × (length corrections.now ≡ correctionsBytes s b) × (length q.old ≡ matrixBytes s b) }
-    ensures { (row : ℕ → ℕ → ℕ → ℕ) → q.old ≡ matrixOf s b (uncorrected s b row ch.now) → q.new ≡ matrixOf s b (verifierColumn s b row ch.now corrections.now) }
+    requires { (shape_ok s ≡ true) × (b ≤ 8192) × (length ch.now ≡ challenge_bytes s) × (length corrections.now ≡ corrections_bytes s b) × (length q.old ≡ matrix_bytes s b) }
+    ensures { (row : ℕ → ℕ → ℕ → ℕ) → q.old ≡ matrix_of s b (uncorrected s b row ch.now) → q.new ≡ matrix_of s b (verifier_column s b row ch.now corrections.now) }
 {
     let n = s.tau;
     for i in 1..n {

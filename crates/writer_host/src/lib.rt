@@ -1,4 +1,6 @@
 // The record maker's calls for a C host: write_record, and how long a record is. Nothing here depends on either half.
+#![tactic(auto)]
+
 ghost use Rattle.std.specs.Prelude.{◌≡◌};
 ghost use Rattle.record.specs.HostRecordCalls.{HostRecordLength, HostWriteRecord};
 

@@ -6,7 +6,7 @@ use mathlib.Core.Logic.{⊎_elim}
 use Prim.Native.Nat.{ℕ, ◌+◌, ◌≤◌, ◌-◌}
 use native.Mathlib.Omega.{arith}
 use borrow.Author.Rules.{rules}
-use Rattle.spec.specs.Aes.{bytesOf}
+use Rattle.spec.specs.Aes.{bytes_of}
 use Rattle.aes.specs.Rounded.{Rounded}
 use Rattle.aes.proofs.Rounds.{steps-round, rounded-none, rounded-more, rounded-cipher}
 use Rattle.aes.proofs.encrypt_pair.Statement.{statement}
@@ -67,9 +67,9 @@ returns c = λ nk key e keyed.
     let g = c.before.before.before.before.before.before.before.before.before.before.before.before.before.args in
     let j = c.before.before.before.before.before.before in (
       c.before.before.before.bytes_of.ensures
-          ∙ ap bytesOf (rounded-cipher nk g.keys.now _ _ _ _ g.n e c.before.before.before.before.before.before.before.before.before.before.before.add-round-key.ensures (before-last-x j nk e) c.before.before.before.before.last-round.ensures key keyed),
+          ∙ ap bytes_of (rounded-cipher nk g.keys.now _ _ _ _ g.n e c.before.before.before.before.before.before.before.before.before.before.before.add-round-key.ensures (before-last-x j nk e) c.before.before.before.before.last-round.ensures key keyed),
       c.bytes-of2.ensures
-          ∙ ap bytesOf (rounded-cipher nk g.keys.now _ _ _ _ g.n e c.before.before.before.before.before.before.before.before.before.add-round-key2.ensures (before-last-y j nk e) c.before.last-round2.ensures key keyed),
+          ∙ ap bytes_of (rounded-cipher nk g.keys.now _ _ _ _ g.n e c.before.before.before.before.before.before.before.before.before.add-round-key2.ensures (before-last-y j nk e) c.before.last-round2.ensures key keyed),
     )
 
 pub encrypt-pair-spec : {M : Type 1} → statement M

@@ -4,7 +4,7 @@ use mathlib.Core.List.{◌∷◌}
 use native.Mathlib.Omega.{arith}
 use borrow.Author.Rules.{rules}
 use Rattle.spec.specs.Bytes.{tabulate}
-use Rattle.spec.specs.Polynomials.{product, remainder, fieldProduct}
+use Rattle.spec.specs.Polynomials.{product, remainder, field_product}
 use Rattle.spec.specs.Gf256.{mul}
 use Rattle.spec.specs.Aes.{power2}
 use Rattle.aes_keys.proofs.KeyExpansion.{first-6, follows-6}
@@ -12,7 +12,7 @@ use Rattle.aes_keys.proofs.blocks_192.Statement.{statement}
 use Rattle.aes_keys.proofs.blocks_192.Tie as tie
 
 returns : tie.Need-returns
-unfolding tabulate product remainder fieldProduct mul power2
+unfolding tabulate product remainder field_product mul power2
 returns c =
     let key = c.before.before.before.before.before.before.before.before.before.args.key.now in
     let h0 = c.before.before.before.before.before.before.before.six-words.ensures ∙ sym (first-6 key) in

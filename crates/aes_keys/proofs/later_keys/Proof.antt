@@ -4,7 +4,7 @@ use mathlib.Core.List.{◌∷◌}
 use native.Mathlib.Omega.{arith}
 use borrow.Author.Rules.{rules}
 use Rattle.spec.specs.Bytes.{tabulate}
-use Rattle.spec.specs.Polynomials.{product, remainder, fieldProduct}
+use Rattle.spec.specs.Polynomials.{product, remainder, field_product}
 use Rattle.spec.specs.Gf256.{mul}
 use Rattle.spec.specs.Aes.{power2}
 use Rattle.aes_keys.proofs.KeyExpansion.{follows-8, odd-follows-8}
@@ -12,7 +12,7 @@ use Rattle.aes_keys.proofs.later_keys.Statement.{statement}
 use Rattle.aes_keys.proofs.later_keys.Tie as tie
 
 returns : tie.Need-returns
-unfolding tabulate product remainder fieldProduct mul power2
+unfolding tabulate product remainder field_product mul power2
 returns c = λ key h6 h7.
     let h8 = follows-8 key 3 _ _ _ (omega arith) h6 h7 c.before.before.before.before.before.before.next-key.ensures in
     let h9 = odd-follows-8 key 3 _ _ _ (omega arith) h7 h8 c.before.before.before.before.before.odd-key.ensures in

@@ -1,11 +1,11 @@
 -- The first four words by `next_key`, and each of the others as the definition has it.
 use borrow.Author.Rules.{rules}
-use Rattle.aes_keys.specs.RoundKeys.{nextSix}
+use Rattle.aes_keys.specs.RoundKeys.{next_six}
 use Rattle.aes_keys.proofs.next_six.Statement.{statement}
 use Rattle.aes_keys.proofs.next_six.Tie as tie
 
 returns : tie.Need-returns
-unfolding nextSix
+unfolding next_six
 returns c = cc
 
 pub next-six-spec : {M : Type 1} → statement M

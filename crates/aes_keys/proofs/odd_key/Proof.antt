@@ -1,11 +1,11 @@
 -- The first word as the definition has it, and the others by `chain`.
 use borrow.Author.Rules.{rules}
-use Rattle.aes_keys.specs.RoundKeys.{oddRoundKey}
+use Rattle.aes_keys.specs.RoundKeys.{odd_round_key}
 use Rattle.aes_keys.proofs.odd_key.Statement.{statement}
 use Rattle.aes_keys.proofs.odd_key.Tie as tie
 
 returns : tie.Need-returns
-unfolding oddRoundKey
+unfolding odd_round_key
 returns c = cc
 
 pub odd-key-spec : {M : Type 1} → statement M

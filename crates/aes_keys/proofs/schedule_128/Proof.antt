@@ -4,16 +4,16 @@ use mathlib.Core.List.{◌∷◌}
 use native.Mathlib.Omega.{arith}
 use borrow.Author.Rules.{rules}
 use Rattle.spec.specs.Bytes.{tabulate}
-use Rattle.spec.specs.Polynomials.{product, remainder, fieldProduct}
+use Rattle.spec.specs.Polynomials.{product, remainder, field_product}
 use Rattle.spec.specs.Gf256.{mul}
 use Rattle.spec.specs.Aes.{power2}
-use Rattle.aes_keys.specs.RoundKeys.{roundKeys}
+use Rattle.aes_keys.specs.RoundKeys.{round_keys}
 use Rattle.aes_keys.proofs.KeyExpansion.{first-keys, follows-4}
 use Rattle.aes_keys.proofs.schedule_128.Statement.{statement}
 use Rattle.aes_keys.proofs.schedule_128.Tie as tie
 
 returns : tie.Need-returns
-unfolding tabulate product remainder fieldProduct mul power2 roundKeys
+unfolding tabulate product remainder field_product mul power2 round_keys
 returns c =
     let key = c.before.before.before.before.before.before.before.before.before.before.before.before.args.key.now in
     let h0 = c.before.before.before.before.before.before.before.before.before.before.four-words.ensures ∙ sym (first-keys 4 key 0 (omega arith)) in

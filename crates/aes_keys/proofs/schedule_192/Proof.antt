@@ -5,10 +5,10 @@ use Prim.Native.Nat.{ℕ}
 use borrow.Author.Rules.{rules}
 use lib.ListN.{get_or}
 use Rattle.spec.specs.Bytes.{tabulate}
-use Rattle.spec.specs.Polynomials.{product, remainder, fieldProduct}
+use Rattle.spec.specs.Polynomials.{product, remainder, field_product}
 use Rattle.spec.specs.Gf256.{mul}
-use Rattle.spec.specs.Aes.{power2, roundKey, keyExpansion}
-use Rattle.aes_keys.specs.RoundKeys.{roundKeys, lowerFour, nextRoundKey, sixWords, threeKeys}
+use Rattle.spec.specs.Aes.{power2, round_key, key_expansion}
+use Rattle.aes_keys.specs.RoundKeys.{round_keys, lower_four, next_round_key, six_words, three_keys}
 use Rattle.aes_keys.proofs.KeyExpansion.{last-6}
 use Rattle.aes_keys.proofs.schedule_192.Statement.{statement}
 use Rattle.aes_keys.proofs.schedule_192.Tie as tie
@@ -22,32 +22,32 @@ at i x = get_or x i []
 -- the round keys that the blocks b hold, with m behind them
 abbrev laid : Blocks → List (List ℕ) → Blocks
 laid b m =
-    let i = threeKeys (at 0 b) (at 1 b) in
-    let j = threeKeys (at 2 b) (at 3 b) in
-    let k = threeKeys (at 4 b) (at 5 b) in
-    let l = threeKeys (at 6 b) (at 7 b) in
+    let i = three_keys (at 0 b) (at 1 b) in
+    let j = three_keys (at 2 b) (at 3 b) in
+    let k = three_keys (at 4 b) (at 5 b) in
+    let l = three_keys (at 6 b) (at 7 b) in
     at 0 i ∷ at 1 i ∷ at 2 i ∷ at 0 j ∷ at 1 j ∷ at 2 j ∷ at 0 k ∷ at 1 k ∷ at 2 k ∷ at 0 l ∷ at 1 l ∷ at 2 l ∷ m ∷ []
 
-laid-right : (key : List ℕ) → laid (tabulate 8 (sixWords (keyExpansion 6 key))) (roundKey (keyExpansion 6 key) 12) ≡ roundKeys 6 key
-unfolding tabulate roundKeys sixWords roundKey
+laid-right : (key : List ℕ) → laid (tabulate 8 (six_words (key_expansion 6 key))) (round_key (key_expansion 6 key) 12) ≡ round_keys 6 key
+unfolding tabulate round_keys six_words round_key
 laid-right key = refl
 
-last-key : (key : List ℕ) → nextRoundKey (lowerFour (sixWords (keyExpansion 6 key) 7)) (roundKey (keyExpansion 6 key) 11) 128 ≡ roundKey (keyExpansion 6 key) 12
-unfolding product remainder fieldProduct mul power2
+last-key : (key : List ℕ) → next_round_key (lower_four (six_words (key_expansion 6 key) 7)) (round_key (key_expansion 6 key) 11) 128 ≡ round_key (key_expansion 6 key) 12
+unfolding product remainder field_product mul power2
 last-key key = sym (last-6 key)
 
 -- the same from what the calls gave
-put : (key : List ℕ) (b i j k l : Blocks) (f m : List (List ℕ)) → b ≡ tabulate 8 (sixWords (keyExpansion 6 key)) → i ≡ threeKeys (at 0 b) (at 1 b)
-    → j ≡ threeKeys (at 2 b) (at 3 b) → k ≡ threeKeys (at 4 b) (at 5 b) → l ≡ threeKeys (at 6 b) (at 7 b) → f ≡ lowerFour (at 7 b) → m ≡ nextRoundKey f (at 2 l) 128
-    → at 0 i ∷ at 1 i ∷ at 2 i ∷ at 0 j ∷ at 1 j ∷ at 2 j ∷ at 0 k ∷ at 1 k ∷ at 2 k ∷ at 0 l ∷ at 1 l ∷ at 2 l ∷ m ∷ [] ≡ roundKeys 6 key
-unfolding tabulate sixWords roundKey
+put : (key : List ℕ) (b i j k l : Blocks) (f m : List (List ℕ)) → b ≡ tabulate 8 (six_words (key_expansion 6 key)) → i ≡ three_keys (at 0 b) (at 1 b)
+    → j ≡ three_keys (at 2 b) (at 3 b) → k ≡ three_keys (at 4 b) (at 5 b) → l ≡ three_keys (at 6 b) (at 7 b) → f ≡ lower_four (at 7 b) → m ≡ next_round_key f (at 2 l) 128
+    → at 0 i ∷ at 1 i ∷ at 2 i ∷ at 0 j ∷ at 1 j ∷ at 2 j ∷ at 0 k ∷ at 1 k ∷ at 2 k ∷ at 0 l ∷ at 1 l ∷ at 2 l ∷ m ∷ [] ≡ round_keys 6 key
+unfolding tabulate six_words round_key
 put key b i j k l f m eb ei ej ek el ef em =
-    let w = keyExpansion 6 key in
-    let lower : f ≡ lowerFour (sixWords w 7) = ef ∙ ap (λ (x : Blocks). lowerFour (at 7 x)) eb in
-    let upper : at 2 l ≡ roundKey w 11 = ap (at 2) (el ∙ ap (λ (x : Blocks). threeKeys (at 6 x) (at 7 x)) eb) in
-    let last : m ≡ roundKey w 12 = em ∙ ap₂ (λ (x y : List (List ℕ)). nextRoundKey x y 128) lower upper ∙ last-key key in
+    let w = key_expansion 6 key in
+    let lower : f ≡ lower_four (six_words w 7) = ef ∙ ap (λ (x : Blocks). lower_four (at 7 x)) eb in
+    let upper : at 2 l ≡ round_key w 11 = ap (at 2) (el ∙ ap (λ (x : Blocks). three_keys (at 6 x) (at 7 x)) eb) in
+    let last : m ≡ round_key w 12 = em ∙ ap₂ (λ (x y : List (List ℕ)). next_round_key x y 128) lower upper ∙ last-key key in
     ap₂ (λ (x y : Blocks). at 0 x ∷ at 1 x ∷ at 2 x ∷ at 0 y ∷ at 1 y ∷ at 2 y ∷ at 0 k ∷ at 1 k ∷ at 2 k ∷ at 0 l ∷ at 1 l ∷ at 2 l ∷ m ∷ []) ei ej
-    ∙ ap₂ (λ (x y : Blocks). let i = threeKeys (at 0 b) (at 1 b) in let j = threeKeys (at 2 b) (at 3 b) in at 0 i ∷ at 1 i ∷ at 2 i ∷ at 0 j ∷ at 1 j ∷ at 2 j ∷ at 0 x ∷ at 1 x ∷ at 2 x ∷ at 0 y ∷ at 1 y ∷ at 2 y ∷ m ∷ []) ek el
+    ∙ ap₂ (λ (x y : Blocks). let i = three_keys (at 0 b) (at 1 b) in let j = three_keys (at 2 b) (at 3 b) in at 0 i ∷ at 1 i ∷ at 2 i ∷ at 0 j ∷ at 1 j ∷ at 2 j ∷ at 0 x ∷ at 1 x ∷ at 2 x ∷ at 0 y ∷ at 1 y ∷ at 2 y ∷ m ∷ []) ek el
     ∙ ap₂ laid eb last
     ∙ laid-right key
 

@@ -5,12 +5,12 @@ use Prim.Native.Nat.{ℕ}
 use borrow.Author.Rules.{rules}
 use lib.ListN.{get_or}
 use Rattle.spec.specs.Bytes.{tabulate}
-use Rattle.aes_keys.specs.RoundKeys.{roundKeys}
+use Rattle.aes_keys.specs.RoundKeys.{round_keys}
 use Rattle.aes_keys.proofs.schedule_256.Statement.{statement}
 use Rattle.aes_keys.proofs.schedule_256.Tie as tie
 
 returns : tie.Need-returns
-unfolding tabulate roundKeys
+unfolding tabulate round_keys
 returns c =
     let key = c.before.before.before.before.before.before.before.before.before.before.before.before.before.before.before.before.before.before.before.before.args.key.now in
     let e = c.before.before.before.before.before.before.before.before.before.before.before.before.before.before.before.before.before.before.first-keys.ensures in

@@ -1,11 +1,11 @@
 -- `sub_word`, column by column.
 use borrow.Author.Rules.{rules}
-use Rattle.spec.specs.Aes.{subBytes}
+use Rattle.spec.specs.Aes.{sub_bytes}
 use Rattle.aes_steps.proofs.sub_bytes.Statement.{statement}
 use Rattle.aes_steps.proofs.sub_bytes.Tie as tie
 
 returns : tie.Need-returns
-unfolding subBytes
+unfolding sub_bytes
 returns c = cc
 
 pub sub-bytes-spec : {M : Type 1} → statement M

@@ -1,12 +1,12 @@
 -- `aes_steps::xor_word` meets its contract by computation.
 use mathlib.Core.Path.{refl}
 use borrow.Author.Rules.{rules}
-use Rattle.spec.specs.Aes.{xorWord}
+use Rattle.spec.specs.Aes.{xor_word}
 use Rattle.aes_steps.proofs.xor_word.Statement.{statement}
 use Rattle.aes_steps.proofs.xor_word.Tie as tie
 
 returns : tie.Need-returns
-unfolding xorWord
+unfolding xor_word
 returns c = refl
 
 pub xor-word-spec : {M : Type 1} → statement M

@@ -4,7 +4,7 @@ use Prim.Native.Nat.{ℕ, ◌/◌}
 use native.Mathlib.Omega.{arith}
 use borrow.Author.Rules.{rules}
 use lib.ListN.{length}
-use Rattle.spec.specs.Aes.{bytesOf, cipher, keyExpansion, encrypt}
+use Rattle.spec.specs.Aes.{bytes_of, cipher, key_expansion, encrypt}
 use Rattle.aes_keys.specs.RoundKeys.{Keyed}
 use Rattle.bench_exports.proofs.rattle_schedule_and_block.Statement.{statement}
 use Rattle.bench_exports.proofs.rattle_schedule_and_block.Tie as tie
@@ -16,8 +16,8 @@ returns c =
     let made = c.before.before.before.before.before.key-schedule in
     let long : length key ≡ 16 = search rules in
     c.bytes_of.ensures
-    ∙ ap bytesOf (c.before.encrypt.ensures 4 key (omega arith) (subst (λ (n : ℕ). Keyed (n / 4) key made.result) long made.ensures)
-    ∙ ap (cipher 10 (keyExpansion 4 key)) c.before.before.load-state.ensures)
+    ∙ ap bytes_of (c.before.encrypt.ensures 4 key (omega arith) (subst (λ (n : ℕ). Keyed (n / 4) key made.result) long made.ensures)
+    ∙ ap (cipher 10 (key_expansion 4 key)) c.before.before.load-state.ensures)
 
 pub rattle-schedule-and-block-spec : {M : Type 1} → statement M
 rattle-schedule-and-block-spec =

@@ -3,7 +3,7 @@ use borrow.Author.Rules.{rules}
 use native.Mathlib.Omega.{arith}
 use mathlib.Core.Path.{refl, sym, ap, ap₂, ◌∙◌}
 use borrow.Author.Tests.{ne_eqb}
-use Rattle.spec.specs.Shapes.{treeBytes, leafCommitmentsBytes, matrixBytes}
+use Rattle.spec.specs.Shapes.{tree_bytes, leaf_commitments_bytes, matrix_bytes}
 use Rattle.broker.proofs.work_lengths.Statement.{statement}
 use Rattle.broker.proofs.work_lengths.Tie as tie
 
@@ -11,7 +11,7 @@ returns : tie.Need-returns
 returns c =
     let f = c.before.before in
     let z = ne_eqb f.front_of.result.number 0 c.if1.true in
-    record { number = f.front_of.ensures.number; tree = rw z refl; leafCommitments = rw z refl; q = rw z refl; most = (omega arith, omega arith, omega arith) }
+    record { number = f.front_of.ensures.number; tree = rw z refl; leaf_commitments = rw z refl; q = rw z refl; most = (omega arith, omega arith, omega arith) }
 
 tree-bytes-requires : tie.Need-tree-bytes-requires
 tree-bytes-requires c κs =
@@ -39,9 +39,9 @@ returns-2 c =
     let p = f.front_of.ensures.said n in
     record {
       number = sym n;
-      tree = t.tree-bytes.ensures.0 ∙ ap treeBytes p.resolved;
-      leafCommitments = c.before.leaf-commitments-bytes.ensures.0 ∙ ap leafCommitmentsBytes p.resolved;
-      q = c.matrix-bytes.ensures.0 ∙ ap₂ matrixBytes p.resolved p.bytes;
+      tree = t.tree-bytes.ensures.0 ∙ ap tree_bytes p.resolved;
+      leaf_commitments = c.before.leaf-commitments-bytes.ensures.0 ∙ ap leaf_commitments_bytes p.resolved;
+      q = c.matrix-bytes.ensures.0 ∙ ap₂ matrix_bytes p.resolved p.bytes;
       most = (t.tree-bytes.ensures.1, c.before.leaf-commitments-bytes.ensures.1, c.matrix-bytes.ensures.1);
     }
 

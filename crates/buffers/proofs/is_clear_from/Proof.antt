@@ -10,24 +10,24 @@ use lib.Dec.{eqb}
 use lib.ListN.{length, get_or, drop, drop_of_length-le}
 use lib.Seq.{drop-cons}
 use borrow.Author.Tests.{eq-eqb, ne_eqb}
-use Rattle.spec.specs.Bytes.{allZero}
+use Rattle.spec.specs.Bytes.{all_zero}
 use Rattle.buffers.proofs.is_clear_from.Statement.{statement}
 use Rattle.buffers.proofs.is_clear_from.Tie as tie
 
 abbrev invariant-loop : tie.invariant-loop
-invariant-loop xs at p₀ p = (p ≤ length xs) × (allZero (drop at xs) ≡ allZero (drop p xs))
+invariant-loop xs at p₀ p = (p ≤ length xs) × (all_zero (drop at xs) ≡ all_zero (drop p xs))
 
 abbrev decreases-loop : tie.decreases-loop
 decreases-loop xs at p₀ p = length xs - p
 
 -- the byte at p, and those behind it
-clear_step : (xs : List ℕ) (p : ℕ) → p < length xs → allZero (drop p xs) ≡ (eqb (get_or xs p 0) 0 && allZero (drop (p + 1) xs))
-unfolding allZero
-clear_step xs p h = ap allZero (drop-cons xs p 0 h) ∙ ap (λ (n : ℕ). eqb (get_or xs p 0) 0 && allZero (drop n xs)) (sym (add-one p))
+clear_step : (xs : List ℕ) (p : ℕ) → p < length xs → all_zero (drop p xs) ≡ (eqb (get_or xs p 0) 0 && all_zero (drop (p + 1) xs))
+unfolding all_zero
+clear_step xs p h = ap all_zero (drop-cons xs p 0 h) ∙ ap (λ (n : ℕ). eqb (get_or xs p 0) 0 && all_zero (drop n xs)) (sym (add-one p))
 
-clear_none : (xs : List ℕ) (p : ℕ) → length xs ≤ p → allZero (drop p xs) ≡ true
-unfolding allZero
-clear_none xs p h = ap allZero (drop_of_length-le xs {i = p} h)
+clear_none : (xs : List ℕ) (p : ℕ) → length xs ≤ p → all_zero (drop p xs) ≡ true
+unfolding all_zero
+clear_none xs p h = ap all_zero (drop_of_length-le xs {i = p} h)
 
 loop-holds : tie.Need-loop-init invariant-loop decreases-loop
 loop-holds c = (omega arith, refl)
@@ -36,14 +36,14 @@ returns : tie.Need-returns invariant-loop decreases-loop
 returns c =
     let xs = c.before.before.before.before.args.xs.now in
     let l = c.before.before.before.loop in
-    sym (l.invariant.1 ∙ clear_step xs l.p (omega arith) ∙ ap (λ (b : Bool). b && allZero (drop (l.p + 1) xs)) (ne_eqb (get_or xs l.p 0) 0 c.if1.true))
+    sym (l.invariant.1 ∙ clear_step xs l.p (omega arith) ∙ ap (λ (b : Bool). b && all_zero (drop (l.p + 1) xs)) (ne_eqb (get_or xs l.p 0) 0 c.if1.true))
 
 loop-again : tie.Need-loop-preserved invariant-loop decreases-loop
 loop-again c =
     let xs = c.before.before.before.before.args.xs.now in
     let l = c.before.before.before.loop in (
       omega arith,
-      l.invariant.1 ∙ clear_step xs l.p (omega arith) ∙ ap (λ (b : Bool). b && allZero (drop (l.p + 1) xs)) (eq-eqb (get_or xs l.p 0) 0 c.if1.false),
+      l.invariant.1 ∙ clear_step xs l.p (omega arith) ∙ ap (λ (b : Bool). b && all_zero (drop (l.p + 1) xs)) (eq-eqb (get_or xs l.p 0) 0 c.if1.false),
     )
 
 returns-2 : tie.Need-returns-2 invariant-loop decreases-loop

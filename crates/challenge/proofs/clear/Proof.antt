@@ -2,13 +2,13 @@
 use Prim.Native.Nat.{◌+◌, ◌-◌, ◌≤◌}
 use mathlib.Core.Path.{◌≡◌, sym, ◌∙◌}
 use native.Mathlib.Omega.{arith}
-use Rattle.spec.specs.Challenge.{clearAt}
+use Rattle.spec.specs.Challenge.{clear_at}
 use Rattle.planning_laws.proofs.Bits.{clear-start, clear-hit, clear-miss, clear_none}
 use Rattle.challenge.proofs.clear.Statement.{statement}
 use Rattle.challenge.proofs.clear.Tie as tie
 
 abbrev invariant-loop : tie.invariant-loop
-invariant-loop ch at n j₀ j = (j ≤ n) × (clearAt ch at n ≡ clearAt ch (at + j) (n - j))
+invariant-loop ch at n j₀ j = (j ≤ n) × (clear_at ch at n ≡ clear_at ch (at + j) (n - j))
 
 abbrev decreases-loop : tie.decreases-loop
 decreases-loop ch at n j₀ j = n - j

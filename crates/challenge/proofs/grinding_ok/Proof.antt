@@ -2,8 +2,8 @@
 use mathlib.Core.Path.{ap, ◌∙◌}
 use Prim.Native.Nat.{ℕ}
 use native.Mathlib.Omega.{arith}
-use Rattle.spec.specs.Challenge.{clearAt}
-use Rattle.spec.specs.Shapes.{grindingOk}
+use Rattle.spec.specs.Challenge.{clear_at}
+use Rattle.spec.specs.Shapes.{grinding_ok}
 use Rattle.planning_laws.proofs.ShapeFacts.{shape-facts, widths, bit-all}
 use Rattle.challenge.proofs.grinding_ok.Statement.{statement}
 use Rattle.challenge.proofs.grinding_ok.Tie as tie
@@ -22,10 +22,10 @@ clear-requires c κs =
     (omega (arith, p.1), omega (arith, p.1))
 
 returns : tie.Need-returns
-unfolding grindingOk
+unfolding grinding_ok
 returns c =
     let s = c.before.before.before.args.s in
-    c.clear.ensures ∙ ap (λ (n : ℕ). clearAt c.before.before.before.args.ch.now n s.w) c.before.first_bit.ensures.0
+    c.clear.ensures ∙ ap (λ (n : ℕ). clear_at c.before.before.before.args.ch.now n s.w) c.before.first_bit.ensures.0
 
 pub grinding-ok-spec : {M : Type 1} → statement M
 grinding-ok-spec = tie.close (tie.spec first-bit-requires clear-requires returns)

@@ -6,12 +6,12 @@ use lib.ListN.{length}
 use Rattle.laws.specs.Front.{Front}
 use Rattle.laws.proofs.Front.{front-none, front-set, front-all}
 use Rattle.spec.specs.Bytes.{tabulate}
-use Rattle.spec.specs.Shapes.{hiddenIndex, hiddenIndices}
+use Rattle.spec.specs.Shapes.{hidden_index, hidden_indices}
 use Rattle.challenge.proofs.write_indices.Statement.{statement}
 use Rattle.challenge.proofs.write_indices.Tie as tie
 
 abbrev invariant-loop : tie.invariant-loop
-invariant-loop s ch out₀ i₀ out i = (i ≤ length out₀) × Front (hiddenIndex s ch) (length out₀) i out
+invariant-loop s ch out₀ i₀ out i = (i ≤ length out₀) × Front (hidden_index s ch) (length out₀) i out
 
 abbrev decreases-loop : tie.decreases-loop
 decreases-loop s ch out₀ i₀ out i = length out₀ - i
@@ -32,16 +32,16 @@ loop-again : tie.Need-loop-preserved invariant-loop decreases-loop
 loop-again c =
     let l = c.before.before.loop in
     let f = l.invariant.1.size in
-    (omega arith, front-set (hiddenIndex _ _) _ l.i l.out _ (omega arith) l.invariant.1 c.hidden-index.ensures.0)
+    (omega arith, front-set (hidden_index _ _) _ l.i l.out _ (omega arith) l.invariant.1 c.hidden-index.ensures.0)
 
 returns : tie.Need-returns invariant-loop decreases-loop
-unfolding hiddenIndices
+unfolding hidden_indices
 returns c =
     let st = c.before.before.before.before in
     let l = c.before.loop in
     let f = l.invariant.1.size in
-    front-all (hiddenIndex st.args.s st.args.ch.now) (length st.args.out.now) l.i l.out (omega arith) l.invariant.1
-    ∙ ap (λ (n : _). tabulate n (hiddenIndex st.args.s st.args.ch.now)) st.requires.2
+    front-all (hidden_index st.args.s st.args.ch.now) (length st.args.out.now) l.i l.out (omega arith) l.invariant.1
+    ∙ ap (λ (n : _). tabulate n (hidden_index st.args.s st.args.ch.now)) st.requires.2
 
 pub write-indices-spec : {M : Type 1} → statement M
 write-indices-spec =

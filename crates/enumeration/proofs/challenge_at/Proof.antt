@@ -8,10 +8,10 @@ use lib.ListN.{replicate}
 use lib.Pow.{shr-shr}
 use borrow.Author.Rules.{rules}
 use Rattle.spec.specs.Bytes.{tabulate, digits}
-use Rattle.spec.specs.Shapes.{challengeBytes}
+use Rattle.spec.specs.Shapes.{challenge_bytes}
 use Rattle.laws.specs.Front.{Front}
 use Rattle.laws.proofs.Front.{front-none, front-set, front-all}
-use Rattle.enumeration_text.specs.Listed.{challengeAt}
+use Rattle.enumeration_text.specs.Listed.{challenge_at}
 use Rattle.enumeration.proofs.challenge_at.Statement.{statement}
 use Rattle.enumeration.proofs.challenge_at.Tie as tie
 
@@ -39,7 +39,7 @@ loop-again c =
     )
 
 returns : tie.Need-returns invariant-loop decreases-loop
-unfolding challengeAt challengeBytes
+unfolding challenge_at challenge_bytes
 returns c s e =
     let l = c.before.loop in
     let x = c.before.before.args.x in

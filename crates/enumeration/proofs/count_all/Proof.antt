@@ -3,7 +3,7 @@ use Prim.Native.Nat.{◌-◌, ◌≤◌}
 use mathlib.Core.Path.{◌≡◌, ap, ◌∙◌}
 use native.Mathlib.Omega.{arith}
 use borrow.Author.Rules.{rules}
-use Rattle.spec.specs.Shapes.{plannedCount}
+use Rattle.spec.specs.Shapes.{planned_count}
 use Rattle.enumeration.proofs.Counts.{Counted, counted_none, counted-more, counted-all}
 use Rattle.enumeration.proofs.Readings.{level-128}
 use Rattle.enumeration.proofs.count_all.Statement.{statement}
@@ -25,7 +25,7 @@ loop-again c =
       l.invariant.1,
       l.invariant.2,
       counted-more s l.x l.within l.total c.before.count_of.result c.one-within.result l.invariant.3
-          (n.0 ∙ ap (plannedCount s) (c.before.before.challenge-at.ensures s (level-128 s st.requires.0 st.requires.1))) n.1 c.one-within.ensures.0 c.one-within.ensures.1,
+          (n.0 ∙ ap (planned_count s) (c.before.before.challenge-at.ensures s (level-128 s st.requires.0 st.requires.1))) n.1 c.one-within.ensures.0 c.one-within.ensures.1,
     )
 
 count-of-requires : tie.Need-count-of-requires invariant-loop decreases-loop

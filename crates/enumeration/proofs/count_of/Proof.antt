@@ -3,13 +3,13 @@ use Prim.Native.Nat.{ℕ, ◌/◌}
 use mathlib.Core.Path.{◌≡◌, ap}
 use borrow.Author.Rules.{rules}
 use Rattle.spec.specs.declared.Shape.{Shape}
-use Rattle.spec.specs.Shapes.{level, challengeBytes}
+use Rattle.spec.specs.Shapes.{level, challenge_bytes}
 use Rattle.enumeration.proofs.Counts.{count-lt}
 use Rattle.enumeration.proofs.count_of.Statement.{statement}
 use Rattle.enumeration.proofs.count_of.Tie as tie
 
-width : (s : Shape) → level s ≡ 128 → challengeBytes s ≡ 16
-unfolding challengeBytes
+width : (s : Shape) → level s ≡ 128 → challenge_bytes s ≡ 16
+unfolding challenge_bytes
 width s e = ap (λ (n : ℕ). n / 8) e
 
 revealed-nodes-requires : tie.Need-revealed-nodes-requires

@@ -3,8 +3,8 @@ use Prim.Native.Nat.{ℕ, ◌-◌, ◌*◌, ◌^◌, ◌<◌, ◌≤◌, min}
 use mathlib.Core.Path.{◌≡◌, ap, ◌∙◌}
 use borrow.Author.Rules.{rules}
 use borrow.Author.Tests.{lt-ltb, le-ltb}
-use Rattle.enumeration_text.specs.Listed.{openBits}
-use Rattle.enumeration.specs.Pieces.{linePieces}
+use Rattle.enumeration_text.specs.Listed.{open_bits}
+use Rattle.enumeration.specs.Pieces.{line_pieces}
 use Rattle.enumeration.proofs.Readings.{level-128}
 use Rattle.enumeration.proofs.put_list_piece.Statement.{statement}
 use Rattle.enumeration.proofs.put_list_piece.Tie as tie
@@ -15,18 +15,18 @@ returns c =
     let m = p.before.before in
     let t = m.before.before in
     let a = t.before.before.before.args in
-    let h : a.i < linePieces a.s = rw t.before.line-pieces.ensures.0 at t.if1.true in
-    let n : m.min.result ≡ min 1024 (2 ^ openBits a.s - 1024 * a.i) =
+    let h : a.i < line_pieces a.s = rw t.before.line-pieces.ensures.0 at t.if1.true in
+    let n : m.min.result ≡ min 1024 (2 ^ open_bits a.s - 1024 * a.i) =
     m.min.ensures ∙ ap (λ (k : ℕ). min 1024 (k - 1024 * a.i)) m.before.line-count.ensures.0 in
-    rw (lt-ltb a.i (linePieces a.s) h, ← n) p.put-lines.ensures
+    rw (lt-ltb a.i (line_pieces a.s) h, ← n) p.put-lines.ensures
 
 returns-2 : tie.Need-returns-2
 returns-2 c =
     let p = c.before.before in
     let e = p.before.before in
     let a = e.before.before.before.args in
-    let h : linePieces a.s ≤ a.i = rw e.before.line-pieces.ensures.0 at e.if1.false in
-    rw (le-ltb a.i (linePieces a.s) h) p.put-totals.ensures
+    let h : line_pieces a.s ≤ a.i = rw e.before.line-pieces.ensures.0 at e.if1.false in
+    rw (le-ltb a.i (line_pieces a.s) h) p.put-totals.ensures
 
 put-lines-requires : tie.Need-put-lines-requires
 put-lines-requires c κs =

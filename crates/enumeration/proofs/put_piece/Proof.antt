@@ -2,12 +2,12 @@
 use borrow.Author.Rules.{rules}
 use borrow.Author.Tests.{eq-eqb, ne_eqb}
 use Rattle.listing_text.proofs.Writing.{put_front}
-use Rattle.enumeration.specs.Pieces.{pieceText}
+use Rattle.enumeration.specs.Pieces.{piece_text}
 use Rattle.enumeration.proofs.put_piece.Statement.{statement}
 use Rattle.enumeration.proofs.put_piece.Tie as tie
 
 returns : tie.Need-returns
-unfolding pieceText
+unfolding piece_text
 returns c =
     let p = c.before.before in
     let t = p.before.before in
@@ -21,7 +21,7 @@ put-list-piece-requires c κs =
     (q.0, q.1, st.requires.1)
 
 returns-2 : tie.Need-returns-2
-unfolding pieceText
+unfolding piece_text
 returns-2 c =
     let p = c.before.before in
     let e = p.before.before.before in

@@ -5,7 +5,7 @@ use borrow.Author.Rules.{rules}
 use Rattle.spec.specs.Shapes.{resolved}
 use Rattle.laws.proofs.Tests.{failed, passed}
 use Rattle.listing_line.proofs.Lines.{shape-line-numbers}
-use Rattle.enumeration.proofs.Readings.{shapeNumber, unreadable, read_number, readable}
+use Rattle.enumeration.proofs.Readings.{shape_number, unreadable, read_number, readable}
 use Rattle.enumeration.proofs.read.Statement.{statement}
 use Rattle.enumeration.proofs.read.Tie as tie
 
@@ -27,7 +27,7 @@ returns-2 c =
     let number = c.shape-number.ensures in (
       readable _ number,
       record {
-        number = number ∙ ap shapeNumber shape ∙ sym (read_number input (passed e.before.shape-line-ok.ensures e.if1.false));
+        number = number ∙ ap shape_number shape ∙ sym (read_number input (passed e.before.shape-line-ok.ensures e.if1.false));
         shape = λ z. shape;
       },
     )

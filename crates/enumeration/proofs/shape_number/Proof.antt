@@ -6,7 +6,7 @@ use borrow.Author.Rules.{rules}
 use borrow.Author.Tests.{le-leb, lt-leb}
 use Rattle.laws.proofs.Tests.{failed, passed}
 use Rattle.planning_laws.proofs.ShapeFacts.{shape-facts, by_level}
-use Rattle.enumeration_text.specs.Listed.{openBits}
+use Rattle.enumeration_text.specs.Listed.{open_bits}
 use Rattle.enumeration.proofs.Readings.{open_is}
 use Rattle.enumeration.proofs.shape_number.Statement.{statement}
 use Rattle.enumeration.proofs.shape_number.Tie as tie
@@ -25,13 +25,13 @@ returns-2 : tie.Need-returns-2
 returns-2 c =
     let e = c.before.before in
     let s = e.before.before.args.s in
-    rw (passed e.before.is-shape.ensures e.if1.false, lt-leb (openBits s) 16 (omega (arith, open_is s, c.if2.true))) refl
+    rw (passed e.before.is-shape.ensures e.if1.false, lt-leb (open_bits s) 16 (omega (arith, open_is s, c.if2.true))) refl
 
 returns-3 : tie.Need-returns-3
 returns-3 c =
     let e = c.before.before in
     let s = e.before.before.args.s in
-    rw (passed e.before.is-shape.ensures e.if1.false, le-leb (openBits s) 16 (omega (arith, open_is s, c.if2.false))) refl
+    rw (passed e.before.is-shape.ensures e.if1.false, le-leb (open_bits s) 16 (omega (arith, open_is s, c.if2.false))) refl
 
 pub shape-number-spec : {M : Type 1} → statement M
 shape-number-spec = tie.close (tie.spec (λ c κs. search rules) returns sub-if2 returns-2 returns-3)

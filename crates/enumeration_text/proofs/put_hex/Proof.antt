@@ -8,13 +8,13 @@ use borrow.Author.Rules.{rules}
 use Rattle.spec.specs.Bytes.{concat}
 use Rattle.listing_text.specs.Put.{Put}
 use Rattle.listing_text.proofs.Writing.{put-none, put_next}
-use Rattle.enumeration_text.specs.Text.{hexByte, hexText}
+use Rattle.enumeration_text.specs.Text.{hex_byte, hex_text}
 use Rattle.enumeration_text.proofs.put_hex.Statement.{statement}
 use Rattle.enumeration_text.proofs.put_hex.Tie as tie
 
 abbrev invariant-loop : tie.invariant-loop
 invariant-loop out₀ at bytes end₀ i₀ out end i =
-    (i ≤ length bytes) × (length out ≡ length out₀) × (end ≡ at + 2 * i) × Put (concat i (λ j. hexByte (get_or bytes j 0))) at out₀ out end
+    (i ≤ length bytes) × (length out ≡ length out₀) × (end ≡ at + 2 * i) × Put (concat i (λ j. hex_byte (get_or bytes j 0))) at out₀ out end
 
 abbrev decreases-loop : tie.decreases-loop
 decreases-loop out₀ at bytes end₀ i₀ out end i = length bytes - i
@@ -35,7 +35,7 @@ loop-again c =
     )
 
 returns : tie.Need-returns invariant-loop decreases-loop
-unfolding hexText
+unfolding hex_text
 returns c =
     let l = c.before.loop in
     let e : l.i ≡ length c.before.before.before.before.args.bytes.now = omega arith in

@@ -3,7 +3,7 @@ use native.Mathlib.Omega.{arith}
 use borrow.Author.Rules.{rules}
 use Rattle.listing_text.proofs.Decimal.{line-short}
 use Rattle.listing_text.proofs.Writing.{put_next}
-use Rattle.enumeration_text.specs.Text.{lineText}
+use Rattle.enumeration_text.specs.Text.{line_text}
 use Rattle.enumeration_text.proofs.Lines.{hex-length}
 use Rattle.enumeration_text.proofs.put_listed.Statement.{statement}
 use Rattle.enumeration_text.proofs.put_listed.Tie as tie
@@ -36,7 +36,7 @@ put-line-requires c κs =
     )
 
 returns : tie.Need-returns
-unfolding lineText
+unfolding line_text
 returns c =
     let l = c.before.before in
     let b = l.before.before.before.before in

@@ -8,7 +8,7 @@ use lib.Bits.{bit_xor}
 use lib.ListN.{take, drop, length-drop}
 use lib.Seq.{take_all, length-take-le}
 use Rattle.spec.specs.Bytes.{number, tabulate}
-use Rattle.spec.specs.LeafHash.{leafHash, leafHashByte}
+use Rattle.spec.specs.LeafHash.{leaf_hash, leaf_hash_byte}
 use Rattle.field_576.proofs.leaf_hash.Statement.{statement}
 use Rattle.field_576.proofs.leaf_hash.Tie as tie
 
@@ -16,7 +16,7 @@ slice-aggregate-multiply : tie.Need-slice-aggregate-multiply
 slice-aggregate-multiply c = sym (length-take-le 24 c.before.before.before.args.stretched.now (omega arith))
 
 returns : tie.Need-returns
-unfolding leafHash leafHashByte
+unfolding leaf_hash leaf_hash_byte
 returns c =
     let s = c.before.before.before.before.before.before.before.before.before.args.stretched.now in
     let rest : take 72 (drop 24 s) ≡ drop 24 s = take_all 72 (drop 24 s) (rw length-drop (omega arith)) in

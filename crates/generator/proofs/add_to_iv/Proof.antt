@@ -1,6 +1,6 @@
 -- `generator::add_to_iv` meets its contract. The loop's invariant: the IV plus n is the number in out and what is to be carried to byte i - 1. The measure is i.
 use Rattle.std.proofs.Common.{◌≡◌, ℕ, ◌+◌, ◌-◌, ◌*◌, ◌/◌, ◌%◌, ◌^◌, ◌<◌, ◌≤◌, List, length, get_or, sym, refl, ap, ◌∙◌, zero-mul, arith, length-set, w8, Fits, rules}
-use Rattle.spec.specs.Bytes.{bigEndian}
+use Rattle.spec.specs.Bytes.{big_endian}
 use Rattle.laws.proofs.Numbers.{Digits}
 use Rattle.generator.proofs.Carrying.{Carried, carry-on, byte-stored, all-carried}
 use Rattle.generator.proofs.add_to_iv.Statement.{statement}
@@ -25,7 +25,7 @@ returns c =
     let l = c.before.before.loop in
     let v = l.invariant in
     let z : l.carry * 2 ^ (8 * (16 - l.i)) ≡ l.carry * 2 ^ 128 = rw (c.if1.true, zero-mul) refl in
-    all-carried _ l.out _ l.carry v.2 v.3.0 (ap (λ (x : ℕ). bigEndian l.out + x) (sym z) ∙ v.3.1)
+    all-carried _ l.out _ l.carry v.2 v.3.0 (ap (λ (x : ℕ). big_endian l.out + x) (sym z) ∙ v.3.1)
 
 sub_at : tie.Need-overflow-sub-at invariant-loop decreases-loop
 sub_at c = search rules

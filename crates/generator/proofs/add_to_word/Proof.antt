@@ -1,11 +1,11 @@
 -- The sum of the number that the word writes, written out again.
 use Rattle.std.proofs.Common.{rules}
-use Rattle.spec.specs.Generator.{addToWord}
+use Rattle.spec.specs.Generator.{add_to_word}
 use Rattle.generator.proofs.add_to_word.Statement.{statement}
 use Rattle.generator.proofs.add_to_word.Tie as tie
 
 returns : tie.Need-returns
-unfolding addToWord
+unfolding add_to_word
 returns c = cc
 
 pub add-to-word-spec : {M : Type 1} → statement M

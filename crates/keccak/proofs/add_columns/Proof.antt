@@ -2,12 +2,12 @@
 use mathlib.Core.Path.{refl}
 use borrow.Author.Rules.{rules}
 use Rattle.spec.specs.Bytes.{tabulate}
-use Rattle.spec.specs.Keccak.{addColumns}
+use Rattle.spec.specs.Keccak.{add_columns}
 use Rattle.keccak.proofs.add_columns.Statement.{statement}
 use Rattle.keccak.proofs.add_columns.Tie as tie
 
 returns : tie.Need-returns
-unfolding tabulate addColumns
+unfolding tabulate add_columns
 returns c = refl
 
 pub add-columns-spec : {M : Type 1} → statement M

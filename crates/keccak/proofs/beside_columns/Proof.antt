@@ -4,12 +4,12 @@ use lib.Bits.{bit_xor}
 use lib.ListN.{get_or}
 use borrow.Author.Rules.{rules}
 use Rattle.spec.specs.Bytes.{tabulate}
-use Rattle.spec.specs.Keccak.{besideColumns}
+use Rattle.spec.specs.Keccak.{beside_columns}
 use Rattle.keccak.proofs.beside_columns.Statement.{statement}
 use Rattle.keccak.proofs.beside_columns.Tie as tie
 
 returns : tie.Need-returns
-unfolding tabulate besideColumns
+unfolding tabulate beside_columns
 returns c =
     let at = get_or c.before.before.before.before.before.args.t1 in
     λ k.

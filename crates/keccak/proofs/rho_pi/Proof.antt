@@ -4,12 +4,12 @@ use mathlib.Core.List.{[], ◌∷◌}
 use lib.ListN.{get_or}
 use borrow.Author.Rules.{rules}
 use Rattle.spec.specs.Bytes.{tabulate, zeros}
-use Rattle.spec.specs.Keccak.{rotl, walkOffsets, rhoOffsets, rho, pi}
+use Rattle.spec.specs.Keccak.{rotl, walk_offsets, rho_offsets, rho, pi}
 use Rattle.keccak.proofs.rho_pi.Statement.{statement}
 use Rattle.keccak.proofs.rho_pi.Tie as tie
 
 returns : tie.Need-returns
-unfolding tabulate zeros rotl walkOffsets rhoOffsets rho pi
+unfolding tabulate zeros rotl walk_offsets rho_offsets rho pi
 returns c =
     let c19 = c.before.before.before.before.before in
     let c14 = c19.before.before.before.before.before in

@@ -9,7 +9,7 @@ use lib.ListN.{length}
 use borrow.Author.Rules.{rules}
 use Rattle.spec.specs.declared.Shape.{Shape}
 use Rattle.spec.specs.Bytes.{number, part}
-use Rattle.spec.specs.Shapes.{leafCommitmentBytes, shapeOk, fieldWidth, fieldPolynomial}
+use Rattle.spec.specs.Shapes.{leaf_commitment_bytes, shape_ok, field_width, field_polynomial}
 use Rattle.laws.proofs.Lists.{length_part}
 use Rattle.laws.proofs.Concat.{mul-within, mul-limit}
 use Rattle.planning_laws.proofs.ShapeFacts.{shape-facts}
@@ -20,7 +20,7 @@ use Rattle.leaf.proofs.hash_multiples.Statement.{statement}
 use Rattle.leaf.proofs.hash_multiples.Tie as tie
 
 -- where the key of vector i begins
-start_small : (s : Shape) → shapeOk s ≡ true → (w i : ℕ) → w ≤ 96 → i < s.tau → w * i ≤ 3072
+start_small : (s : Shape) → shape_ok s ≡ true → (w i : ℕ) → w ≤ 96 → i < s.tau → w * i ≤ 3072
 start_small s ok w i h k = (let f = shape-facts s ok in mul-limit w i 96 32 h (omega arith))
 
 mul-start : tie.Need-overflow-mul-multiples
@@ -47,7 +47,7 @@ key-end : tie.Need-slice-bounds-multiples-end
 key-end c =
     let start = c.before.before.before.before in
     let w = c.commitment-bytes in
-    let all : w.result * start.args.s.tau ≡ leafCommitmentBytes start.args.s * start.args.s.tau = ap (λ (n : ℕ). n * start.args.s.tau) w.ensures.0 in
+    let all : w.result * start.args.s.tau ≡ leaf_commitment_bytes start.args.s * start.args.s.tau = ap (λ (n : ℕ). n * start.args.s.tau) w.ensures.0 in
     let m = mul-within w.result start.args.i start.args.s.tau start.requires.1 in
     omega arith
 
@@ -67,7 +67,7 @@ unfolding HashMultiples
 returns c = λ iv h o.
     let g = c.before.before.before.before.before.before.args in
     let w = c.before.before.commitment-bytes in
-    subst (λ (x : List ℕ). Multiples (fieldWidth g.s) (fieldPolynomial g.s) (number 8 x) c.multiples.result) (key_of g.s iv g.keys.now h w.result g.i w.ensures.0 o) c.multiples.ensures
+    subst (λ (x : List ℕ). Multiples (field_width g.s) (field_polynomial g.s) (number 8 x) c.multiples.result) (key_of g.s iv g.keys.now h w.result g.i w.ensures.0 o) c.multiples.ensures
 
 returns-2 : tie.Need-returns-2
 unfolding HashMultiples

@@ -12,33 +12,33 @@ use Rattle.laws.proofs.Lists.{tabulate-from-0}
 use Rattle.planning_laws.proofs.ShapeFacts.{shape-facts, widths}
 use Rattle.spec.specs.declared.Shape.{Shape}
 use Rattle.spec.specs.Bytes.{tabulate}
-use Rattle.spec.specs.Shapes.{ordinary, nodeBytes, leafCommitmentBytes, keyWords, fieldWidth, fieldPolynomial, leaves}
-use Rattle.spec.specs.Generator.{generatorByte}
+use Rattle.spec.specs.Shapes.{ordinary, node_bytes, leaf_commitment_bytes, key_words, field_width, field_polynomial, leaves}
+use Rattle.spec.specs.Generator.{generator_byte}
 use Rattle.job.specs.declared.Version.TheVariants.{Two}
 use Rattle.job.specs.declared.Nonce.{Nonce}
 use Rattle.job.specs.Versions.{byte_of}
 use Rattle.job.proofs.Each.{byte-two}
-use Rattle.spec.specs.LeafHash.{leafHashByte}
+use Rattle.spec.specs.LeafHash.{leaf_hash_byte}
 use Rattle.spec.specs.Primitives.{faest, prg}
-use Rattle.spec.specs.Leaves.{hashKey, stretched, leafSeed, leafCommitment}
+use Rattle.spec.specs.Leaves.{hash_key, stretched, leaf_seed, leaf_commitment}
 use Rattle.leaf.specs.HashKeys.{HashMultiples}
 use Rattle.leaf.proofs.ByKind.{ordinary-seed, ordinary-commitment}
 use Rattle.leaf.proofs.stretch_leaf.Statement.{statement}
 use Rattle.leaf.proofs.stretch_leaf.Tie as tie
 
 -- what `fill` writes, with the tweak of the leaves of vector i
-filled : (s : Shape) (key : List ℕ) (x : Nonce) (i m : ℕ) (y : List ℕ) → x.version ≡ Two → x.tweak ≡ i + leaves s - 1 → m ≡ nodeBytes s + leafCommitmentBytes s
-    → y ≡ tabulate m (λ p. byte_of (keyWords s) key x (0 + p)) → y ≡ stretched faest s x.iv i key
+filled : (s : Shape) (key : List ℕ) (x : Nonce) (i m : ℕ) (y : List ℕ) → x.version ≡ Two → x.tweak ≡ i + leaves s - 1 → m ≡ node_bytes s + leaf_commitment_bytes s
+    → y ≡ tabulate m (λ p. byte_of (key_words s) key x (0 + p)) → y ≡ stretched faest s x.iv i key
 unfolding faest prg stretched
 filled s key x i m y v et em e =
     e
-    ∙ ap (λ (f : ℕ → ℕ). tabulate m (λ p. f (0 + p))) (byte-two (keyWords s) key x v)
-    ∙ ap₂ (λ (m t : ℕ). tabulate m (λ p. generatorByte (keyWords s) key x.iv t (0 + p))) em et
-    ∙ tabulate-from-0 (nodeBytes s + leafCommitmentBytes s) (generatorByte (keyWords s) key x.iv (i + leaves s - 1))
+    ∙ ap (λ (f : ℕ → ℕ). tabulate m (λ p. f (0 + p))) (byte-two (key_words s) key x v)
+    ∙ ap₂ (λ (m t : ℕ). tabulate m (λ p. generator_byte (key_words s) key x.iv t (0 + p))) em et
+    ∙ tabulate-from-0 (node_bytes s + leaf_commitment_bytes s) (generator_byte (key_words s) key x.iv (i + leaves s - 1))
 
 -- the seed's buffer, written whole
-seed : (s : Shape) (key iv : List ℕ) (i n : ℕ) (x d y : List ℕ) → ordinary s ≡ true → x ≡ stretched faest s iv i key → n ≡ nodeBytes s → length d ≡ nodeBytes s → y ≡ take n x ++ drop (0 + n) d
-    → y ≡ leafSeed faest s iv i key
+seed : (s : Shape) (key iv : List ℕ) (i n : ℕ) (x d y : List ℕ) → ordinary s ≡ true → x ≡ stretched faest s iv i key → n ≡ node_bytes s → length d ≡ node_bytes s → y ≡ take n x ++ drop (0 + n) d
+    → y ≡ leaf_seed faest s iv i key
 seed s key iv i n x d y o ex en ed e =
     e
     ∙ ap (λ (m : ℕ). take n x ++ drop m d) (zero-add n ∙ en ∙ sym ed)
@@ -48,14 +48,14 @@ seed s key iv i n x d y o ex en ed e =
     ∙ sym (ordinary-seed faest s iv i key o)
 
 commitment : (s : Shape) (key iv : List ℕ) (i : ℕ) (x y : List ℕ) → ordinary s ≡ true → x ≡ stretched faest s iv i key
-    → y ≡ tabulate (leafCommitmentBytes s) (leafHashByte (fieldWidth s) (fieldPolynomial s) (hashKey faest s iv i) (take (nodeBytes s) x) (drop (nodeBytes s) x))
-    → y ≡ leafCommitment faest s iv i key
+    → y ≡ tabulate (leaf_commitment_bytes s) (leaf_hash_byte (field_width s) (field_polynomial s) (hash_key faest s iv i) (take (node_bytes s) x) (drop (node_bytes s) x))
+    → y ≡ leaf_commitment faest s iv i key
 unfolding faest
 commitment s key iv i x y o ex e =
     e
-    ∙ ap (λ (l : List ℕ). tabulate (leafCommitmentBytes s) (leafHashByte (fieldWidth s) (fieldPolynomial s) (hashKey faest s iv i) (take (nodeBytes s) l) (drop (nodeBytes s) l))) ex
+    ∙ ap (λ (l : List ℕ). tabulate (leaf_commitment_bytes s) (leaf_hash_byte (field_width s) (field_polynomial s) (hash_key faest s iv i) (take (node_bytes s) l) (drop (node_bytes s) l))) ex
     ∙ ap
-    (λ (l : List ℕ). tabulate (leafCommitmentBytes s) (leafHashByte (fieldWidth s) (fieldPolynomial s) (hashKey faest s iv i) l (drop (nodeBytes s) (stretched faest s iv i key))))
+    (λ (l : List ℕ). tabulate (leaf_commitment_bytes s) (leaf_hash_byte (field_width s) (field_polynomial s) (hash_key faest s iv i) l (drop (node_bytes s) (stretched faest s iv i key))))
     (sym (ordinary-seed faest s iv i key o))
     ∙ sym (ordinary-commitment faest s iv i key o)
 
@@ -76,9 +76,9 @@ returns c = λ i tweak multiples.
     let call = c.before.before.before.before.before.before.before.before.before.before.before.before.fill in
     let words = p.3 ∙ (widths g.s (shape-facts g.s p.0)).node-words in
     let x = call.new.1.1.1.1.0 in
-    let e = filled g.s g.key.now g.x i (length g.stretched.now) x p.2 tweak p.4 (call.ensures (keyWords g.s) words) in (
+    let e = filled g.s g.key.now g.x i (length g.stretched.now) x p.2 tweak p.4 (call.ensures (key_words g.s) words) in (
       seed g.s g.key.now g.x.iv i n.result x g.seed.now _ p.1 e n.ensures.0 p.5 c.before.before.copy-part.ensures,
-      commitment g.s g.key.now g.x.iv i x _ p.1 e (c.before.before.before.before.before.before.before.leaf-hash.ensures (hashKey faest g.s g.x.iv i) (multiples p.1)),
+      commitment g.s g.key.now g.x.iv i x _ p.1 e (c.before.before.before.before.before.before.before.leaf-hash.ensures (hash_key faest g.s g.x.iv i) (multiples p.1)),
     )
 
 pub stretch-leaf-spec : {M : Type 1} → statement M

@@ -2,7 +2,7 @@
 use Prim.Native.Nat.{◌-◌}
 use mathlib.Core.Path.{refl}
 use native.Mathlib.Omega.{arith}
-use Rattle.spec.specs.Shapes.{correctionsBytes}
+use Rattle.spec.specs.Shapes.{corrections_bytes}
 use Rattle.laws.proofs.Concat.{mul-limit}
 use Rattle.planning_laws.proofs.ShapeFacts.{shape-facts}
 use Rattle.lengths.proofs.corrections_bytes.Statement.{statement}
@@ -18,7 +18,7 @@ product c =
     omega arith
 
 returns : tie.Need-returns
-unfolding correctionsBytes
+unfolding corrections_bytes
 returns c =
     let f = shape-facts c.before.args.s c.before.requires.0 in
     let m = mul-limit c.before.args.b (c.before.args.s.tau - 1) 8192 31 c.before.requires.1 (omega arith) in

@@ -3,7 +3,7 @@ use Prim.Native.Nat.{ℕ, ◌*◌}
 use mathlib.Core.Path.{ap₂}
 use native.Mathlib.Omega.{arith}
 use borrow.Author.Rules.{rules}
-use Rattle.spec.specs.Shapes.{leafCommitmentsBytes}
+use Rattle.spec.specs.Shapes.{leaf_commitments_bytes}
 use Rattle.laws.proofs.Concat.{mul-limit}
 use Rattle.lengths.proofs.leaf_commitments_bytes.Statement.{statement}
 use Rattle.lengths.proofs.leaf_commitments_bytes.Tie as tie
@@ -15,7 +15,7 @@ product c =
     omega arith
 
 returns : tie.Need-returns
-unfolding leafCommitmentsBytes
+unfolding leaf_commitments_bytes
 returns c =
     let l = c.before.leaf-count in
     let m = mul-limit c.commitment-bytes.result l.result 96 86016 c.commitment-bytes.ensures.1 l.ensures.2 in

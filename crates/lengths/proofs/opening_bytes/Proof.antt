@@ -6,16 +6,16 @@ use mathlib.Core.Path.{◌≡◌}
 use native.Mathlib.Omega.{arith}
 use borrow.Author.Rules.{rules}
 use Rattle.spec.specs.declared.Shape.{Shape}
-use Rattle.spec.specs.Shapes.{shapeOk, openingBytes}
+use Rattle.spec.specs.Shapes.{shape_ok, opening_bytes}
 use Rattle.laws.proofs.Concat.{mul-limit}
 use Rattle.planning_laws.proofs.ShapeFacts.{shape-facts}
 use Rattle.lengths.proofs.opening_bytes.Statement.{statement}
 use Rattle.lengths.proofs.opening_bytes.Tie as tie
 
-hidden-part : (s : Shape) (w : ℕ) → shapeOk s ≡ true → w ≤ 96 → w * s.tau ≤ 96 * 32
+hidden-part : (s : Shape) (w : ℕ) → shape_ok s ≡ true → w ≤ 96 → w * s.tau ≤ 96 * 32
 hidden-part s w ok h = mul-limit w s.tau 96 32 h (shape-facts s ok).tau-max
 
-slots-part : (s : Shape) (w : ℕ) → shapeOk s ≡ true → w ≤ 32 → w * s.t ≤ 32 * 512
+slots-part : (s : Shape) (w : ℕ) → shape_ok s ≡ true → w ≤ 32 → w * s.t ≤ 32 * 512
 slots-part s w ok h = mul-limit w s.t 32 512 h (shape-facts s ok).t-max
 
 hidden-product : tie.Need-overflow-mul-result
@@ -34,7 +34,7 @@ sum c =
     omega arith
 
 returns : tie.Need-returns
-unfolding openingBytes
+unfolding opening_bytes
 returns c =
     let a = c.before.before.before.before in
     let v = c.before.before.before.commitment-bytes in

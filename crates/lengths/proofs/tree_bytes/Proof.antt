@@ -3,7 +3,7 @@ use Prim.Native.Nat.{ℕ, ◌-◌, ◌*◌}
 use mathlib.Core.Path.{ap₂}
 use native.Mathlib.Omega.{arith}
 use borrow.Author.Rules.{rules}
-use Rattle.spec.specs.Shapes.{treeBytes}
+use Rattle.spec.specs.Shapes.{tree_bytes}
 use Rattle.laws.proofs.Concat.{mul-limit}
 use Rattle.lengths.proofs.tree_bytes.Statement.{statement}
 use Rattle.lengths.proofs.tree_bytes.Tie as tie
@@ -15,7 +15,7 @@ product c =
     omega arith
 
 returns : tie.Need-returns
-unfolding treeBytes
+unfolding tree_bytes
 returns c =
     let l = c.before.leaf-count in
     let m = mul-limit c.node-bytes.result (2 * l.result - 1) 32 172031 c.node-bytes.ensures.2 (omega (arith, l.ensures.2)) in

@@ -4,7 +4,7 @@ use mathlib.Core.Path.{ap, ◌∙◌}
 use lib.ListN.{drop}
 use borrow.Author.Rules.{rules}
 use Rattle.laws.proofs.Parts.{to_the_end}
-use Rattle.listing_line.specs.Line.{afterNumber}
+use Rattle.listing_line.specs.Line.{after_number}
 use Rattle.listing_line.proofs.Numbers.{after-end}
 use Rattle.listing_line.proofs.after_number.Statement.{statement}
 use Rattle.listing_line.proofs.after_number.Tie as tie
@@ -16,7 +16,7 @@ returns c =
     to_the_end text n.result ∙ after-end text n.result n.ensures.0 c.before.if1.true
 
 returns-2 : tie.Need-returns-2
-unfolding afterNumber
+unfolding after_number
 returns-2 c =
     let text = c.before.before.before.before.args.text.now in
     let n = c.before.before.digit-run in

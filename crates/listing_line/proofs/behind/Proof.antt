@@ -3,7 +3,7 @@ use Prim.Native.Nat.{ℕ, ◌-◌, ◌≤◌}
 use mathlib.Core.Path.{◌≡◌, sym, ap, ◌∙◌}
 use native.Mathlib.Omega.{arith}
 use borrow.Author.Rules.{rules}
-use Rattle.listing_line.specs.Line.{afterNumber, behind}
+use Rattle.listing_line.specs.Line.{after_number, behind}
 use Rattle.listing_line.proofs.Numbers.{behind_more}
 use Rattle.listing_line.proofs.behind.Statement.{statement}
 use Rattle.listing_line.proofs.behind.Tie as tie
@@ -21,7 +21,7 @@ loop-holds c = search rules
 loop-again : tie.Need-loop-preserved invariant-loop decreases-loop
 loop-again c =
     let l = c.before.before.loop in
-    (omega arith, c.after-number.ensures ∙ ap afterNumber l.invariant.1 ∙ sym (behind_more l.i _))
+    (omega arith, c.after-number.ensures ∙ ap after_number l.invariant.1 ∙ sym (behind_more l.i _))
 
 returns : tie.Need-returns invariant-loop decreases-loop
 returns c =

@@ -7,13 +7,13 @@ use native.Mathlib.Omega.{arith}
 use lib.ListN.{get_or, replicate}
 use Rattle.laws.specs.Front.{Front}
 use Rattle.laws.proofs.Front.{front-none, front-set, front-all}
-use Rattle.listing_line.specs.Line.{isHexDigit, hexValue, challengeOk, challengeOf}
+use Rattle.listing_line.specs.Line.{is_hex_digit, hex_value, challenge_ok, challenge_of}
 use Rattle.listing_line.proofs.Challenge.{challenge-facts, hex-at}
 use Rattle.listing_line.proofs.challenge_of.Statement.{statement}
 use Rattle.listing_line.proofs.challenge_of.Tie as tie
 
 abbrev byte : List ℕ → ℕ → ℕ
-byte text i = 16 * hexValue (get_or text (2 * i) 0) + hexValue (get_or text (2 * i + 1) 0)
+byte text i = 16 * hex_value (get_or text (2 * i) 0) + hex_value (get_or text (2 * i + 1) 0)
 
 abbrev invariant-loop : tie.invariant-loop
 invariant-loop text challenge₀ i₀ challenge i = (i ≤ 16) × Front (byte text) 16 i challenge
@@ -21,7 +21,7 @@ invariant-loop text challenge₀ i₀ challenge i = (i ≤ 16) × Front (byte te
 abbrev decreases-loop : tie.decreases-loop
 decreases-loop text challenge₀ i₀ challenge i = 16 - i
 
-digit : (text : List ℕ) (i : ℕ) → challengeOk text ≡ true → i < 32 → isHexDigit (get_or text i 0) ≡ true
+digit : (text : List ℕ) (i : ℕ) → challenge_ok text ≡ true → i < 32 → is_hex_digit (get_or text i 0) ≡ true
 digit text i e h = hex-at 32 text i (challenge-facts text e).0 h
 
 hex-value-requires : tie.Need-hex-value-requires invariant-loop decreases-loop
@@ -41,7 +41,7 @@ loop-again c =
     )
 
 returns : tie.Need-returns invariant-loop decreases-loop
-unfolding challengeOf
+unfolding challenge_of
 returns c =
     let l = c.before.loop in
     front-all (byte c.before.before.before.args.text.now) 16 l.i l.challenge c.loop-test.false l.invariant.1

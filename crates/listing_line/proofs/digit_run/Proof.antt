@@ -6,13 +6,13 @@ use native.Mathlib.Omega.{arith}
 use lib.ListN.{length, get_or}
 use borrow.Author.Count.{below_none, below_more}
 use Rattle.laws.proofs.Tests.{failed, passed}
-use Rattle.listing_line.specs.Line.{isDigit}
+use Rattle.listing_line.specs.Line.{is_digit}
 use Rattle.listing_line.proofs.Numbers.{run_is, end-no-digit}
 use Rattle.listing_line.proofs.digit_run.Statement.{statement}
 use Rattle.listing_line.proofs.digit_run.Tie as tie
 
 abbrev invariant-loop : tie.invariant-loop
-invariant-loop text i₀ i = (i ≤ length text) × ((k : ℕ) → k < i → isDigit (get_or text k 0) ≡ true)
+invariant-loop text i₀ i = (i ≤ length text) × ((k : ℕ) → k < i → is_digit (get_or text k 0) ≡ true)
 
 abbrev decreases-loop : tie.decreases-loop
 decreases-loop text i₀ i = length text - i

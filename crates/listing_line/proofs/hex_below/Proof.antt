@@ -5,19 +5,19 @@ use mathlib.Core.Bool.{true}
 use native.Mathlib.Omega.{arith}
 use borrow.Author.Rules.{rules}
 use Rattle.laws.proofs.Tests.{failed, passed}
-use Rattle.listing_line.specs.Line.{hexBelow}
+use Rattle.listing_line.specs.Line.{hex_below}
 use Rattle.listing_line.proofs.Challenge.{hex-stop, hex-more}
 use Rattle.listing_line.proofs.hex_below.Statement.{statement}
 use Rattle.listing_line.proofs.hex_below.Tie as tie
 
 abbrev invariant-loop : tie.invariant-loop
-invariant-loop text n i₀ i = (i ≤ n) × (hexBelow i text ≡ true)
+invariant-loop text n i₀ i = (i ≤ n) × (hex_below i text ≡ true)
 
 abbrev decreases-loop : tie.decreases-loop
 decreases-loop text n i₀ i = n - i
 
 loop-holds : tie.Need-loop-init invariant-loop decreases-loop
-unfolding hexBelow
+unfolding hex_below
 loop-holds c = search rules
 
 returns : tie.Need-returns invariant-loop decreases-loop
@@ -33,7 +33,7 @@ loop-again c =
 returns-2 : tie.Need-returns-2 invariant-loop decreases-loop
 returns-2 c =
     let l = c.before.loop in
-    sym (ap (λ n. hexBelow n c.before.before.before.args.text.now) (omega arith) ∙ l.invariant.1)
+    sym (ap (λ n. hex_below n c.before.before.before.args.text.now) (omega arith) ∙ l.invariant.1)
 
 pub hex-below-spec : {M : Type 1} → statement M
 hex-below-spec =

@@ -5,19 +5,19 @@ use native.Mathlib.Omega.{arith}
 use borrow.Author.Rules.{rules}
 use native.Mathlib.Numerals.{add-one}
 use lib.ListN.{get_or, take}
-use Rattle.listing_line.specs.Line.{digitRun, decimalFrom, number_of}
+use Rattle.listing_line.specs.Line.{digit_run, decimal_from, number_of}
 use Rattle.listing_line.proofs.Numbers.{digit-bounds, run-digits, value-more, value-small}
 use Rattle.listing_line.proofs.number_of.Statement.{statement}
 use Rattle.listing_line.proofs.number_of.Tie as tie
 
 abbrev invariant-loop : tie.invariant-loop
-invariant-loop text n v₀ i₀ v i = (i ≤ n) × (v ≡ decimalFrom 0 (take i text))
+invariant-loop text n v₀ i₀ v i = (i ≤ n) × (v ≡ decimal_from 0 (take i text))
 
 abbrev decreases-loop : tie.decreases-loop
 decreases-loop text n v₀ i₀ v i = n - i
 
 loop-holds : tie.Need-loop-init invariant-loop decreases-loop
-unfolding decimalFrom
+unfolding decimal_from
 loop-holds c = search rules
 
 -- in the loop: the number so far is small, and the next byte is a digit
@@ -27,7 +27,7 @@ known : (c : tie.In-loop invariant-loop decreases-loop) → (c.before.loop.v < 1
 known c =
     let st = c.before.before.before.before in
     let l = c.before.loop in
-    let h : l.i < digitRun st.args.text.now = rw c.before.before.digit-run.ensures.0 at c.loop-test.true in
+    let h : l.i < digit_run st.args.text.now = rw c.before.before.digit-run.ensures.0 at c.loop-test.true in
     let d = digit-bounds (get_or st.args.text.now l.i 0) (run-digits _ _ h) in
     (rw l.invariant.1 (value-small _ _ st.requires h), d.0, d.1)
 
@@ -43,8 +43,8 @@ unfolding number_of
 returns c =
     let text = c.before.before.before.before.args.text.now in
     let l = c.before.loop in
-    let e : l.i ≡ digitRun text = omega (arith, c.before.before.digit-run.ensures.0) in
-    l.invariant.1 ∙ ap (λ (n : ℕ). decimalFrom 0 (take n text)) e
+    let e : l.i ≡ digit_run text = omega (arith, c.before.before.digit-run.ensures.0) in
+    l.invariant.1 ∙ ap (λ (n : ℕ). decimal_from 0 (take n text)) e
 
 pub number-of-spec : {M : Type 1} → statement M
 number-of-spec =

@@ -6,7 +6,7 @@ use native.Mathlib.Numerals.{add-one}
 use lib.ListN.{length, get_or}
 use borrow.Author.Rules.{rules}
 use Rattle.spec.specs.Bytes.{concat}
-use Rattle.listing_text.specs.Put.{Put, numberLines}
+use Rattle.listing_text.specs.Put.{Put, number_lines}
 use Rattle.listing_text.proofs.Decimal.{line-short}
 use Rattle.listing_text.proofs.Writing.{put-none, put_next}
 use Rattle.listing_text.proofs.put_lines.Statement.{statement}
@@ -14,7 +14,7 @@ use Rattle.listing_text.proofs.put_lines.Tie as tie
 
 abbrev invariant-loop : tie.invariant-loop
 invariant-loop out₀ at numbers end₀ i₀ out end i =
-    (i ≤ length numbers) × (length out ≡ length out₀) × (end ≤ at + 6 * i) × Put (numberLines numbers i) at out₀ out end
+    (i ≤ length numbers) × (length out ≡ length out₀) × (end ≤ at + 6 * i) × Put (number_lines numbers i) at out₀ out end
 
 abbrev decreases-loop : tie.decreases-loop
 decreases-loop out₀ at numbers end₀ i₀ out end i = length numbers - i

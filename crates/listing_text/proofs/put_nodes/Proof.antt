@@ -2,7 +2,7 @@
 use native.Mathlib.Omega.{arith}
 use lib.ListN.{length}
 use borrow.Author.Rules.{rules}
-use Rattle.listing_text.specs.Text.{nodesText}
+use Rattle.listing_text.specs.Text.{nodes_text}
 use Rattle.listing_text.proofs.Decimal.{line-short}
 use Rattle.listing_text.proofs.Writing.{put_next}
 use Rattle.listing_text.proofs.put_nodes.Statement.{statement}
@@ -26,7 +26,7 @@ put-lines-requires c κs =
     )
 
 returns : tie.Need-returns
-unfolding nodesText
+unfolding nodes_text
 returns c =
     let l = c.before.before.before.before.before.before in
     put_next (put_next l.before.before.before.before.put-bytes.ensures l.put-line.ensures) c.before.before.put-lines.ensures

@@ -3,7 +3,7 @@ use native.Mathlib.Omega.{arith}
 use borrow.Author.Rules.{rules}
 use Rattle.listing_text.proofs.Decimal.{decimal-length}
 use Rattle.listing_text.proofs.Writing.{put_next}
-use Rattle.listing_text.specs.Text.{pairText}
+use Rattle.listing_text.specs.Text.{pair_text}
 use Rattle.listing_text.proofs.put_pair.Statement.{statement}
 use Rattle.listing_text.proofs.put_pair.Tie as tie
 
@@ -52,7 +52,7 @@ put-byte-requires-2 c κs =
     )
 
 returns : tie.Need-returns
-unfolding pairText
+unfolding pair_text
 returns c =
     let f = c.before.before in
     let e = f.before.before.before.before in

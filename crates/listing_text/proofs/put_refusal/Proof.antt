@@ -1,14 +1,14 @@
 -- The word, and behind it the line with the number.
 use native.Mathlib.Omega.{arith}
 use borrow.Author.Rules.{rules}
-use Rattle.listing_text.specs.Text.{refusedText}
+use Rattle.listing_text.specs.Text.{refused_text}
 use Rattle.listing_text.proofs.Decimal.{line-short}
 use Rattle.listing_text.proofs.Writing.{put_next}
 use Rattle.listing_text.proofs.put_refusal.Statement.{statement}
 use Rattle.listing_text.proofs.put_refusal.Tie as tie
 
 returns : tie.Need-returns
-unfolding refusedText
+unfolding refused_text
 returns c =
     let l = c.before.before in
     let w = l.before.before.before.before in

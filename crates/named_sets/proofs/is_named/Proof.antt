@@ -2,12 +2,12 @@
 use borrow.Author.Rules.{rules}
 use mathlib.Core.Path.{sym, ap₂, ◌∙◌}
 use mathlib.Core.Bool.{◌||◌, or-false}
-use Rattle.named_sets.specs.NamedSets.{sets, shapeOfSet, rowOfSet, named_in, namedOk}
+use Rattle.named_sets.specs.NamedSets.{sets, shape_of_set, row_of_set, named_in, named_ok}
 use Rattle.named_sets.proofs.is_named.Statement.{statement}
 use Rattle.named_sets.proofs.is_named.Tie as tie
 
 returns : tie.Need-returns
-unfolding sets shapeOfSet rowOfSet named_in namedOk
+unfolding sets shape_of_set row_of_set named_in named_ok
 returns c =
     let em = c.before.before.before.before.before.before in
     ap₂ ◌||◌ c.before.before.before.before.before.is-row7.ensures

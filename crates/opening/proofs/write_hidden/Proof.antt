@@ -8,8 +8,8 @@ use native.Mathlib.Nat.{mul-zero}
 use lib.ListN.{length, take, drop}
 use Rattle.spec.specs.declared.Shape.{Shape}
 use Rattle.spec.specs.Bytes.{part, concat}
-use Rattle.spec.specs.Shapes.{leafCommitmentBytes, leaves, firstEntry, hiddenIndex, leafCommitmentsBytes}
-use Rattle.spec.specs.Signer.{leafCommitmentAt}
+use Rattle.spec.specs.Shapes.{leaf_commitment_bytes, leaves, first_entry, hidden_index, leaf_commitments_bytes}
+use Rattle.spec.specs.Signer.{leaf_commitment_at}
 use Rattle.laws.proofs.Concat.{mul_next, mul-within, mul-limit}
 use Rattle.laws.proofs.Lists.{length_part}
 use Rattle.laws.proofs.Putting.{put_next}
@@ -18,7 +18,7 @@ use Rattle.opening.proofs.write_hidden.Statement.{statement}
 use Rattle.opening.proofs.write_hidden.Tie as tie
 
 abbrev hidden : Shape → List ℕ → List ℕ → ℕ → List ℕ
-hidden s ch lcs i = leafCommitmentAt s lcs i (hiddenIndex s ch i)
+hidden s ch lcs i = leaf_commitment_at s lcs i (hidden_index s ch i)
 
 abbrev invariant-loop : tie.invariant-loop
 invariant-loop s ch lcs out₀ tau w i₀ out i = (i ≤ tau) × (length out ≡ length out₀) × (take (w * i) out ≡ concat i (hidden s ch lcs))
@@ -45,19 +45,19 @@ mul-to c =
     omega arith
 
 copy-part-requires : tie.Need-copy-part-requires invariant-loop decreases-loop
-unfolding leafCommitmentsBytes
+unfolding leaf_commitments_bytes
 copy-part-requires c κs =
     let start = c.before.before.before.before.before.before.before.before.before in
     let w = c.before.before.before.before.before.commitment-bytes in
     let s = start.args.s in
-    let all : w.result * leaves s ≡ leafCommitmentBytes s * leaves s = ap (λ (n : ℕ). n * leaves s) w.ensures.0 in
-    let front : w.result * s.tau ≡ leafCommitmentBytes s * s.tau = ap (λ (n : ℕ). n * s.tau) w.ensures.0 in
+    let all : w.result * leaves s ≡ leaf_commitment_bytes s * leaves s = ap (λ (n : ℕ). n * leaves s) w.ensures.0 in
+    let front : w.result * s.tau ≡ leaf_commitment_bytes s * s.tau = ap (λ (n : ℕ). n * s.tau) w.ensures.0 in
     let a = mul-within w.result c.before.entry_of.result (leaves s) c.before.entry_of.ensures.1 in
     let b = mul-within w.result c.before.before.before.before.loop.i s.tau (omega arith) in
     (omega arith, omega arith)
 
 loop-again : tie.Need-loop-preserved invariant-loop decreases-loop
-unfolding leafCommitmentAt leafCommitmentsBytes
+unfolding leaf_commitment_at leaf_commitments_bytes
 loop-again c =
     let start = c.before.before.before.before.before.before.before.before.before.before.before.before in
     let g = start.args in
@@ -65,11 +65,11 @@ loop-again c =
     let w = c.before.before.before.before.before.before.before.before.commitment-bytes in
     let entry = c.before.before.before.before.entry_of in
     let j = c.before.before.before.before.before.hidden-index in
-    let of : entry.result ≡ firstEntry g.s l.i + hiddenIndex g.s g.ch.now l.i = entry.ensures.0 ∙ ap (λ (n : ℕ). firstEntry g.s l.i + n) j.ensures.0 in
-    let all : w.result * leaves g.s ≡ leafCommitmentBytes g.s * leaves g.s = ap (λ (n : ℕ). n * leaves g.s) w.ensures.0 in
+    let of : entry.result ≡ first_entry g.s l.i + hidden_index g.s g.ch.now l.i = entry.ensures.0 ∙ ap (λ (n : ℕ). first_entry g.s l.i + n) j.ensures.0 in
+    let all : w.result * leaves g.s ≡ leaf_commitment_bytes g.s * leaves g.s = ap (λ (n : ℕ). n * leaves g.s) w.ensures.0 in
     let within = mul-within w.result entry.result (leaves g.s) entry.ensures.1 in
     let room = mul-within w.result l.i g.s.tau (omega arith) in
-    let front : w.result * g.s.tau ≡ leafCommitmentBytes g.s * g.s.tau = ap (λ (n : ℕ). n * g.s.tau) w.ensures.0 in
+    let front : w.result * g.s.tau ≡ leaf_commitment_bytes g.s * g.s.tau = ap (λ (n : ℕ). n * g.s.tau) w.ensures.0 in
     let taken : part g.lcs.now (w.result * entry.result) w.result ≡ hidden g.s g.ch.now g.lcs.now l.i =
     ap₂ (λ (m n : ℕ). part g.lcs.now (m * n) m) w.ensures.0 of in
     let out = c.before.before.copy-part.new.1.1.1.0 in (

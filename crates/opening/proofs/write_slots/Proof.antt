@@ -6,8 +6,8 @@ use Prim.Native.Nat.{ℕ, ◌+◌, ◌-◌, ◌*◌}
 use native.Mathlib.Omega.{arith}
 use lib.ListN.{length, get_or, take}
 use Rattle.spec.specs.Bytes.{part, concat, zeros}
-use Rattle.spec.specs.Shapes.{nodeBytes, leafCommitmentBytes, leaves, treeBytes, openingBytes}
-use Rattle.spec.specs.Leaves.{nodeAt}
+use Rattle.spec.specs.Shapes.{node_bytes, leaf_commitment_bytes, leaves, tree_bytes, opening_bytes}
+use Rattle.spec.specs.Leaves.{node_at}
 use Rattle.laws.proofs.Concat.{mul-within, mul-limit, mul-rest}
 use Rattle.planning_laws.proofs.ShapeFacts.{shape-facts}
 use Rattle.opening.proofs.write_slots.Statement.{statement}
@@ -22,21 +22,21 @@ mul-first c =
     omega arith
 
 write-nodes-requires : tie.Need-write-nodes-requires
-unfolding treeBytes openingBytes
+unfolding tree_bytes opening_bytes
 write-nodes-requires c κs =
     let start = c.before.before.before.before.before.before.before in
     let s = start.args.s in
     let w = c.before.before.before.node-bytes in
     let v = c.before.before.commitment-bytes in
     let p = start.requires in
-    let slots : w.result * s.t ≡ nodeBytes s * s.t = ap (λ (n : ℕ). n * s.t) w.ensures.0 in
-    let front : v.result * s.tau ≡ leafCommitmentBytes s * s.tau = ap (λ (n : ℕ). n * s.tau) v.ensures.0 in
-    let all : w.result * (2 * leaves s - 1) ≡ nodeBytes s * (2 * leaves s - 1) = ap (λ (n : ℕ). n * (2 * leaves s - 1)) w.ensures.0 in
+    let slots : w.result * s.t ≡ node_bytes s * s.t = ap (λ (n : ℕ). n * s.t) w.ensures.0 in
+    let front : v.result * s.tau ≡ leaf_commitment_bytes s * s.tau = ap (λ (n : ℕ). n * s.tau) v.ensures.0 in
+    let all : w.result * (2 * leaves s - 1) ≡ node_bytes s * (2 * leaves s - 1) = ap (λ (n : ℕ). n * (2 * leaves s - 1)) w.ensures.0 in
     let used = mul-rest w.result start.args.n s.t p.1.0 in
     (omega arith, p.1.1, omega arith, λ m h. let q = mul-within w.result (get_or start.args.nodes.now m 0) (2 * leaves s - 1) (p.1.2 m h) in omega arith)
 
 mul-count : tie.Need-overflow-mul-clear-from
-unfolding openingBytes
+unfolding opening_bytes
 mul-count c =
     let start = c.before.before.before.before.before.before.before.before.before.before.before in
     let f = shape-facts start.args.s start.requires.0.0 in
@@ -57,7 +57,7 @@ sum c =
     omega arith
 
 clear-from-requires : tie.Need-clear-from-requires
-unfolding openingBytes
+unfolding opening_bytes
 clear-from-requires c κs =
     let start = c.before.before.before.before.before.before.before.before.before.before.before in
     let s = start.args.s in
@@ -65,13 +65,13 @@ clear-from-requires c κs =
     let v = c.before.before.before.before.before.before.commitment-bytes in
     let k = c.before.before.before.write-nodes.auto.1.1.1.1.0 in
     let p = start.requires in
-    let slots : w.result * s.t ≡ nodeBytes s * s.t = ap (λ (n : ℕ). n * s.t) w.ensures.0 in
-    let front : v.result * s.tau ≡ leafCommitmentBytes s * s.tau = ap (λ (n : ℕ). n * s.tau) v.ensures.0 in
+    let slots : w.result * s.t ≡ node_bytes s * s.t = ap (λ (n : ℕ). n * s.t) w.ensures.0 in
+    let front : v.result * s.tau ≡ leaf_commitment_bytes s * s.tau = ap (λ (n : ℕ). n * s.tau) v.ensures.0 in
     let used = mul-rest w.result start.args.n s.t p.1.0 in
     omega arith
 
 returns : tie.Need-returns
-unfolding openingBytes nodeAt
+unfolding opening_bytes node_at
 returns c =
     let start = c.before.before.before.before.before.before.before.before.before.before.before.before.before.before in
     let written = c.before.before.before.before.before.before.write-nodes in
@@ -81,8 +81,8 @@ returns c =
     let p = start.requires in
     let g = start.args in
     let s = g.s in
-    let slots : w.result * s.t ≡ nodeBytes s * s.t = ap (λ (n : ℕ). n * s.t) w.ensures.0 in
-    let front : v.result * s.tau ≡ leafCommitmentBytes s * s.tau = ap (λ (n : ℕ). n * s.tau) v.ensures.0 in
+    let slots : w.result * s.t ≡ node_bytes s * s.t = ap (λ (n : ℕ). n * s.t) w.ensures.0 in
+    let front : v.result * s.tau ≡ leaf_commitment_bytes s * s.tau = ap (λ (n : ℕ). n * s.tau) v.ensures.0 in
     let used = mul-rest w.result g.n s.t p.1.0 in
     let rest : length written.new.1.1.1.1.0 - (v.result * s.tau + w.result * g.n) ≡ w.result * (s.t - g.n) = omega arith in
     c.before.before.clear-from.ensures ∙ ap₂ (λ (x : List ℕ) (n : ℕ). x ++ zeros n) written.ensures rest

@@ -7,11 +7,11 @@ use lib.ListN.{length}
 use Rattle.spec.specs.Hashes.{hash1}
 use Rattle.spec.specs.Shapes.{rate}
 use Rattle.spec.specs.Primitives.{faest}
-use Rattle.spec.specs.Leaves.{leafKey, commitmentOf}
-use Rattle.spec.specs.Rows.{rowByte, stretchByte}
-use Rattle.spec.specs.Verifier.{hiddenLeafCommitment, verifierLeafCommitment}
-use Rattle.job.specs.Versions.{primitivesOf, leafNode, nodesBytes, leafSeedOf, leafCommitmentOf, openingLength, hiddenFrom}
-use Rattle.job.specs.Jobs.{entryCommitment, entryByte, givenCommitment}
+use Rattle.spec.specs.Leaves.{leaf_key, commitment_of}
+use Rattle.spec.specs.Rows.{row_byte, stretch_byte}
+use Rattle.spec.specs.Verifier.{hidden_leaf_commitment, verifier_leaf_commitment}
+use Rattle.job.specs.Versions.{primitives_of, leaf_node, nodes_bytes, leaf_seed_of, leaf_commitment_of, opening_length, hidden_from}
+use Rattle.job.specs.Jobs.{entry_commitment, entry_byte, given_commitment}
 use Rattle.job.proofs.Each.{two_fits}
 use Rattle.leaf.proofs.Keys.{keys-same}
 use Rattle.vector.proofs.Numbers.{width_small}
@@ -28,7 +28,7 @@ reconstruct-tree-requires c κs =
     (c.before.before.before.before.before.before.before.table.ensures, (p.0, q.1, p.2, p.3, q.3, start.requires.1.1.1))
 
 write-vectors-requires : tie.Need-write-vectors-requires
-unfolding nodesBytes openingLength
+unfolding nodes_bytes opening_length
 write-vectors-requires c κs =
     let start = c.before.before.before.before.before.before.before.before.before.before.before.before.before.before.before.before.before.before.before.before.before.before.before.before.before.before.before.before in
     let g = start.args in
@@ -46,7 +46,7 @@ correct-vectors-requires c κs =
     (start.requires.0.0, width_small start.args.z start.requires.0.1, q.1, q.2, c.before.before.before.before.before.before.before.write-vectors.auto.1.1.1.1.1.1.1.0 ∙ start.requires.1.1.3)
 
 returns : tie.Need-returns
-unfolding faest leafKey commitmentOf rowByte stretchByte hiddenLeafCommitment verifierLeafCommitment primitivesOf leafNode leafSeedOf leafCommitmentOf hiddenFrom entryCommitment entryByte givenCommitment
+unfolding faest leaf_key commitment_of row_byte stretch_byte hidden_leaf_commitment verifier_leaf_commitment primitives_of leaf_node leaf_seed_of leaf_commitment_of hidden_from entry_commitment entry_byte given_commitment
 returns c =
     let start = c.before.before.before.before.before.before.before.before.before.before.before.before.before.before.before.before.before.before.before.before.before.before.before.before.before.before.before.before.before.before.before.before.before.before.before.before.before.before.before.before.before.before.before.before in
     let g = start.args in

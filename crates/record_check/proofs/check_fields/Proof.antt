@@ -41,7 +41,7 @@ use Rattle.spec.specs.declared.Answer.{Answer}
 use Rattle.spec.specs.Primitives.{faest}
 use Rattle.spec.specs.contracts.Answer as AT
 use Rattle.spec.proofs.Answer.TheLaws as AT'
-use Rattle.record.specs.Record.{contentsOf, readNumber, Contents}
+use Rattle.record.specs.Record.{contents_of, read_number, Contents}
 use Rattle.record.specs.RecordCalls.{Work, CheckRecord}
 use Rattle.record.proofs.Reading.{read-fields}
 use Rattle.record_reader.specs.declared.Fields.{Fields}
@@ -84,7 +84,7 @@ abbrev Lasts : Type 0
 Lasts = Unit {0} × (Unit {0} × (Unit {0} × (Unit {0} × (Unit {0} × (Unit {0} × (List ℕ × (List ℕ × (List ℕ × Unit {0}))))))))
 
 abbrev work : List ℕ → List ℕ → List ℕ → Work
-work a b c = record { tree = a; leafCommitments = b; q = c }
+work a b c = record { tree = a; leaf_commitments = b; q = c }
 
 module _ {M : Type 1} {𝓤 : Ura M} (𝓛 : Logic 𝓤) (mem : Memory → SProp 𝓤) (run : Routine → Fun 𝓤) where
   abbrev CheckParts : Contract 𝓤
@@ -103,7 +103,7 @@ ref b = record { ref_ptr = (b.block, b.offset); ghost_name = b.ghost; now = b.he
 abbrev val : Lent → Val
 val b = slice_val (b.block, b.offset) (length b.held)
 
-module _ {M : Type 1} {𝓤 : Ura M} (𝓛 : Logic 𝓤) (mem : Memory → SProp 𝓤) (run : Routine → Fun 𝓤) (κ κ₁ κ₂ κ₃ : Lft) (q q₁ q₂ q₃ : Share) (s : Bor (List ℕ)) (f : Front) (z : Sizes) (b₁ b₂ b₃ : Lent) (ok : FrontOf s.now f × SizesOf s.now z × (readNumber s.now ≡ 0)) where
+module _ {M : Type 1} {𝓤 : Ura M} (𝓛 : Logic 𝓤) (mem : Memory → SProp 𝓤) (run : Routine → Fun 𝓤) (κ κ₁ κ₂ κ₃ : Lft) (q q₁ q₂ q₃ : Share) (s : Bor (List ℕ)) (f : Front) (z : Sizes) (b₁ b₂ b₃ : Lent) (ok : FrontOf s.now f × SizesOf s.now z × (read_number s.now ≡ 0)) where
   open 𝓛 use {H}
 
   abbrev v : Val
@@ -181,7 +181,7 @@ module _ {M : Type 1} {𝓤 : Ura M} (𝓛 : Logic 𝓤) (mem : Memory → SProp
   abbrev said : Fields → Contents
   said p = record { shape = f.shape; row = f.row; iv = p.iv.now; challenge = p.challenge.now; corrections = p.corrections.now; opening = p.opening.now; commitment = p.commitment.now }
 
-  contents : (p : Fields) → Parts s sized p → contentsOf s.now ≡ said p
+  contents : (p : Fields) → Parts s sized p → contents_of s.now ≡ said p
   contents p e = rw (e.0, e.1, e.2, e.3, e.4) (contents-are s.now z ok.1 f ok.0)
 
   -- the call of `check_parts`
@@ -196,7 +196,7 @@ module _ {M : Type 1} {𝓤 : Ura M} (𝓛 : Logic 𝓤) (mem : Memory → SProp
 
   abbrev Said : Fields → Answer → Lasts → Type 0
   Said p r ws =
-      (rec : List ℕ) → readNumber rec ≡ 0 → contentsOf rec ≡ said p
+      (rec : List ℕ) → read_number rec ≡ 0 → contents_of rec ≡ said p
       → CheckRecord faest rec (work b₁.held b₂.held b₃.held) (work ws.1.1.1.1.1.1.0 ws.1.1.1.1.1.1.1.0 ws.1.1.1.1.1.1.1.1.0) r
 
   abbrev All : Fields → Item 𝓤

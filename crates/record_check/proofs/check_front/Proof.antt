@@ -10,8 +10,8 @@ use Rattle.record_check.proofs.Answers.{check-read}
 use Rattle.record_check.proofs.check_front.Statement.{statement}
 use Rattle.record_check.proofs.check_front.Tie as tie
 
-abbrev numberBy : Bool → ℕ
-numberBy b = cond b 0 10
+abbrev number_by : Bool → ℕ
+number_by b = cond b 0 10
 
 returns : tie.Need-returns
 returns c =
@@ -34,7 +34,7 @@ is-read-requires c κs =
 returns-2 : tie.Need-returns-2
 returns-2 c =
     let ir = c.before.before in
-    check-read _ _ _ 10 (sym (ir.is_read.ensures ∙ ap numberBy {x = ir.is_read.result} {y = false} (failed refl c.before.if2.true))) (λ z. omega arith) c.answer2.ensures
+    check-read _ _ _ 10 (sym (ir.is_read.ensures ∙ ap number_by {x = ir.is_read.result} {y = false} (failed refl c.before.if2.true))) (λ z. omega arith) c.answer2.ensures
 
 check-fields-requires : tie.Need-check-fields-requires
 check-fields-requires c κs =
@@ -43,7 +43,7 @@ check-fields-requires c κs =
     let el = sz.before in
     let pre = el.before.before.before.before.before.before.requires in
     let p = pre.said (sym pre.number ∙ el.if1.false) in
-    (p, sz.sizes-of.ensures _ p, ir.is_read.ensures ∙ ap numberBy {x = ir.is_read.result} {y = true} (passed refl c.before.before.before.if2.false))
+    (p, sz.sizes-of.ensures _ p, ir.is_read.ensures ∙ ap number_by {x = ir.is_read.result} {y = true} (passed refl c.before.before.before.if2.false))
 
 returns-3 : tie.Need-returns-3
 returns-3 c = c.before.before.before.before.before.before.check-fields.ensures

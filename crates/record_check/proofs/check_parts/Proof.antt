@@ -2,7 +2,7 @@
 use borrow.Author.Rules.{rules}
 use lib.Seq.{length-take-le}
 use mathlib.Core.Path.{sym, ap, ◌∙◌}
-use Rattle.spec.specs.Shapes.{hashBytes}
+use Rattle.spec.specs.Shapes.{hash_bytes}
 use Rattle.record_check.proofs.check_parts.Statement.{statement}
 use Rattle.record_check.proofs.check_parts.Tie as tie
 
@@ -14,7 +14,7 @@ compared-requires : tie.Need-compared-requires
 compared-requires c κs =
     let hb = c.before.before.before.before in
     let pre = hb.before.before.before.before.before.before.before.before.before.before.requires in
-    length-take-le hb.hash-bytes.result _ hb.hash-bytes.ensures.1 ∙ hb.hash-bytes.ensures.0 ∙ ap hashBytes pre.1
+    length-take-le hb.hash-bytes.result _ hb.hash-bytes.ensures.1 ∙ hb.hash-bytes.ensures.0 ∙ ap hash_bytes pre.1
 
 returns : tie.Need-returns
 returns c = c.before.before.before.before.before.before.before.compared.ensures

@@ -5,30 +5,30 @@ use borrow.Author.Tests.{le-leb, lt-leb}
 use mathlib.Core.Path.{refl}
 use Prim.Native.Nat.{◌+◌}
 use lib.ListN.{length}
-use Rattle.record.specs.Fields.{fieldOk}
+use Rattle.record.specs.Fields.{field_ok}
 use Rattle.record_fields.proofs.field_fits.Statement.{statement}
 use Rattle.record_fields.proofs.field_fits.Tie as tie
 
 returns : tie.Need-returns
-unfolding fieldOk
+unfolding field_ok
 returns c =
     let g = c.before.before.args in
     simp (lt-leb (g.at + 4 + g.n) (length g.bytes.now) (omega arith))
 
 returns-2 : tie.Need-returns-2
-unfolding fieldOk
+unfolding field_ok
 returns-2 c =
     let g = c.before.before.before.args in
     simp (lt-leb (g.at + 4 + g.n) (length g.bytes.now) (omega arith))
 
 returns-3 : tie.Need-returns-3
-unfolding fieldOk
+unfolding field_ok
 returns-3 c =
     let g = c.before.before.before.before.args in
     simp (lt-leb (g.at + 4 + g.n) (length g.bytes.now) (omega arith))
 
 returns-4 : tie.Need-returns-4
-unfolding fieldOk
+unfolding field_ok
 returns-4 c =
     let g = c.before.before.before.before.before.args in
     rw (le-leb (g.at + 4 + g.n) (length g.bytes.now) (omega arith), c.number4.ensures) refl

@@ -4,20 +4,20 @@ use native.Mathlib.Omega.{arith}
 use mathlib.Core.Path.{refl, ap}
 use Prim.Native.Nat.{ℕ, ◌*◌}
 use borrow.Author.Tests.{eq-eqb, ne_eqb}
-use Rattle.record.specs.Record.{shapeIn}
+use Rattle.record.specs.Record.{shape_in}
 use Rattle.record.proofs.Bounds.{head-level}
 use Rattle.record_fields.proofs.level_in.Statement.{statement}
 use Rattle.record_fields.proofs.level_in.Tie as tie
 
 returns : tie.Need-returns
-unfolding shapeIn
+unfolding shape_in
 returns c = rw (eq-eqb c.before.before.args.version 1 c.if1.true) refl
 
 shared-slice-read-wide : tie.Need-shared-slice-read-wide
 shared-slice-read-wide c = (let m = head-level c.before.before.before.args.version c.before.if1.false c.before.before.before.requires.0 in omega arith)
 
 returns-2 : tie.Need-returns-2
-unfolding shapeIn
+unfolding shape_in
 returns-2 c = rw (ne_eqb c.before.before.before.before.args.version 1 c.before.before.if1.false) (ap (λ (n : ℕ). 8 * n) c.wide.ensures.0)
 
 pub level-in-spec : {M : Type 1} → statement M

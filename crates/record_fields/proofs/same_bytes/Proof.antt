@@ -8,7 +8,7 @@ use native.Mathlib.Omega.{arith}
 use lib.ListN.{length, get_or}
 use lib.Seq.{ext_get_or}
 use Rattle.laws.proofs.Conjunctions.{refuted}
-use Rattle.record.specs.RecordCalls.{sameBytes}
+use Rattle.record.specs.RecordCalls.{same_bytes}
 use Rattle.record.proofs.SameBytes.{same_refl, same-equal}
 use Rattle.record_fields.proofs.same_bytes.Statement.{statement}
 use Rattle.record_fields.proofs.same_bytes.Tie as tie
@@ -37,7 +37,7 @@ returns-3 : tie.Need-returns-3 invariant-loop decreases-loop
 returns-3 c =
     let g = c.before.before.before.args in
     let e : g.a.now ≡ g.b.now = ext_get_or 0 _ _ c.before.before.if1.false (λ i l. c.before.loop.invariant.1 i (omega arith)) in
-    sym (ap (λ (l : List ℕ). sameBytes l g.b.now) e ∙ same_refl g.b.now)
+    sym (ap (λ (l : List ℕ). same_bytes l g.b.now) e ∙ same_refl g.b.now)
 
 pub same-bytes-spec : {M : Type 1} → statement M
 same-bytes-spec =

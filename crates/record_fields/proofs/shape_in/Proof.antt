@@ -1,7 +1,7 @@
 -- Each number is the one read.
 use borrow.Author.Rules.{rules}
 use native.Mathlib.Omega.{arith}
-use Rattle.record.specs.Record.{shapeIn}
+use Rattle.record.specs.Record.{shape_in}
 use Rattle.record.proofs.Bounds.{head-nine}
 use Rattle.record_fields.proofs.shape_in.Statement.{statement}
 use Rattle.record_fields.proofs.shape_in.Tie as tie
@@ -16,7 +16,7 @@ two : tie.Need-number2-requires
 two c κs = (let a = c.before.before.before.before.before.before.before in let m = head-nine a.args.version a.requires.0 in omega arith)
 
 returns : tie.Need-returns
-unfolding shapeIn
+unfolding shape_in
 returns c = cc
 
 pub shape-in-spec : {M : Type 1} → statement M

@@ -42,7 +42,7 @@ use denote.Triple.Table.{entered, cited}
 use denote.Triple.Walked.{says, Stays, stay_none, walk_of, Goes-none, Walks, ends_at, walked, walk_Meets}
 use denote.Exit.{yes}
 use denote.Triple.Clauses.{ensured, lasts}
-use Rattle.record.specs.Fields.{fieldOk}
+use Rattle.record.specs.Fields.{field_ok}
 use Rattle.record_reader.specs.declared.Reader.{Reader}
 use Rattle.record_reader.specs.contracts.Reader as T
 use Rattle.record_reader.proofs.Reader.TheLaws as T'
@@ -78,7 +78,7 @@ module _ {M : Type 1} {𝓤 : Ura M} (𝓛 : Logic 𝓤) (mem : Memory → SProp
   v = slice_val d.bytes.ref_ptr (length d.bytes.now)
 
   abbrev Found : Bool → Type 0
-  Found r = r ≡ fieldOk d.bytes.now d.at n
+  Found r = r ≡ field_ok d.bytes.now d.at n
 
   abbrev x : Reader × (ℕ × Unit {0})
   x = (d, (n, tt))

@@ -34,7 +34,7 @@ use denote.Triple.Spec.{Meets, triple_of}
 use denote.Triple.Table.{entered, cited}
 use denote.Triple.Walked.{says, Stays, stay_none, stay_none_slice, walk_of, Goes-none, Goes-none_slice, Walks, ends_at, walked, walk_Meets}
 use denote.Exit.{yes}
-use Rattle.record.specs.Fields.{fieldOk}
+use Rattle.record.specs.Fields.{field_ok}
 use Rattle.record_reader.proofs.new.Symbol as new-def
 use Rattle.record_reader.proofs.new.Symbol.{name as #record_reader·new}
 use Rattle.record_reader.proofs.new.Met as new-thm
@@ -66,7 +66,7 @@ module _ {M : Type 1} {𝓤 : Ura M} (𝓛 : Logic 𝓤) (mem : Memory → SProp
   at = (v ∷ [], (vint w64 h ∷ [], tt))
 
   abbrev found : Bool
-  found = fieldOk s.now 1 h
+  found = field_ok s.now 1 h
 
   abbrev Post : Val → SProp 𝓤
   Post = (walk_of 𝓛 head-fits.ended stayed (head-fits.clauses 𝓛 mem run)).post (((κ, tt), (q, tt), tt, x, at), tt)

@@ -37,7 +37,7 @@ use denote.Triple.Spec.{Meets, triple_of}
 use denote.Triple.Table.{entered, cited}
 use denote.Triple.Walked.{says, needs, Stays, stay_none, stay_none_slice, walk_of, Goes-none, Goes-none_slice, Walks, ends_at, walked, walk_Meets}
 use denote.Exit.{yes}
-use Rattle.record.specs.Fields.{fieldOk, behind}
+use Rattle.record.specs.Fields.{field_ok, behind}
 use Rattle.record_reader.specs.declared.Rest.{Rest}
 use Rattle.record_reader.specs.contracts.Rest as E
 use Rattle.record_reader.proofs.Rest.TheLaws as E'
@@ -80,9 +80,9 @@ module _ {M : Type 1} {𝓤 : Ura M} (𝓛 : Logic 𝓤) (mem : Memory → SProp
   -- the five tests, and the place behind the sixth field
   abbrev found : Bool
   found =
-      fieldOk s.now (behind 1 h) n2 && fieldOk s.now (behind (behind 1 h) n2) n3 && fieldOk s.now (behind (behind (behind 1 h) n2) n3) n4
-      && fieldOk s.now (behind (behind (behind (behind 1 h) n2) n3) n4) n5
-      && fieldOk s.now (behind (behind (behind (behind (behind 1 h) n2) n3) n4) n5) n6
+      field_ok s.now (behind 1 h) n2 && field_ok s.now (behind (behind 1 h) n2) n3 && field_ok s.now (behind (behind (behind 1 h) n2) n3) n4
+      && field_ok s.now (behind (behind (behind (behind 1 h) n2) n3) n4) n5
+      && field_ok s.now (behind (behind (behind (behind (behind 1 h) n2) n3) n4) n5) n6
 
   abbrev end : ℕ
   end = 1 + 4 + h + 4 + n2 + 4 + n3 + 4 + n4 + 4 + n5 + 4 + n6

@@ -1,7 +1,7 @@
 -- Each place of the record is the place behind the field before it, where the reader stands.
 use native.Mathlib.Omega.{arith}
 use mathlib.Core.Path.{refl, ◌∙◌}
-use Rattle.record.specs.Record.{restOk, correctionsPlace, openingPlace, commitmentPlace, recordEnd}
+use Rattle.record.specs.Record.{rest_ok, corrections_place, opening_place, commitment_place, record_end}
 use Rattle.record_reading.proofs.rest.Statement.{statement}
 use Rattle.record_reading.proofs.rest.Tie as tie
 
@@ -9,7 +9,7 @@ rest-of-requires : tie.Need-rest-of-requires
 rest-of-requires c κs = omega (arith, c.before.requires.most)
 
 returns : tie.Need-returns
-unfolding restOk correctionsPlace openingPlace commitmentPlace recordEnd
+unfolding rest_ok corrections_place opening_place commitment_place record_end
 returns c =
     let p = c.before.before.requires in (
       c.rest_of.ensures.0 ∙ rw (p.head, p.challenge, p.corrections, p.opening, p.commitment) refl,

@@ -2,9 +2,9 @@
 use borrow.Author.Rules.{rules}
 use mathlib.Core.Path.{◌≡◌, refl, ap₂}
 use mathlib.Core.Bool.{false, ◌&&◌}
-use Rattle.spec.specs.Shapes.{shapeOk}
+use Rattle.spec.specs.Shapes.{shape_ok}
 use Rattle.laws.proofs.Tests.{failed, passed}
-use Rattle.record.specs.Record.{kindFits}
+use Rattle.record.specs.Record.{kind_fits}
 use Rattle.record_reading.proofs.said_number.Statement.{statement}
 use Rattle.record_reading.proofs.said_number.Tie as tie
 
@@ -12,7 +12,7 @@ returns : tie.Need-returns
 returns c =
     let k = c.before in
     let a = k.before.before.args in
-    let s : (shapeOk a.resolved && kindFits a.version a.kind) ≡ false = failed (ap₂ ◌&&◌ k.before.is-shape.ensures k.kind-fits.ensures) c.if1.true in
+    let s : (shape_ok a.resolved && kind_fits a.version a.kind) ≡ false = failed (ap₂ ◌&&◌ k.before.is-shape.ensures k.kind-fits.ensures) c.if1.true in
     rw s refl
 
 returns-2 : tie.Need-returns-2

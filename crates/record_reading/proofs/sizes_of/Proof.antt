@@ -2,8 +2,8 @@
 use borrow.Author.Rules.{rules}
 use native.Mathlib.Omega.{arith}
 use mathlib.Core.Path.{ap, ap₂, ◌∙◌}
-use Rattle.spec.specs.Shapes.{challengeBytes, hashBytes, openingBytes, correctionsBytes}
-use Rattle.record.specs.Record.{headBytes}
+use Rattle.spec.specs.Shapes.{challenge_bytes, hash_bytes, opening_bytes, corrections_bytes}
+use Rattle.record.specs.Record.{head_bytes}
 use Rattle.record_reading.proofs.sizes_of.Statement.{statement}
 use Rattle.record_reading.proofs.sizes_of.Tie as tie
 
@@ -13,11 +13,11 @@ returns c rec p =
     let ch = co.before in
     record {
       read = p.read;
-      head = ch.before.head-length.ensures.0 ∙ ap headBytes p.version;
-      challenge = ch.challenge-length.ensures.0 ∙ ap challengeBytes p.resolved;
-      corrections = co.corrections-bytes.ensures.0 ∙ ap₂ correctionsBytes p.resolved p.bytes;
-      opening = c.before.opening-bytes.ensures.0 ∙ ap openingBytes p.resolved;
-      commitment = c.hash-bytes.ensures.0 ∙ ap hashBytes p.resolved;
+      head = ch.before.head-length.ensures.0 ∙ ap head_bytes p.version;
+      challenge = ch.challenge-length.ensures.0 ∙ ap challenge_bytes p.resolved;
+      corrections = co.corrections-bytes.ensures.0 ∙ ap₂ corrections_bytes p.resolved p.bytes;
+      opening = c.before.opening-bytes.ensures.0 ∙ ap opening_bytes p.resolved;
+      commitment = c.hash-bytes.ensures.0 ∙ ap hash_bytes p.resolved;
       most = omega arith;
     }
 

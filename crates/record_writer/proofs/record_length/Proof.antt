@@ -3,28 +3,28 @@ use borrow.Author.Rules.{rules}
 use Prim.Native.Nat.{◌/◌}
 use native.Mathlib.Omega.{arith}
 use mathlib.Core.Path.{refl, ap, ◌∙◌}
-use Rattle.spec.specs.Shapes.{shapeOk}
+use Rattle.spec.specs.Shapes.{shape_ok}
 use Rattle.rules.proofs.RowLength.{row-max}
 use Rattle.laws.proofs.Tests.{failed, passed}
-use Rattle.record.specs.Record.{recordBytes}
-use Rattle.record.specs.RecordCalls.{lengthNumber}
+use Rattle.record.specs.Record.{record_bytes}
+use Rattle.record.specs.RecordCalls.{length_number}
 use Rattle.record_writer.proofs.record_length.Statement.{statement}
 use Rattle.record_writer.proofs.record_length.Tie as tie
 
 returns : tie.Need-returns
-unfolding lengthNumber
+unfolding length_number
 returns c =
     let sh = c.before in
-    record { number = rw (failed (sh.is-shape.ensures ∙ ap shapeOk sh.before.resolve.ensures) c.if1.true) refl; bytes = refl; most = omega arith }
+    record { number = rw (failed (sh.is-shape.ensures ∙ ap shape_ok sh.before.resolve.ensures) c.if1.true) refl; bytes = refl; most = omega arith }
 
 returns-2 : tie.Need-returns-2
-unfolding lengthNumber
+unfolding length_number
 returns-2 c =
     let ro = c.before in
     let sh = ro.before.before in
     record {
       number =
-          rw (passed (sh.is-shape.ensures ∙ ap shapeOk sh.before.resolve.ensures) ro.before.if1.false, failed ro.is-row-length.ensures c.if2.true) refl;
+          rw (passed (sh.is-shape.ensures ∙ ap shape_ok sh.before.resolve.ensures) ro.before.if1.false, failed ro.is-row-length.ensures c.if2.true) refl;
       bytes = refl;
       most = omega arith;
     }
@@ -35,14 +35,14 @@ record-length-requires c κs =
     (passed sh.is-shape.ensures c.before.before.if1.false, row-max _ (passed c.before.is-row-length.ensures c.if2.false))
 
 returns-3 : tie.Need-returns-3
-unfolding lengthNumber
+unfolding length_number
 returns-3 c =
     let ro = c.before.before in
     let sh = ro.before.before in
     record {
       number =
-          rw (passed (sh.is-shape.ensures ∙ ap shapeOk sh.before.resolve.ensures) ro.before.if1.false, passed ro.is-row-length.ensures c.before.if2.false) refl;
-      bytes = c.record-length.ensures.0 ∙ ap (λ s. recordBytes s (sh.before.before.args.row-bits / 8)) sh.before.resolve.ensures;
+          rw (passed (sh.is-shape.ensures ∙ ap shape_ok sh.before.resolve.ensures) ro.before.if1.false, passed ro.is-row-length.ensures c.before.if2.false) refl;
+      bytes = c.record-length.ensures.0 ∙ ap (λ s. record_bytes s (sh.before.before.args.row-bits / 8)) sh.before.resolve.ensures;
       most = c.record-length.ensures.1;
     }
 

@@ -4,7 +4,7 @@ use mathlib.Core.Path.{ap, ◌∙◌, sym}
 use Rattle.record_writer.proofs.Answers.{room, write-1, write-2, write-3, write-0}
 use Rattle.rules.proofs.RowLength.{row-max}
 use Rattle.laws.proofs.Tests.{failed, passed}
-use Rattle.spec.specs.Shapes.{shapeOk}
+use Rattle.spec.specs.Shapes.{shape_ok}
 use Rattle.record_writer.proofs.write_record.Statement.{statement}
 use Rattle.record_writer.proofs.write_record.Tie as tie
 
@@ -38,7 +38,7 @@ write-fields-requires c κs =
     let ft = c.before.before in
     let sh = ft.before.before.before.before in
     let g = sh.before.before.before.before.before.before.before.before.args in (
-      sym (ap shapeOk sh.before.resolve.ensures) ∙ passed sh.is-shape.ensures ft.before.before.before.if1.false,
+      sym (ap shape_ok sh.before.resolve.ensures) ∙ passed sh.is-shape.ensures ft.before.before.before.if1.false,
       room sh.before.resolve.result (record { shape = g.shape; row = g.row-bits; iv = g.iv.now; challenge = g.challenge.now; corrections = g.corrections.now; opening = g.opening.now; commitment = g.commitment.now })
           g.«record».now sh.before.resolve.ensures (passed ft.write-lengths.ensures c.before.if3.false),
     )

@@ -1,11 +1,11 @@
 -- The tests in their order.
 use borrow.Author.Rules.{rules}
-use Rattle.refusals.specs.Numbers.{frontNumber}
+use Rattle.refusals.specs.Numbers.{front_number}
 use Rattle.refusals.proofs.front_number.Statement.{statement}
 use Rattle.refusals.proofs.front_number.Tie as tie
 
 returns : tie.Need-returns
-unfolding frontNumber
+unfolding front_number
 returns c =
     let row-tests = c.before.before in
     let stretch-tests = row-tests.before.before in

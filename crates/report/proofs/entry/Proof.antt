@@ -6,7 +6,7 @@ use mathlib.Core.Path.{◌≡◌, sym, ap, ◌∙◌}
 use mathlib.Core.Bool.{Bool, cond}
 use lib.ListN.{length}
 use Rattle.laws.proofs.Tests.{failed, passed}
-use Rattle.record.specs.Record.{headNumber, fieldsNumber}
+use Rattle.record.specs.Record.{head_number, fields_number}
 use Rattle.record.proofs.Reading.{front-decides-fields, fields-decide}
 use Rattle.report_text.specs.declared.Entry.{Entry}
 use Rattle.report_text.proofs.Entries.{entry-stops}
@@ -17,15 +17,15 @@ use Rattle.report.proofs.entry.Tie as tie
 abbrev stopped : ℕ → ℕ → Entry
 stopped n k = record { number = k; count = 0; unused = 0; bytes = n }
 
-abbrev numberBy : Bool → ℕ
-numberBy b = cond b 0 10
+abbrev number_by : Bool → ℕ
+number_by b = cond b 0 10
 
 returns : tie.Need-returns
 returns c =
     let f = c.before.before.before in
     let xs = f.before.before.args.bytes.now in
     let p = f.front_of.ensures in
-    let bad : headNumber xs ≡ 0 → ⊥ = λ z. c.before.if1.true (p.number ∙ z) in
+    let bad : head_number xs ≡ 0 → ⊥ = λ z. c.before.if1.true (p.number ∙ z) in
     let e = front-decides-fields xs bad in
     c.refused.ensures ∙ ap (stopped (length xs)) (p.number ∙ sym e) ∙ sym (entry-stops xs (λ z. bad (sym e ∙ z)))
 
@@ -48,7 +48,7 @@ returns-2 c =
     let f = el.before.before in
     let xs = f.before.before.args.bytes.now in
     let p = f.front_of.ensures in
-    let e : fieldsNumber xs ≡ 10 = fields-decide xs (sym p.number ∙ el.if1.false) ∙ ap numberBy (failed r.rest.ensures.0 c.before.if2.true) in
+    let e : fields_number xs ≡ 10 = fields-decide xs (sym p.number ∙ el.if1.false) ∙ ap number_by (failed r.rest.ensures.0 c.before.if2.true) in
     c.refused2.ensures ∙ ap (stopped (length xs)) (sym e) ∙ sym (entry-stops xs (λ z. let k = sym e ∙ z in omega arith))
 
 open-fields-requires : tie.Need-open-fields-requires
@@ -59,7 +59,7 @@ open-fields-requires c κs =
     let f = el.before.before in
     let p = f.front_of.ensures in
     let ok = sym p.number ∙ el.if1.false in
-    (p.said ok, sz.sizes-of.ensures _ (p.said ok), fields-decide _ ok ∙ ap numberBy (passed r.rest.ensures.0 c.if2.false), r.rest.ensures.1)
+    (p.said ok, sz.sizes-of.ensures _ (p.said ok), fields-decide _ ok ∙ ap number_by (passed r.rest.ensures.0 c.if2.false), r.rest.ensures.1)
 
 pub entry_spec : {M : Type 1} → statement M
 entry_spec =

@@ -38,8 +38,8 @@ use denote.Triple.Spec.{Meets, triple_of}
 use denote.Triple.Table.{entered, cited}
 use denote.Triple.Walked.{says, needs, Stays, stay_none, stay_none_slice, walk_of, Goes-none, Goes-none_slice, Walks, ends_at, walked, walk_Meets}
 use denote.Exit.{yes}
-use Rattle.spec.specs.Shapes.{challengeBytes, openingBytes, shapeOk}
-use Rattle.record.specs.Record.{Contents, contentsOf, fieldsNumber, end_of}
+use Rattle.spec.specs.Shapes.{challenge_bytes, opening_bytes, shape_ok}
+use Rattle.record.specs.Record.{Contents, contents_of, fields_number, end_of}
 use Rattle.record.proofs.Reading.{fields-sized}
 use Rattle.record_reader.specs.declared.Fields.{Fields}
 use Rattle.record_reader.proofs.fields_of.Symbol as fields-of-def
@@ -56,7 +56,7 @@ use Rattle.record_reading.specs.contracts.Sizes as ST
 use Rattle.record_reading.proofs.Sizes.TheLaws as ST'
 use Rattle.record_reading.proofs.Fronts.{fields-room, contents-are}
 use Rattle.report_text.specs.declared.Entry.{Entry}
-use Rattle.report_text.specs.Entries.{entry_of, openedEntry}
+use Rattle.report_text.specs.Entries.{entry_of, opened_entry}
 use Rattle.report_text.specs.contracts.Entry as ET
 use Rattle.report_text.proofs.Entry.TheLaws as ET'
 use Rattle.report_text.proofs.Entries.{entry-opened}
@@ -76,7 +76,7 @@ module _ {M : Type 1} {𝓤 : Ura M} (𝓛 : Logic 𝓤) (mem : Memory → SProp
   abbrev Opened : Contract 𝓤
   Opened = triple_of 𝓛 opened.signature (opened.spec 𝓛 mem run)
 
-module _ {M : Type 1} {𝓤 : Ura M} (𝓛 : Logic 𝓤) (mem : Memory → SProp 𝓤) (run : Routine → Fun 𝓤) (κ : Lft) (q : Share) (s : Bor (List ℕ)) (f : Front) (z : Sizes) (m : ℕ) (ok : FrontOf s.now f × SizesOf s.now z × (fieldsNumber s.now ≡ 0) × (m ≡ end_of s.now)) where
+module _ {M : Type 1} {𝓤 : Ura M} (𝓛 : Logic 𝓤) (mem : Memory → SProp 𝓤) (run : Routine → Fun 𝓤) (κ : Lft) (q : Share) (s : Bor (List ℕ)) (f : Front) (z : Sizes) (m : ℕ) (ok : FrontOf s.now f × SizesOf s.now z × (fields_number s.now ≡ 0) × (m ≡ end_of s.now)) where
   open 𝓛 use {H}
 
   abbrev v : Val
@@ -130,18 +130,18 @@ module _ {M : Type 1} {𝓤 : Ura M} (𝓛 : Logic 𝓤) (mem : Memory → SProp
     abbrev said : Contents
     said = record { shape = f.shape; row = f.row; iv = p.iv.now; challenge = p.challenge.now; corrections = p.corrections.now; opening = p.opening.now; commitment = p.commitment.now }
 
-    contents : said ≡ contentsOf s.now
+    contents : said ≡ contents_of s.now
     contents = sym (rw (e.0, e.1, e.2, e.3, e.4) (contents-are s.now z ok.1 f ok.0))
 
-    lengths : (shapeOk f.resolved ≡ true) × (length p.challenge.now ≡ challengeBytes f.resolved) × (length p.opening.now ≡ openingBytes f.resolved)
+    lengths : (shape_ok f.resolved ≡ true) × (length p.challenge.now ≡ challenge_bytes f.resolved) × (length p.opening.now ≡ opening_bytes f.resolved)
     lengths =
         let n = fields-sized s.now ok.2 in
         let r = sym ok.0.resolved in
-        (ok.0.allowed, ap (λ (c : Contents). length c.challenge) contents ∙ n.1.0 ∙ ap challengeBytes r, ap (λ (c : Contents). length c.opening) contents ∙ n.1.1.1.0 ∙ ap openingBytes r)
+        (ok.0.allowed, ap (λ (c : Contents). length c.challenge) contents ∙ n.1.0 ∙ ap challenge_bytes r, ap (λ (c : Contents). length c.opening) contents ∙ n.1.1.1.0 ∙ ap opening_bytes r)
 
-    is-entry : openedEntry f.resolved p.challenge.now p.opening.now m ≡ entry_of s.now
+    is-entry : opened_entry f.resolved p.challenge.now p.opening.now m ≡ entry_of s.now
     is-entry =
-        ap (λ (c : Contents). openedEntry f.resolved c.challenge c.opening m) contents
+        ap (λ (c : Contents). opened_entry f.resolved c.challenge c.opening m) contents
         ∙ rw (ok.0.resolved, ok.3) (sym (entry-opened s.now ok.2))
 
   -- the call of `opened`
@@ -155,7 +155,7 @@ module _ {M : Type 1} {𝓤 : Ura M} (𝓛 : Logic 𝓤) (mem : Memory → SProp
   to-opened p = (((κ, tt), (q, tt), tt, parts p, passed p), tt)
 
   abbrev Said : Fields → Entry → Type 0
-  Said p r = r ≡ openedEntry f.resolved p.challenge.now p.opening.now m
+  Said p r = r ≡ opened_entry f.resolved p.challenge.now p.opening.now m
 
   abbrev All : Fields → Item 𝓤
   All p = ‵ (owns (FT.the_row ∷ R κ ∷ R κ ∷ usize ∷ []) (parts p) (passed p))

@@ -4,7 +4,7 @@ use borrow.Author.Rules.{rules}
 use borrow.Author.Tests.{eq-eqb, ne_eqb}
 use Rattle.listing_text.proofs.Decimal.{decimal-short}
 use Rattle.listing_text.proofs.Writing.{put_next}
-use Rattle.report_text.specs.Text.{lineText}
+use Rattle.report_text.specs.Text.{line_text}
 use Rattle.report_text.proofs.put_entry.Statement.{statement}
 use Rattle.report_text.proofs.put_entry.Tie as tie
 
@@ -34,7 +34,7 @@ put-refusal-requires c κs =
     )
 
 returns : tie.Need-returns
-unfolding lineText
+unfolding line_text
 returns c =
     let p = c.before.before in
     let t = p.before.before in
@@ -69,7 +69,7 @@ put-pair-requires c κs =
     )
 
 returns-2 : tie.Need-returns-2
-unfolding lineText
+unfolding line_text
 returns-2 c =
     let p = c.before.before in
     let t = p.before.before in

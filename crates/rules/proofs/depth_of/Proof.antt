@@ -7,7 +7,7 @@ use Rattle.planning_laws.proofs.ShapeFacts.{shape-facts, depth_small}
 use Rattle.rules.proofs.depth_of.Statement.{statement}
 use Rattle.rules.proofs.depth_of.Tie as tie
 
-add-result : tie.Need-overflow-add-result
+add-result : tie.Need-overflow_add-result
 add-result c = (let f = shape-facts c.before.before.before.args.s c.before.before.before.requires in omega arith)
 
 returns : tie.Need-returns

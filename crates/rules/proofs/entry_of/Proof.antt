@@ -6,7 +6,7 @@ use Rattle.planning_laws.proofs.ShapeLaws.{shape-laws, entry_in}
 use Rattle.rules.proofs.entry_of.Statement.{statement}
 use Rattle.rules.proofs.entry_of.Tie as tie
 
-add-result : tie.Need-overflow-add-result
+add-result : tie.Need-overflow_add-result
 add-result c =
     let a = c.before.args in
     let p = c.before.requires in

@@ -5,7 +5,7 @@ use mathlib.Core.Bool.{true≢false}
 use native.Mathlib.Omega.{arith}
 use native.Mathlib.Nat.{mul-le-mul}
 use borrow.Author.Rules.{rules}
-use Rattle.spec.specs.Shapes.{level, shapeOk}
+use Rattle.spec.specs.Shapes.{level, shape_ok}
 use Rattle.laws.proofs.Conjunctions.{refuted}
 use Rattle.laws.proofs.Tests.{failed, passed}
 use Rattle.planning_laws.proofs.LeafKindFacts.{kind-max, others-decide}
@@ -14,7 +14,7 @@ use Rattle.rules.proofs.is_shape.Statement.{statement}
 use Rattle.rules.proofs.is_shape.Tie as tie
 
 returns : tie.Need-returns
-returns c = (let s = c.before.before.args.s in refuted (shapeOk s) (λ e. omega (arith, kind-max s e)))
+returns c = (let s = c.before.before.args.s in refuted (shape_ok s) (λ e. omega (arith, kind-max s e)))
 
 returns-2 : tie.Need-returns-2
 returns-2 c = shape-refused c.before.before.before.before.args.s (λ f. true≢false (sym f.level-is ∙ failed c.before.is-level.ensures c.if2.true))
@@ -40,7 +40,7 @@ returns-8 c = shape-refused c.before.before.before.before.before.before.before.b
 returns-9 : tie.Need-returns-9
 returns-9 c = shape-refused c.before.before.before.before.before.before.before.before.before.before.before.before.before.before.before.before.before.before.args.s (λ f. omega arith)
 
-mul-used : tie.Need-overflow-mul-used
+mul-used : tie.Need-overflow_mul-used
 mul-used c =
     let s = c.before.before.before.before.before.before.before.before.before.before.before.before.before.before.before.before.before.before.before.args.s in
     let h : s.tau ≤ 32 = omega arith in
@@ -48,7 +48,7 @@ mul-used c =
     let p : s.tau * s.k ≤ 32 * 12 = mul-le-mul h k in
     omega arith
 
-add-used : tie.Need-overflow-add-used
+add-used : tie.Need-overflow_add-used
 add-used c =
     let s = c.before.before.before.before.before.before.before.before.before.before.before.before.before.before.before.before.before.before.before.before.args.s in
     let h : s.tau ≤ 32 = omega arith in

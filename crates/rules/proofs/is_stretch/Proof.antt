@@ -6,7 +6,7 @@ use native.Mathlib.Decide.{dec_le}
 use native.Mathlib.Omega.{arith}
 use lib.Dec.{leb}
 use borrow.Author.Tests.{le-leb, lt-leb}
-use Rattle.spec.specs.Calls.{stretchOk}
+use Rattle.spec.specs.Calls.{stretch_ok}
 use Rattle.rules.proofs.is_stretch.Statement.{statement}
 use Rattle.rules.proofs.is_stretch.Tie as tie
 
@@ -18,13 +18,13 @@ by_difference f g b h = go (dec_le f (b - g))
     go (no l) = lt-leb f (b - g) (omega arith) ∙ sym (lt-leb (f + g) b (omega arith))
 
 returns : tie.Need-returns
-unfolding stretchOk
+unfolding stretch_ok
 returns c =
     let g = c.before.args in
     sym (ap (λ (x : Bool). leb 1 g.z.width && x) (lt-leb (g.z.first + g.z.width) g.b (omega arith)) ∙ and-false (leb 1 g.z.width))
 
 returns-2 : tie.Need-returns-2
-unfolding stretchOk
+unfolding stretch_ok
 returns-2 c =
     let g = c.before.args in
     ap (λ (x : Bool). leb 1 g.z.width && x) (by_difference g.z.first g.z.width g.b (omega arith))

@@ -10,8 +10,8 @@ returns c =
     let a = c.before.before.args in
     let p = c.before.before.requires in
     let l = leaf-of-entry a.s a.i a.j p.1 p.2 in
-    let n = c.before.leaf-count.ensures in
-    let r = c.leaf-place.ensures in
+    let n = c.before.leaf_count.ensures in
+    let r = c.leaf_place.ensures in
     (omega arith, omega arith, omega arith, omega arith)
 
 pub leaf-of-spec : {M : Type 1} → statement M

@@ -3,17 +3,17 @@ use Prim.Native.Nat.{ℕ, ◌/◌}
 use mathlib.Core.Path.{ap}
 use native.Mathlib.Omega.{arith}
 use borrow.Author.Rules.{rules}
-use Rattle.spec.specs.Shapes.{nodeBytes}
+use Rattle.spec.specs.Shapes.{node_bytes}
 use Rattle.planning_laws.proofs.ShapeFacts.{shape-facts, widths}
 use Rattle.rules.proofs.node_bytes.Statement.{statement}
 use Rattle.rules.proofs.node_bytes.Tie as tie
 
 returns : tie.Need-returns
-unfolding nodeBytes
+unfolding node_bytes
 returns c =
     let a = c.before in
     let w = widths a.args.s (shape-facts a.args.s a.requires) in
-    let e = ap (λ (n : ℕ). n / 8) c.level-bits.ensures.0 in
+    let e = ap (λ (n : ℕ). n / 8) c.level_bits.ensures.0 in
     (e, omega (arith, w.node-min), omega (arith, w.node-max))
 
 pub node-bytes-spec : {M : Type 1} → statement M

@@ -4,7 +4,7 @@ use Prim.Native.Nat.{◌-◌}
 use native.Mathlib.Omega.{arith}
 use borrow.Author.Rules.{rules}
 use lib.ListN.{length}
-use Rattle.spec.specs.Sponge.{shakeSuffix}
+use Rattle.spec.specs.Sponge.{shake_suffix}
 use Rattle.shake.proofs.Absorbing.{length-padding, holds-all}
 use Rattle.shake.proofs.finish.Statement.{statement}
 use Rattle.shake.proofs.finish.Tie as tie
@@ -12,19 +12,19 @@ use Rattle.shake.proofs.finish.Tie as tie
 slice-aggregate-absorb-part : tie.Need-slice-aggregate-absorb-part
 slice-aggregate-absorb-part c =
     let a = c.before.before.args in
-    sym (ap length c.before.padding-block.ensures ∙ length-padding shakeSuffix (a.rate - a.s.fill) (omega arith))
+    sym (ap length c.before.padding-block.ensures ∙ length-padding shake_suffix (a.rate - a.s.fill) (omega arith))
 
 absorb-part-requires : tie.Need-absorb-part-requires
 absorb-part-requires c κs =
     let a = c.before.before.args in
-    let n = ap length c.before.padding-block.ensures ∙ length-padding shakeSuffix (a.rate - a.s.fill) (omega arith) in
+    let n = ap length c.before.padding-block.ensures ∙ length-padding shake_suffix (a.rate - a.s.fill) (omega arith) in
     omega arith
 
 returns : tie.Need-returns
 returns c m h =
     let a = c.before.before.before.args in
     let r = c.absorb-part.result in
-    holds-all a.rate shakeSuffix m a.s.lanes a.s.fill h r.lanes r.fill
+    holds-all a.rate shake_suffix m a.s.lanes a.s.fill h r.lanes r.fill
     (rw c.before.before.padding-block.ensures at (c.absorb-part.ensures.holds m h))
 
 pub finish_spec : {M : Type 1} → statement M

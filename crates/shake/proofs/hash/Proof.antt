@@ -5,7 +5,7 @@ use Prim.Native.Nat.{ℕ}
 use borrow.Author.Rules.{rules}
 use lib.ListN.{length}
 use Rattle.spec.specs.Bytes.{tabulate}
-use Rattle.spec.specs.Sponge.{outputByte, sponge, shake}
+use Rattle.spec.specs.Sponge.{output_byte, sponge, shake}
 use Rattle.shake.proofs.hash.Statement.{statement}
 use Rattle.shake.proofs.hash.Tie as tie
 
@@ -14,7 +14,7 @@ unfolding sponge shake
 returns c m h =
     let a = c.before.before.before.before.before.before.before.before.args in
     c.before.before.squeeze.ensures
-    ∙ ap (λ (z : List ℕ). tabulate (length a.out.now) (outputByte a.rate z))
+    ∙ ap (λ (z : List ℕ). tabulate (length a.out.now) (output_byte a.rate z))
     (c.before.before.before.before.finish.ensures (m ++ (a.domain ∷ [])) (c.before.before.before.before.before.absorb.ensures.holds m h))
 
 pub hash-spec : {M : Type 1} → statement M

@@ -8,8 +8,8 @@ use lib.Bits.{bit_xor}
 use lib.ListN.{length, get_or, set, take}
 use Rattle.laws.proofs.Lists.{length-zeros}
 use Rattle.laws.proofs.Strings.{take-zeros, set-xor}
-use Rattle.spec.specs.Bytes.{zeros, xorBytes}
-use Rattle.spec.specs.Sponge.{padding, shakeSuffix}
+use Rattle.spec.specs.Bytes.{zeros, xor_bytes}
+use Rattle.spec.specs.Sponge.{padding, shake_suffix}
 use Rattle.shake.proofs.padding_block.Statement.{statement}
 use Rattle.shake.proofs.padding_block.Tie as tie
 
@@ -25,11 +25,11 @@ module _ (suffix rest n : ℕ) (pos : 0 < n) (le : n ≤ suc rest) where
       let within : n - 1 < length block = rw length-zeros (omega arith) in
       ap (λ (k : ℕ). take k (set block (n - 1) (bit_xor (get_or block (n - 1) 0) 0x80))) (sym e)
       ∙ set-xor block (n - 1) 0x80 within
-      ∙ ap (λ (l : List ℕ). xorBytes (suffix ∷ l) (zeros (n - 1) ++ (0x80 ∷ []))) (take-zeros (n - 1) rest (omega arith))
+      ∙ ap (λ (l : List ℕ). xor_bytes (suffix ∷ l) (zeros (n - 1) ++ (0x80 ∷ []))) (take-zeros (n - 1) rest (omega arith))
 
 returns : tie.Need-returns
 unfolding zeros
-returns c = last-xored shakeSuffix 167 c.args.n c.requires.0 c.requires.1
+returns c = last-xored shake_suffix 167 c.args.n c.requires.0 c.requires.1
 
 pub padding-block-spec : {M : Type 1} → statement M
 padding-block-spec = tie.close (tie.spec (λ c. search rules) (λ c. search rules) (λ c. search rules) (λ c. search rules) returns)

@@ -7,7 +7,7 @@ use native.Mathlib.Omega.{arith}
 use borrow.Author.Rules.{rules}
 use borrow.Rule.Slice.PartMut.{put_mid}
 use lib.ListN.{length}
-use Rattle.spec.specs.Keccak.{keccakF}
+use Rattle.spec.specs.Keccak.{keccak_f}
 use Rattle.spec.specs.Sponge.{permuted}
 use Rattle.shake.proofs.Squeezing.{Squeezed, squeezed-none, squeezed-more, squeezed-all}
 use Rattle.numbers.proofs.min.Reads as min-reads
@@ -65,7 +65,7 @@ loop-again c =
     let s = more p in
     let q = p.before.before.before.before.loop.invariant.1 in
     let next = mul-suc p.before.before.before.before.before.before.args.rate q.0 in
-    (s.1, (suc q.0, c.permute.ensures.0 ∙ ap keccakF q.1, λ h. omega arith))
+    (s.1, (suc q.0, c.permute.ensures.0 ∙ ap keccak_f q.1, λ h. omega arith))
 
 loop-again-2 : tie.Need-loop-preserved-2 invariant-loop decreases-loop
 loop-again-2 c =

@@ -9,17 +9,17 @@ use lib.Seq.{take-length, drop-length}
 use Rattle.laws.proofs.Filling.{take-tabulate}
 use Rattle.laws.proofs.Lists.{length-tabulate}
 use Rattle.spec.specs.Bytes.{tabulate}
-use Rattle.spec.specs.Sponge.{stateByte}
+use Rattle.spec.specs.Sponge.{state_byte}
 use Rattle.shake.proofs.squeeze_part.Statement.{statement}
 use Rattle.shake.proofs.squeeze_part.Tie as tie
 
 -- the front of the block, as many bytes as `out` has
-module _ (s block out : List ℕ) (fits : length out ≤ 168) (e : block ≡ tabulate 168 (stateByte s)) where
-  front : take (length out) block ≡ tabulate (length out) (stateByte s)
-  front = ap (take (length out)) e ∙ take-tabulate (length out) 168 (stateByte s) fits
+module _ (s block out : List ℕ) (fits : length out ≤ 168) (e : block ≡ tabulate 168 (state_byte s)) where
+  front : take (length out) block ≡ tabulate (length out) (state_byte s)
+  front = ap (take (length out)) e ∙ take-tabulate (length out) 168 (state_byte s) fits
 
   front_length : length (take (length out) block) ≡ length out
-  front_length = ap length front ∙ length-tabulate (length out) (stateByte s)
+  front_length = ap length front ∙ length-tabulate (length out) (state_byte s)
 
 slice-aggregate-copy : tie.Need-slice-aggregate-copy
 slice-aggregate-copy c =

@@ -1,4 +1,4 @@
--- `shake::xor_block` meets its contract. The loop's invariant: the first j lanes are filled by the rule of `xorIn`, the others are as they were. Past the
+-- `shake::xor_block` meets its contract. The loop's invariant: the first j lanes are filled by the rule of `xor_in`, the others are as they were. Past the
 -- block's 21 lanes its string has ended, so that the rule leaves them. The measure is the number of lanes left.
 use mathlib.Core.Path.{◌≡◌, sym, ap, ap₂, ◌∙◌}
 use mathlib.Core.List.{List}
@@ -9,7 +9,7 @@ use lib.Bits.{bit_xor, xor_zero_r}
 use lib.ListN.{length, get_or, set, take, drop}
 use Rattle.laws.proofs.Filling.{filled, filled_none, filled-set, filled-rest}
 use Rattle.spec.specs.Bytes.{tabulate, number}
-use Rattle.spec.specs.Sponge.{lane_of, xorIn}
+use Rattle.spec.specs.Sponge.{lane_of, xor_in}
 use Rattle.shake.proofs.XorIn.{lane-none}
 use Rattle.shake.proofs.xor_block.Statement.{statement}
 use Rattle.shake.proofs.xor_block.Tie as tie
@@ -42,7 +42,7 @@ loop-again c =
     )
 
 returns : tie.Need-returns invariant-loop decreases-loop
-unfolding xorIn
+unfolding xor_in
 returns c =
     let start = c.before.before in
     let l = c.before.loop in

@@ -7,11 +7,11 @@ use lib.ListN.{length}
 use Rattle.spec.specs.Hashes.{hash1}
 use Rattle.spec.specs.Shapes.{rate}
 use Rattle.spec.specs.Primitives.{faest}
-use Rattle.spec.specs.Leaves.{leafKey, commitmentOf}
-use Rattle.spec.specs.Rows.{rowByte, stretchByte}
-use Rattle.spec.specs.Signer.{signerLeafCommitment}
-use Rattle.job.specs.Versions.{primitivesOf, leafNode, nodesBytes, leafSeedOf, leafCommitmentOf}
-use Rattle.job.specs.Jobs.{entryCommitment, entryByte}
+use Rattle.spec.specs.Leaves.{leaf_key, commitment_of}
+use Rattle.spec.specs.Rows.{row_byte, stretch_byte}
+use Rattle.spec.specs.Signer.{signer_leaf_commitment}
+use Rattle.job.specs.Versions.{primitives_of, leaf_node, nodes_bytes, leaf_seed_of, leaf_commitment_of}
+use Rattle.job.specs.Jobs.{entry_commitment, entry_byte}
 use Rattle.job.proofs.Each.{two_fits}
 use Rattle.leaf.proofs.Keys.{keys-same}
 use Rattle.spec.specs.Calls.{committed}
@@ -23,7 +23,7 @@ grow-requires : tie.Need-grow-requires
 grow-requires c κs = (let start = c.before.before.before.before.before.before.before.before.before.before.before.before.before.before.before.before.before.before.before in (c.before.before.before.before.before.before.before.table.ensures, (start.requires.0.0, start.requires.0.2, start.requires.1.1)))
 
 write-vectors-requires : tie.Need-write-vectors-requires
-unfolding nodesBytes
+unfolding nodes_bytes
 write-vectors-requires c κs =
     let start = c.before.before.before.before.before.before.before.before.before.before.before.before.before.before.before.before.before.before.before.before.before.before.before.before.before.before.before.before.before.before in
     let g = start.args in
@@ -34,7 +34,7 @@ write-vectors-requires c κs =
     ((record { job = record { shape = p.0; kind = two_fits g.s; row = p.1 }; table = c.before.before.before.before.before.before.before.before.before.before.before.before.before.before.before.before.before.before.table.ensures; tree = lent-tree }, keys, q.2, p.5), (q.3, q.4, q.5))
 
 returns : tie.Need-returns
-unfolding faest leafKey commitmentOf rowByte stretchByte signerLeafCommitment primitivesOf leafNode leafSeedOf leafCommitmentOf entryCommitment entryByte
+unfolding faest leaf_key commitment_of row_byte stretch_byte signer_leaf_commitment primitives_of leaf_node leaf_seed_of leaf_commitment_of entry_commitment entry_byte
 returns c =
     let start = c.before.before.before.before.before.before.before.before.before.before.before.before.before.before.before.before.before.before.before.before.before.before.before.before.before.before.before.before.before.before.before.before.before.before.before.before.before.before.before.before.before.before.before.before.before.before in
     let g = start.args in

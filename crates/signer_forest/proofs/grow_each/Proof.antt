@@ -9,12 +9,12 @@ use lib.ListN.{length, take}
 use lib.Seq.{take_all}
 use Rattle.spec.specs.declared.Shape.{Shape}
 use Rattle.spec.specs.Bytes.{part, concat}
-use Rattle.spec.specs.Tree.{expandTree}
-use Rattle.spec.specs.Shapes.{nodeBytes, entriesOf}
+use Rattle.spec.specs.Tree.{expand_tree}
+use Rattle.spec.specs.Shapes.{node_bytes, entries_of}
 use Rattle.spec.specs.Primitives.{prg}
 use Rattle.spec.specs.Leaves.{children}
-use Rattle.spec.specs.Version1.{faest1, prg1, children1, firstNode, trees1Bytes}
-use Rattle.job.specs.Versions.{primitivesOf}
+use Rattle.spec.specs.Version1.{faest1, prg1, children1, first_node, trees1_bytes}
+use Rattle.job.specs.Versions.{primitives_of}
 use Rattle.planning_laws.proofs.ShapeFacts.{shape-facts, widths}
 use Rattle.planning_laws.proofs.Forest.{node-none, node-all}
 use Rattle.signer_forest.proofs.Places.{Placed, placed, lent, put-behind}
@@ -22,10 +22,10 @@ use Rattle.signer_forest.proofs.grow_each.Statement.{statement}
 use Rattle.signer_forest.proofs.grow_each.Tie as tie
 
 abbrev tree : Shape → List ℕ → List ℕ → ℕ → List ℕ
-tree s roots iv i = expandTree (nodeBytes s) (part roots (nodeBytes s * i) (nodeBytes s)) (children1 faest1 s iv) (entriesOf s i - 1)
+tree s roots iv i = expand_tree (node_bytes s) (part roots (node_bytes s * i) (node_bytes s)) (children1 faest1 s iv) (entries_of s i - 1)
 
 abbrev invariant-loop : tie.invariant-loop
-invariant-loop t s roots iv trees₀ n tau i₀ trees i = (i ≤ tau) × (length trees ≡ trees1Bytes s) × (take (nodeBytes s * firstNode s i) trees ≡ concat i (tree s roots iv))
+invariant-loop t s roots iv trees₀ n tau i₀ trees i = (i ≤ tau) × (length trees ≡ trees1_bytes s) × (take (node_bytes s * first_node s i) trees ≡ concat i (tree s roots iv))
 
 abbrev decreases-loop : tie.decreases-loop
 decreases-loop t s roots iv trees₀ n tau i₀ trees i = tau - i
@@ -35,7 +35,7 @@ unfolding concat
 loop-holds c =
     let start = c.before.before.before in
     let s = start.args.s in
-    let none : nodeBytes s * firstNode s 0 ≡ 0 = ap (λ (m : ℕ). nodeBytes s * m) (node-none s (shape-facts s start.requires.1.0)) ∙ mul-zero (nodeBytes s) in
+    let none : node_bytes s * first_node s 0 ≡ 0 = ap (λ (m : ℕ). node_bytes s * m) (node-none s (shape-facts s start.requires.1.0)) ∙ mul-zero (node_bytes s) in
     (omega arith, start.requires.1.2, ap (λ (m : ℕ). take m start.args.trees.now) none)
 
 -- the places of the tree and of the root, where both are known
@@ -67,14 +67,14 @@ grow-tree-requires c κs =
     (start.requires.0, (n.ensures.1, n.ensures.2, ap (λ (m : ℕ). m % 8) n.ensures.0 ∙ w.node-eight, own, whole, omega arith))
 
 -- what `grow_tree` writes is the tree of vector i
-grown : (s : Shape) (roots iv : List ℕ) (i n e m : ℕ) (y : List ℕ) → n ≡ nodeBytes s → e ≡ entriesOf s i → m ≡ n → y ≡ expandTree n (part roots (n * i) m) (children faest1 s iv) (e - 1) → y ≡ tree s roots iv i
+grown : (s : Shape) (roots iv : List ℕ) (i n e m : ℕ) (y : List ℕ) → n ≡ node_bytes s → e ≡ entries_of s i → m ≡ n → y ≡ expand_tree n (part roots (n * i) m) (children faest1 s iv) (e - 1) → y ≡ tree s roots iv i
 unfolding prg children faest1 prg1 children1
 grown s roots iv i n e m y en ee em ey =
-    ey ∙ ap (λ (x : ℕ). expandTree n (part roots (n * i) x) (children faest1 s iv) (e - 1)) em
-    ∙ ap₂ (λ (w x : ℕ). expandTree w (part roots (w * i) w) (children faest1 s iv) (x - 1)) en ee
+    ey ∙ ap (λ (x : ℕ). expand_tree n (part roots (n * i) x) (children faest1 s iv) (e - 1)) em
+    ∙ ap₂ (λ (w x : ℕ). expand_tree w (part roots (w * i) w) (children faest1 s iv) (x - 1)) en ee
 
 loop-again : tie.Need-loop-preserved invariant-loop decreases-loop
-unfolding primitivesOf
+unfolding primitives_of
 loop-again c =
     let start = c.before.before.before.before.before.before.before.before.before.before.before.before in
     let g = start.args in
@@ -91,20 +91,20 @@ loop-again c =
     let is = grown g.s g.roots.now g.iv l.i n.result e.result (n.result * l.i + n.result - n.result * l.i) y n.ensures.0 e.ensures.0 (omega arith) (made.ensures g.s start.requires.1.0 n.ensures.0) in (
       omega arith,
       c.before.trees.given.1 ∙ l.invariant.1,
-      put-behind (tree g.s g.roots.now g.iv) from (nodeBytes g.s * firstNode g.s l.i) size _ l.i l.trees y _ (ap₂ ◌*◌ n.ensures.0 f.ensures.0) p.next p.room
+      put-behind (tree g.s g.roots.now g.iv) from (node_bytes g.s * first_node g.s l.i) size _ l.i l.trees y _ (ap₂ ◌*◌ n.ensures.0 f.ensures.0) p.next p.room
           (made.auto.1.1.1.1.1.1.0 ∙ whole) is l.invariant.2,
     )
 
 returns : tie.Need-returns invariant-loop decreases-loop
-unfolding trees1Bytes
+unfolding trees1_bytes
 returns c =
     let start = c.before.before.before.before.before in
     let g = start.args in
     let s = g.s in
     let l = c.before.loop in
     let last : l.i ≡ s.tau = omega arith in
-    let all : length l.trees ≡ nodeBytes s * firstNode s l.i = l.invariant.1 ∙ ap (λ (m : ℕ). nodeBytes s * m) (sym (ap (firstNode s) last ∙ node-all s (shape-facts s start.requires.1.0))) in
-    sym (take_all (nodeBytes s * firstNode s l.i) l.trees (omega arith)) ∙ l.invariant.2 ∙ ap (λ (m : ℕ). concat m (tree s g.roots.now g.iv)) last
+    let all : length l.trees ≡ node_bytes s * first_node s l.i = l.invariant.1 ∙ ap (λ (m : ℕ). node_bytes s * m) (sym (ap (first_node s) last ∙ node-all s (shape-facts s start.requires.1.0))) in
+    sym (take_all (node_bytes s * first_node s l.i) l.trees (omega arith)) ∙ l.invariant.2 ∙ ap (λ (m : ℕ). concat m (tree s g.roots.now g.iv)) last
 
 pub grow-each-spec : {M : Type 1} → statement M
 grow-each-spec =

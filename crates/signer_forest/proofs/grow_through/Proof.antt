@@ -5,12 +5,12 @@ use mathlib.Core.List.{List}
 use Prim.Native.Nat.{ℕ, ◌+◌, ◌-◌, ◌*◌, ◌%◌}
 use native.Mathlib.Omega.{arith}
 use Rattle.spec.specs.Bytes.{part, tabulate, concat}
-use Rattle.spec.specs.Tree.{expandTree}
-use Rattle.spec.specs.Shapes.{nodeBytes, entriesOf, keyWords}
+use Rattle.spec.specs.Tree.{expand_tree}
+use Rattle.spec.specs.Shapes.{node_bytes, entries_of, key_words}
 use Rattle.spec.specs.Primitives.{prg}
-use Rattle.spec.specs.Version1.{faest1, prg1, vectorRoot, children1, vectorTree, signerTrees}
+use Rattle.spec.specs.Version1.{faest1, prg1, vector_root, children1, vector_tree, signer_trees}
 use Rattle.job.specs.declared.Version.TheVariants.{One}
-use Rattle.job.specs.Versions.{primitivesOf, byte_of}
+use Rattle.job.specs.Versions.{primitives_of, byte_of}
 use Rattle.job.proofs.Each.{prg-byte}
 use Rattle.laws.proofs.Concat.{mul-limit}
 use Rattle.laws.proofs.Lists.{tabulate-from-0}
@@ -25,7 +25,7 @@ fill-requires c κs =
     let p = start.requires.1 in
     let f = shape-facts s p.0 in
     let w = widths s f in
-    let most = mul-limit (nodeBytes s) s.tau 32 32 w.node-max f.tau-max in
+    let most = mul-limit (node_bytes s) s.tau 32 32 w.node-max f.tau-max in
     let long = p.1 in
     let size = p.3 in
     (start.requires.0, (omega arith, omega arith, ap (λ (m : ℕ). m % 8) p.1 ∙ w.node-eight, omega arith))
@@ -37,7 +37,7 @@ grow-each-requires c κs =
     (p.0, (p.1.0, c.before.before.before.before.fill.auto.1.1.1.1.0 ∙ p.1.3, p.1.2))
 
 returns : tie.Need-returns
-unfolding prg prg1 vectorRoot vectorTree signerTrees primitivesOf
+unfolding prg prg1 vector_root vector_tree signer_trees primitives_of
 returns c =
     let start = c.before.before.before.before.before.before.before.before.before.before.before.before in
     let g = start.args in
@@ -45,15 +45,15 @@ returns c =
     let p = start.requires.1 in
     let key = g.root.now in
     let w = widths s (shape-facts s p.0) in
-    let f : ℕ → ℕ = byte_of (keyWords s) key (record { iv = g.iv; tweak = 0; version = One }) in
+    let f : ℕ → ℕ = byte_of (key_words s) key (record { iv = g.iv; tweak = 0; version = One }) in
     let filled =
-    c.before.before.before.before.before.before.before.fill.ensures (keyWords s) (p.1 ∙ w.node-words)
+    c.before.before.before.before.before.before.before.fill.ensures (key_words s) (p.1 ∙ w.node-words)
     ∙ ap (λ (m : ℕ). tabulate m (λ q. f (0 + q))) p.3
-    ∙ tabulate-from-0 (nodeBytes s * s.tau) f
-    ∙ ap (tabulate (nodeBytes s * s.tau)) (sym (prg-byte One s key g.iv 0))
+    ∙ tabulate-from-0 (node_bytes s * s.tau) f
+    ∙ ap (tabulate (node_bytes s * s.tau)) (sym (prg-byte One s key g.iv 0))
     in
     c.before.before.grow-each.ensures
-    ∙ ap (λ (x : List ℕ). concat s.tau (λ i. expandTree (nodeBytes s) (part x (nodeBytes s * i) (nodeBytes s)) (children1 faest1 s g.iv) (entriesOf s i - 1))) filled
+    ∙ ap (λ (x : List ℕ). concat s.tau (λ i. expand_tree (node_bytes s) (part x (node_bytes s * i) (node_bytes s)) (children1 faest1 s g.iv) (entries_of s i - 1))) filled
 
 pub grow-through-spec : {M : Type 1} → statement M
 grow-through-spec = tie.close (tie.spec fill-requires grow-each-requires (λ c. search rules) (λ c. search rules) returns)

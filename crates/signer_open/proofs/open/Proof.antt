@@ -3,10 +3,10 @@ use borrow.Author.Rules.{rules}
 use mathlib.Core.Path.{◌≡◌, refl, ◌∙◌}
 use native.Mathlib.Omega.{arith}
 use lib.ListN.{length, length-replicate}
-use Rattle.spec.specs.Shapes.{openingBytes}
+use Rattle.spec.specs.Shapes.{opening_bytes}
 use Rattle.planning_laws.proofs.ShapeFacts.{shape-facts}
 use Rattle.refusals.proofs.Numbers.{plan-accepted}
-use Rattle.opening.proofs.Slots.{in_tree, opening_of}
+use Rattle.opening.proofs.Slots.{in_tree, opening_of_lem}
 use Rattle.signer_open.proofs.Answers.{refused, written}
 use Rattle.signer_open.proofs.open.Statement.{statement}
 use Rattle.signer_open.proofs.open.Tie as tie
@@ -17,7 +17,7 @@ returns c =
     refused _ _ tests.before.before.resolve.ensures _ _ _ _ _ tests.open-answer.ensures.0 c.if1.true
 
 write-hidden-requires : tie.Need-write-hidden-requires
-unfolding openingBytes
+unfolding opening_bytes
 write-hidden-requires c κs =
     let passed = c.before in
     let p = plan-accepted _ _ _ _ passed.before.before.before.open-answer.ensures.0 passed.if1.false in
@@ -48,7 +48,7 @@ returns-2 c =
     let p = plan-accepted _ _ _ _ answer.0 passed.if1.false in
     let f = shape-facts _ p.0 in
     let front = answer.1 passed.if1.false (rw length-replicate (omega arith)) in
-    let made = c.before.before.write-slots.ensures ∙ opening_of _ _ _ _ p.2 front _ _ _ hidden.write-hidden.ensures in
+    let made = c.before.before.write-slots.ensures ∙ opening_of_lem _ _ _ _ p.2 front _ _ _ hidden.write-hidden.ensures in
     written _ _ tests.before.before.resolve.ensures _ _ _ _ _ answer.0 _ passed.if1.false made
 
 pub open_spec : {M : Type 1} → statement M

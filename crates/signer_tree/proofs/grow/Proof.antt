@@ -4,19 +4,19 @@ use mathlib.Core.Path.{◌≡◌, sym, ap, ap₂, ◌∙◌}
 use Prim.Native.Nat.{ℕ, ◌+◌, ◌-◌, ◌*◌, ◌%◌}
 use native.Mathlib.Omega.{arith}
 use lib.ListN.{length}
-use Rattle.spec.specs.Tree.{expandTree}
-use Rattle.spec.specs.Shapes.{leaves, treeBytes}
+use Rattle.spec.specs.Tree.{expand_tree}
+use Rattle.spec.specs.Shapes.{leaves, tree_bytes}
 use Rattle.spec.specs.Primitives.{faest}
 use Rattle.spec.specs.Leaves.{children}
-use Rattle.spec.specs.Signer.{signerTree}
-use Rattle.job.specs.Versions.{primitivesOf}
+use Rattle.spec.specs.Signer.{signer_tree}
+use Rattle.job.specs.Versions.{primitives_of}
 use Rattle.laws.proofs.Concat.{mul-limit}
 use Rattle.planning_laws.proofs.ShapeFacts.{shape-facts, widths}
 use Rattle.signer_tree.proofs.grow.Statement.{statement}
 use Rattle.signer_tree.proofs.grow.Tie as tie
 
 grow-tree-requires : tie.Need-grow-tree-requires
-unfolding treeBytes
+unfolding tree_bytes
 grow-tree-requires c κs =
     let start = c.before.before.before.before.before in
     let g = start.args in
@@ -29,14 +29,14 @@ grow-tree-requires c κs =
     (start.requires.0, (n.ensures.1, n.ensures.2, ap (λ (m : ℕ). m % 8) n.ensures.0 ∙ w.node-eight, start.requires.1.1 ∙ sym n.ensures.0, all, omega arith))
 
 returns : tie.Need-returns
-unfolding signerTree primitivesOf
+unfolding signer_tree primitives_of
 returns c =
     let start = c.before.before.before.before.before.before.before.before in
     let g = start.args in
     let n = c.before.before.before.before.before.node-bytes in
     let count = c.before.before.before.before.leaf-count in
     c.before.before.grow-tree.ensures g.s start.requires.1.0 n.ensures.0
-    ∙ ap₂ (λ (m x : ℕ). expandTree m g.root.now (children faest g.s g.iv) (x - 1)) n.ensures.0 count.ensures.0
+    ∙ ap₂ (λ (m x : ℕ). expand_tree m g.root.now (children faest g.s g.iv) (x - 1)) n.ensures.0 count.ensures.0
 
 pub grow_spec : {M : Type 1} → statement M
 grow_spec = tie.close (tie.spec (λ c κs. search rules) (λ c κs. search rules) (λ c. search rules) grow-tree-requires (λ c. search rules) returns)

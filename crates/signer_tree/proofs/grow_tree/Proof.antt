@@ -9,10 +9,10 @@ use lib.ListN.{length, take, drop}
 use lib.Seq.{take_all, take_at}
 use Rattle.spec.specs.declared.Shape.{Shape}
 use Rattle.spec.specs.Bytes.{part}
-use Rattle.spec.specs.Tree.{expandTree}
-use Rattle.spec.specs.Shapes.{nodeBytes, shapeOk}
+use Rattle.spec.specs.Tree.{expand_tree}
+use Rattle.spec.specs.Shapes.{node_bytes, shape_ok}
 use Rattle.spec.specs.Leaves.{children}
-use Rattle.job.specs.Versions.{primitivesOf}
+use Rattle.job.specs.Versions.{primitives_of}
 use Rattle.laws.proofs.Concat.{mul-limit}
 use Rattle.tree.proofs.Growing.{length-children, grown-more}
 use Rattle.signer_tree.proofs.grow_tree.Statement.{statement}
@@ -25,7 +25,7 @@ inside n inner a k d l h = (let m = mul-limit n (2 * a + k) n (2 * inner + 1) (l
 abbrev invariant-loop : tie.invariant-loop
 invariant-loop t n version inner root iv tree₀ a₀ tree a =
     (a ≤ inner) × (length tree ≡ n * (2 * inner + 1)) × (length tree < 2 ^ 32)
-    × ((s : Shape) → shapeOk s ≡ true → n ≡ nodeBytes s → take (n * (2 * a + 1)) tree ≡ expandTree n root (children (primitivesOf version) s iv) a)
+    × ((s : Shape) → shape_ok s ≡ true → n ≡ node_bytes s → take (n * (2 * a + 1)) tree ≡ expand_tree n root (children (primitives_of version) s iv) a)
 
 abbrev decreases-loop : tie.decreases-loop
 decreases-loop t n version inner root iv tree₀ a₀ tree a = inner - a
@@ -41,7 +41,7 @@ copy-requires c κs =
     omega arith
 
 loop-holds : tie.Need-loop-init invariant-loop decreases-loop
-unfolding expandTree
+unfolding expand_tree
 loop-holds c =
     let start = c.before.before.before.before.before.before in
     let g = start.args in
@@ -75,7 +75,7 @@ loop-again c =
     let l = c.before.before.before.before.before.loop in
     let i = inside g.n g.inner l.a 1 (length l.tree) l.invariant.1 (omega arith) in
     let made = c.before.before.expand-node in
-    let P = primitivesOf g.version in
+    let P = primitives_of g.version in
     let same = made.auto.1.1.1.1.1.0 in
     let small = l.invariant.2 in (
       omega arith,
@@ -92,7 +92,7 @@ returns c = λ s ok e.
     let l = c.before.loop in
     let last : l.a ≡ g.inner = omega arith in
     let all : length l.tree ≡ g.n * (2 * l.a + 1) = l.invariant.1 ∙ ap (λ (m : ℕ). g.n * (2 * m + 1)) (sym last) in
-    sym (take_all (g.n * (2 * l.a + 1)) l.tree (omega arith)) ∙ l.invariant.3 s ok e ∙ ap (expandTree g.n g.root.now (children (primitivesOf g.version) s g.iv)) last
+    sym (take_all (g.n * (2 * l.a + 1)) l.tree (omega arith)) ∙ l.invariant.3 s ok e ∙ ap (expand_tree g.n g.root.now (children (primitives_of g.version) s g.iv)) last
 
 pub grow-tree-spec : {M : Type 1} → statement M
 grow-tree-spec =

@@ -8,9 +8,9 @@ use lib.Bits.{bit_xor}
 use lib.ListN.{length, get_or}
 use Rattle.spec.specs.Hashes.{hash1}
 use Rattle.spec.specs.Shapes.{depth_of}
-use Rattle.spec.specs.Rows.{uByte}
+use Rattle.spec.specs.Rows.{u_byte}
 use Rattle.columns.proofs.Running.{running-total}
-use Rattle.job.specs.Jobs.{entryByte}
+use Rattle.job.specs.Jobs.{entry_byte}
 use Rattle.vector.specs.Entries.{numbered}
 use Rattle.vector.proofs.Buffers.{last_end}
 use Rattle.vector.proofs.Numbers.{width_small, deep, height-small, u-by-number}
@@ -95,10 +95,10 @@ returns c =
     let x = one.new.1.1.1.1.1.1.0 in
     let y = two.new.1.1.1.1.1.1.0 in
     let at = ap (λ (d : ℕ). b * (d - 1)) d.ensures.0 in (
-      sum_of b (b * (d.result - 1)) (uByte s (entryByte g.g tree) i) x y g.total.now _ _ p.0.3 c.before.before.before.before.before.before.before.before.before.before.before.before.before.before.before.before.before.before.before.before.before.add-part.ensures c.before.before.before.before.before.before.before.before.add-part2.ensures
+      sum_of b (b * (d.result - 1)) (u_byte s (entry_byte g.g tree) i) x y g.total.now _ _ p.0.3 c.before.before.before.before.before.before.before.before.before.before.before.before.before.before.before.before.before.before.before.before.before.add-part.ensures c.before.before.before.before.before.before.before.before.add-part2.ensures
           (λ q l. ap (λ (k : ℕ). bit_xor (get_or x (k + q) 0) (get_or y (k + q) 0)) at
           ∙ running-total b (depth_of s i - 1) (numbered g.g tree (upper g.g ok i 0 n.result n.ensures.0 m)) (n.result / 2) n.result q x y l one.ensures.1 two.ensures.1
-          ∙ u-by-number s (entryByte g.g tree) i 0 m n.result q n.ensures.0),
+          ∙ u-by-number s (entry_byte g.g tree) i 0 m n.result q n.ensures.0),
       converted g.g tree i (n.result / 2) n.result g.lcs.now _ _ _ g.hash.now _ n.ensures.0 p.1.0 p.1.2 one.ensures.0 two.ensures.0
           (columns_of g.g ok i 0 n.result n.ensures.0 m tree y two.ensures.1)
           (c.before.before.h1.ensures ∙ ap (λ (r : ℕ). hash1 r two.new.1.1.1.1.1.0 (length g.hash.now)) c.before.before.before.before.before.rate-bytes.ensures.0),

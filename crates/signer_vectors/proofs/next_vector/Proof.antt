@@ -4,7 +4,7 @@ use Prim.Native.Nat.{ℕ, ◌+◌, ◌*◌}
 use mathlib.Core.Path.{◌≡◌, refl, ap, ◌∙◌}
 use native.Mathlib.Omega.{arith}
 use lib.ListN.{length}
-use Rattle.spec.specs.Shapes.{leafCommitmentBytes, hashBytes, depth_of, entriesOf}
+use Rattle.spec.specs.Shapes.{leaf_commitment_bytes, hash_bytes, depth_of, entries_of}
 use Rattle.vector.proofs.Buffers.{lent, lent-order, start_fits, end_fits, block-end, commitments-size, columns-size, commitments-end, columns-end}
 use Rattle.vector.proofs.Fronts.{before_more}
 use Rattle.signer_vectors.proofs.next_vector.Statement.{statement}
@@ -17,7 +17,7 @@ lcs-end c =
     let start = c.before.before.before.before.before.before.before.before.before.before.before.before.before in
     commitments-end start.args.g.shape start.requires.0.0.job.shape start.args.i _ _ start.requires.0.2 c.before.before.before.commitments-from2.ensures start.requires.1.0
 
-lcs-size : (c : tie.After-convert-arg) → c.before.before.before.commitments-from2.result ≡ c.before.before.before.before.commitments-from.result + leafCommitmentBytes c.before.before.before.before.before.before.before.before.before.before.before.before.before.args.g.shape * entriesOf c.before.before.before.before.before.before.before.before.before.before.before.before.before.args.g.shape c.before.before.before.before.before.before.before.before.before.before.before.before.before.args.i
+lcs-size : (c : tie.After-convert-arg) → c.before.before.before.commitments-from2.result ≡ c.before.before.before.before.commitments-from.result + leaf_commitment_bytes c.before.before.before.before.before.before.before.before.before.before.before.before.before.args.g.shape * entries_of c.before.before.before.before.before.before.before.before.before.before.before.before.before.args.g.shape c.before.before.before.before.before.before.before.before.before.before.before.before.before.args.i
 lcs-size c = commitments-size _ _ _ _ c.before.before.before.before.commitments-from.ensures c.before.before.before.commitments-from2.ensures
 
 v-end : tie.Need-slice-bounds-convert-end-2
@@ -33,7 +33,7 @@ hashes-end c =
     let start = c.before.before.before.before.before.before.before.before.before.before.before.before.before.before.before in
     let g = start.args in
     let h = c.before.before.before.before.before.before.before.hash-bytes in
-    let all : h.result * g.g.shape.tau ≡ hashBytes g.g.shape * g.g.shape.tau = ap (λ (n : ℕ). n * g.g.shape.tau) h.ensures.0 in
+    let all : h.result * g.g.shape.tau ≡ hash_bytes g.g.shape * g.g.shape.tau = ap (λ (n : ℕ). n * g.g.shape.tau) h.ensures.0 in
     block-end h.result g.i g.g.shape.tau (length g.hashes.now) start.requires.0.2 (let l = start.requires.1.2 in omega arith)
 
 convert-requires : tie.Need-convert-requires

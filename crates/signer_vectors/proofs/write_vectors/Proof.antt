@@ -6,12 +6,12 @@ use native.Mathlib.Nat.{mul-zero, le_refl}
 use native.Mathlib.Omega.{arith}
 use lib.ListN.{length, take}
 use Rattle.spec.specs.Bytes.{concat}
-use Rattle.spec.specs.Shapes.{hashBytes, leafCommitmentsBytes, matrixBytes, correctionsBytes}
+use Rattle.spec.specs.Shapes.{hash_bytes, leaf_commitments_bytes, matrix_bytes, corrections_bytes}
 use Rattle.spec.specs.Primitives.{faest}
-use Rattle.spec.specs.Signer.{signerU, signerColumn, correction, corrections}
+use Rattle.spec.specs.Signer.{signer_u, signer_column, correction, corrections}
 use Rattle.laws.proofs.Concat.{mul-limit}
 use Rattle.planning_laws.proofs.ShapeFacts.{shape-facts}
-use Rattle.job.specs.Jobs.{entryCommitment, entryByte}
+use Rattle.job.specs.Jobs.{entry_commitment, entry_byte}
 use Rattle.vector.specs.Vectors.{Before}
 use Rattle.vector.proofs.Buffers.{lent, block-end, put_all, all-columns}
 use Rattle.vector.proofs.Numbers.{width_small}
@@ -22,10 +22,10 @@ use Rattle.signer_vectors.proofs.write_vectors.Tie as tie
 
 abbrev invariant-loop : tie.invariant-loop
 invariant-loop t g keys tree lcs₀ u v₀ corrections₀ hashes₀ b others j₀ lcs v corrections hashes j =
-    (j ≤ g.shape.tau - 1) × (length lcs ≡ leafCommitmentsBytes g.shape) × (length v ≡ matrixBytes g.shape g.stretch.width) × (length corrections ≡ correctionsBytes g.shape g.stretch.width)
-    × (length hashes ≡ hashBytes g.shape * g.shape.tau) × (u ≡ signerU g.shape g.stretch.width (entryByte g tree))
-    × (take (g.stretch.width * j) corrections ≡ concat j (λ i. correction g.shape g.stretch.width (entryByte g tree) (i + 1)))
-    × Before g.shape g.stretch.width (entryCommitment g tree) (signerColumn g.shape g.stretch.width (entryByte g tree)) (j + 1) lcs v hashes
+    (j ≤ g.shape.tau - 1) × (length lcs ≡ leaf_commitments_bytes g.shape) × (length v ≡ matrix_bytes g.shape g.stretch.width) × (length corrections ≡ corrections_bytes g.shape g.stretch.width)
+    × (length hashes ≡ hash_bytes g.shape * g.shape.tau) × (u ≡ signer_u g.shape g.stretch.width (entry_byte g tree))
+    × (take (g.stretch.width * j) corrections ≡ concat j (λ i. correction g.shape g.stretch.width (entry_byte g tree) (i + 1)))
+    × Before g.shape g.stretch.width (entry_commitment g tree) (signer_column g.shape g.stretch.width (entry_byte g tree)) (j + 1) lcs v hashes
 
 abbrev decreases-loop : tie.decreases-loop
 decreases-loop t g keys tree lcs₀ u v₀ corrections₀ hashes₀ b others j₀ lcs v corrections hashes j = g.shape.tau - 1 - j
@@ -52,7 +52,7 @@ loop-holds c =
       kept.1.0 ∙ p.1.1,
       p.1.2,
       kept.1.1.0 ∙ p.0.3,
-      u-of g.shape g.stretch.width (entryByte g start.args.tree.now) _ _ _ c.before.before.before.before.before.before.before.before.before.before.before.before.before.before.before.clear-from.ensures first.ensures.0,
+      u-of g.shape g.stretch.width (entry_byte g start.args.tree.now) _ _ _ c.before.before.before.before.before.before.before.before.before.before.before.before.before.before.before.clear-from.ensures first.ensures.0,
       ap (λ (m : ℕ). take m start.args.corrections.now) (mul-zero g.stretch.width),
       first.ensures.1 (before-none _ _ _ _ _ _ _),
     )
@@ -60,7 +60,7 @@ loop-holds c =
 -- ---- correction j: its place
 
 correction-end : (c : tie.In-loop invariant-loop decreases-loop) → c.before.before.before.before.before.before.before.before.before.before.before.before.before.before.before.before.before.before.before.before.before.before.before.before.before.before.before.args.g.stretch.width * c.before.loop.j + c.before.before.before.before.before.before.before.before.before.before.before.before.before.before.before.before.before.before.before.before.before.before.before.before.before.before.before.args.g.stretch.width ≤ length c.before.loop.corrections
-unfolding correctionsBytes
+unfolding corrections_bytes
 correction-end c =
     let s = c.before.before.before.before.before.before.before.before.before.before.before.before.before.before.before.before.before.before.before.before.before.before.before.before.before.before.before.args.g.shape in
     let t = c.loop-test.true in
@@ -108,7 +108,7 @@ loop-again c =
       c.before.before.before.before.before.before.before.corrections2.given.1 ∙ copy.auto.1.1.1.0 ∙ l.invariant.3,
       kept.1.1.0 ∙ l.invariant.4,
       l.invariant.5,
-      correction-more g.shape g.stretch.width (entryByte g start.args.tree.now) l.j _ l.corrections copy.new.1.1.1.0 _ _ l.invariant.5 (correction-end c.before.before.before.before.before.before.before.before.before.before.before.before.before.before.before.before.before.before) (u-length _ _ _ _ l.invariant.5) copy.ensures made.ensures.0 l.invariant.6,
+      correction-more g.shape g.stretch.width (entry_byte g start.args.tree.now) l.j _ l.corrections copy.new.1.1.1.0 _ _ l.invariant.5 (correction-end c.before.before.before.before.before.before.before.before.before.before.before.before.before.before.before.before.before.before) (u-length _ _ _ _ l.invariant.5) copy.ensures made.ensures.0 l.invariant.6,
       made.ensures.1 l.invariant.7,
     )
 
@@ -124,21 +124,21 @@ clear-from-requires c κs =
     omega arith
 
 returns : tie.Need-returns invariant-loop decreases-loop
-unfolding correctionsBytes corrections
+unfolding corrections_bytes corrections
 returns c =
     let start = c.before.before.before.before.before.before.before.before.before.before.before.before.before.before.before.before.before.before.before.before.before.before.before.before.before.before.before.before.before.before.before.before in
     let g = start.args.g in
     let s = g.shape in
     let b = g.stretch.width in
-    let row = entryByte g start.args.tree.now in
+    let row = entry_byte g start.args.tree.now in
     let l = c.before.before.before.before.before.before.loop in
     let out = c.before.before.before.before.before.loop-test.false in
     let f = shape-facts s start.requires.0.0.job.shape in
     let rest : l.j ≡ s.tau - 1 = (let i = l.invariant.0 in omega arith) in
     let all : l.j + 1 ≡ s.tau = omega arith in
-    let lc = entryCommitment g start.args.tree.now in
-    let whole = before-all s b lc (signerColumn s b row) start.requires.0.0.job.shape _ l.lcs l.v _ l.hashes l.invariant.1 l.invariant.2 l.invariant.4 c.before.before.before.before.columns-from.ensures c.before.before.clear-from2.ensures
-    (subst (λ (n : ℕ). Before s b lc (signerColumn s b row) n l.lcs l.v l.hashes) all l.invariant.7) in (
+    let lc = entry_commitment g start.args.tree.now in
+    let whole = before-all s b lc (signer_column s b row) start.requires.0.0.job.shape _ l.lcs l.v _ l.hashes l.invariant.1 l.invariant.2 l.invariant.4 c.before.before.before.before.columns-from.ensures c.before.before.clear-from2.ensures
+    (subst (λ (n : ℕ). Before s b lc (signer_column s b row) n l.lcs l.v l.hashes) all l.invariant.7) in (
       whole.0,
       (l.invariant.5, (whole.1, (put_all (λ i. correction s b row (i + 1)) (b * (s.tau - 1)) (s.tau - 1) l.corrections l.invariant.3 (subst (λ (n : ℕ). take (b * n) l.corrections ≡ concat n (λ i. correction s b row (i + 1))) rest l.invariant.6), whole.2))),
     )

@@ -7,7 +7,7 @@ use native.Mathlib.Nat.{le-add_right}
 use native.Mathlib.Omega.{arith}
 use lib.ListN.{length, take, drop}
 use Rattle.spec.specs.Bytes.{part, tabulate}
-use Rattle.spec.specs.Shapes.{nodeBytes, keyWords}
+use Rattle.spec.specs.Shapes.{node_bytes, key_words}
 use Rattle.spec.specs.Primitives.{prg}
 use Rattle.job.specs.Versions.{byte_of}
 use Rattle.job.proofs.Each.{prg-byte}
@@ -113,19 +113,19 @@ returns c = λ s ok e.
     let from = n * (2 * a + 1) in
     let p = at c.before.before.before.before.before.before.before.before in
     let w = widths s (shape-facts s ok) in
-    let words : n ≡ 4 * keyWords s = e ∙ w.node-words in
+    let words : n ≡ 4 * key_words s = e ∙ w.node-words in
     let one : n * a + n - n * a ≡ n = omega arith in
     let key : part x (n * a) (n * a + n - n * a) ≡ part x (n * a) n = ap (part x (n * a)) one in
     let schedule = c.before.before.before.before.before.key-schedule in
-    let quarter : length (part x (n * a) (n * a + n - n * a)) / 4 ≡ keyWords s = (let k = key-size c.before.before.before.before.before.before.before in omega arith) in
+    let quarter : length (part x (n * a) (n * a + n - n * a)) / 4 ≡ key_words s = (let k = key-size c.before.before.before.before.before.before.before in omega arith) in
     let keyed = subst (λ (m : ℕ). Keyed m (part x (n * a) (n * a + n - n * a)) schedule.result) quarter schedule.ensures in
-    let rounds : n / 4 + 6 ≡ keyWords s + 6 = omega arith in
-    let f : List ℕ → ℕ → ℕ = λ k. byte_of (keyWords s) k (record { iv = g.iv; tweak = a; version = g.version }) in
+    let rounds : n / 4 + 6 ≡ key_words s + 6 = omega arith in
+    let f : List ℕ → ℕ → ℕ = λ k. byte_of (key_words s) k (record { iv = g.iv; tweak = a; version = g.version }) in
     let made =
-    c.before.before.fill-keyed.ensures (keyWords s) _ rounds keyed
+    c.before.before.fill-keyed.ensures (key_words s) _ rounds keyed
     ∙ ap₂ (λ (m : ℕ) (k : List ℕ). tabulate m (λ q. f k (0 + q))) (two_size c.before.before.before.before ∙ ap (λ (m : ℕ). 2 * m) e) key
-    ∙ tabulate-from-0 (2 * nodeBytes s) (f (part x (n * a) n))
-    ∙ ap (tabulate (2 * nodeBytes s)) (sym (prg-byte g.version s (part x (n * a) n) g.iv a)) in
+    ∙ tabulate-from-0 (2 * node_bytes s) (f (part x (n * a) n))
+    ∙ ap (tabulate (2 * node_bytes s)) (sym (prg-byte g.version s (part x (n * a) n) g.iv a)) in
     let rest : drop (from + 2 * n - from) (drop from x) ≡ drop (n * (2 * a + 3)) x = behind from (2 * n) x ∙ ap (λ (m : ℕ). drop m x) p.last in
     ap₂ (λ (y z : List ℕ). take from x ++ (y ++ z)) made rest
 

@@ -8,7 +8,7 @@ use native.Mathlib.Omega.{arith}
 use lib.ListN.{length, take, drop, drop_of_length-le}
 use lib.Pow.{pow_mono}
 use Rattle.spec.specs.Bytes.{part, concat}
-use Rattle.spec.specs.Version1.{siblingAt}
+use Rattle.spec.specs.Version1.{sibling_at}
 use Rattle.laws.proofs.Concat.{part-whole, mul_next, mul-within, mul-limit}
 use Rattle.laws.proofs.Lists.{length_part}
 use Rattle.laws.proofs.Putting.{put_next}
@@ -16,7 +16,7 @@ use Rattle.v1_opening.proofs.write_decommitment.Statement.{statement}
 use Rattle.v1_opening.proofs.write_decommitment.Tie as tie
 
 abbrev shown : ℕ → ℕ → ℕ → List ℕ → ℕ → List ℕ
-shown n d j tree l = part tree (n * siblingAt d j (l + 1)) n
+shown n d j tree l = part tree (n * sibling_at d j (l + 1)) n
 
 abbrev invariant-loop : tie.invariant-loop
 invariant-loop n d j tree hidden out₀ l₀ out l = (l ≤ d) × (length out ≡ n * d + 2 * n) × (take (n * l) out ≡ concat l (shown n d j tree))

@@ -4,7 +4,7 @@ use mathlib.Core.Path.{◌≡◌, refl, sym, ap, ◌∙◌}
 use Prim.Native.Nat.{ℕ, ◌+◌, ◌-◌, ◌*◌, ◌^◌, ◌≤◌}
 use native.Mathlib.Omega.{arith}
 use lib.ListN.{length}
-use Rattle.spec.specs.Shapes.{depth_of, entriesOf}
+use Rattle.spec.specs.Shapes.{depth_of, entries_of}
 use Rattle.spec.specs.Version1.{decommitment}
 use Rattle.laws.proofs.Concat.{mul-limit}
 use Rattle.v1_opening.proofs.Parts.{lent, put-behind, tree-part, opening-part, leaf-part, is-decommitment}
@@ -47,7 +47,7 @@ mul-from c =
     omega arith
 
 write-decommitment-requires : tie.Need-write-decommitment-requires
-unfolding entriesOf
+unfolding entries_of
 write-decommitment-requires c κs =
     let start = c.before.before.before.before.before.before.before.before.before.before.before.before.before.before.before in
     let g = start.args in

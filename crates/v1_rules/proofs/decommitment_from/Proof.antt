@@ -3,7 +3,7 @@ use borrow.Author.Rules.{rules}
 use Prim.Native.Nat.{ℕ, ◌+◌, ◌*◌, ◌≤◌}
 use mathlib.Core.Path.{ap₂}
 use native.Mathlib.Omega.{arith}
-use Rattle.spec.specs.Version1.{decommitmentFrom}
+use Rattle.spec.specs.Version1.{decommitment_from}
 use Rattle.laws.proofs.Concat.{mul-limit}
 use Rattle.planning_laws.proofs.ShapeFacts.{shape-facts}
 use Rattle.v1_rules.proofs.decommitment_from.Statement.{statement}
@@ -18,7 +18,7 @@ before-it c =
     (i, mul-limit c.before.node-bytes.result (c.first_bit.result + 2 * a.args.i) 32 320 c.before.node-bytes.ensures.2 (let b = c.first_bit.ensures.2 in omega arith))
 
 returns : tie.Need-returns
-unfolding decommitmentFrom
+unfolding decommitment_from
 returns c = (let m = before-it c in (ap₂ (λ (w n : ℕ). w * (n + 2 * c.before.before.args.i)) c.before.node-bytes.ensures.0 c.first_bit.ensures.0, omega arith))
 
 pub decommitment-from-spec : {M : Type 1} → statement M

@@ -3,7 +3,7 @@ use borrow.Author.Rules.{rules}
 use Prim.Native.Nat.{ℕ, ◌+◌, ◌*◌, ◌≤◌}
 use mathlib.Core.Path.{ap₂}
 use native.Mathlib.Omega.{arith}
-use Rattle.spec.specs.Version1.{opening1Bytes}
+use Rattle.spec.specs.Version1.{opening1_bytes}
 use Rattle.laws.proofs.Concat.{mul-limit}
 use Rattle.planning_laws.proofs.ShapeFacts.{shape-facts}
 use Rattle.v1_rules.proofs.opening_bytes.Statement.{statement}
@@ -18,7 +18,7 @@ all-nodes c =
     (m, mul-limit c.before.before.node-bytes.result (c.before.level-bits.result + 2 * a.args.s.tau) 32 320 c.before.before.node-bytes.ensures.2 (let b = c.before.level-bits.ensures.1 in omega arith))
 
 returns : tie.Need-returns
-unfolding opening1Bytes
+unfolding opening1_bytes
 returns c = (let m = all-nodes c in (ap₂ (λ (w n : ℕ). w * (n + 2 * c.before.before.before.args.s.tau)) c.before.before.node-bytes.ensures.0 c.before.level-bits.ensures.0, omega arith))
 
 pub opening-bytes-spec : {M : Type 1} → statement M

@@ -3,7 +3,7 @@ use borrow.Author.Rules.{rules}
 use Prim.Native.Nat.{ℕ, ◌-◌, ◌*◌, ◌≤◌}
 use mathlib.Core.Path.{ap₂, ◌∙◌}
 use native.Mathlib.Omega.{arith}
-use Rattle.spec.specs.Version1.{trees1Bytes}
+use Rattle.spec.specs.Version1.{trees1_bytes}
 use Rattle.laws.proofs.Concat.{mul-limit}
 use Rattle.planning_laws.proofs.ShapeFacts.{shape-facts}
 use Rattle.planning_laws.proofs.Forest.{entries-after}
@@ -21,7 +21,7 @@ product : (c : tie.After-struct-known) → c.before.before.node-bytes.result * (
 product c = mul-limit c.before.before.node-bytes.result (2 * c.before.leaf-count.result - c.before.before.before.args.s.tau) 32 172032 c.before.before.node-bytes.ensures.2 (let l = c.before.leaf-count.ensures.2 in omega arith)
 
 returns : tie.Need-returns
-unfolding trees1Bytes
+unfolding trees1_bytes
 returns c = (let m = product c in (ap₂ (λ (w n : ℕ). w * (2 * n - c.before.before.before.args.s.tau)) c.before.before.node-bytes.ensures.0 c.before.leaf-count.ensures.0, omega arith))
 
 pub trees-bytes-spec : {M : Type 1} → statement M

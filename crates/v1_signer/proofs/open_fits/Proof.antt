@@ -1,12 +1,12 @@
 -- Each length is that of its name.
 use borrow.Author.Rules.{rules}
 use mathlib.Core.Path.{refl}
-use Rattle.spec.specs.Shapes.{nodeBytes, challengeBytes}
+use Rattle.spec.specs.Shapes.{node_bytes, challenge_bytes}
 use Rattle.v1_signer.proofs.open_fits.Statement.{statement}
 use Rattle.v1_signer.proofs.open_fits.Tie as tie
 
 returns : tie.Need-returns
-unfolding nodeBytes challengeBytes
+unfolding node_bytes challenge_bytes
 returns c =
     let made = c.before.before.before.before in
     rw (made.before.before.before.node-bytes.ensures.0, made.before.before.trees-bytes.ensures.0, made.before.leaf-commitments-bytes.ensures.0, made.opening-bytes.ensures.0) refl

@@ -5,8 +5,8 @@ use mathlib.Core.Path.{◌≡◌, sym, ap, ◌∙◌}
 use native.Mathlib.Nat.{zero-add}
 use native.Mathlib.Omega.{arith}
 use lib.ListN.{replicate}
-use Rattle.spec.specs.Shapes.{hashBytes}
-use Rattle.spec.specs.Version1.{leafCommitmentBytes1}
+use Rattle.spec.specs.Shapes.{hash_bytes}
+use Rattle.spec.specs.Version1.{leaf_commitment_bytes1}
 use Rattle.laws.proofs.Concat.{mul-limit}
 use Rattle.planning_laws.proofs.ShapeFacts.{shape-facts}
 use Rattle.vector.proofs.Buffers.{lent}
@@ -20,14 +20,14 @@ room c =
     mul-limit c.before.hash-bytes.result start.args.s.tau 64 32 c.before.hash-bytes.ensures.1 (shape-facts start.args.s (shape-parts _ start.requires.0.0).0).tau-max
 
 write-all-requires : tie.Need-write-all-requires
-unfolding hashBytes leafCommitmentBytes1
+unfolding hash_bytes leaf_commitment_bytes1
 write-all-requires c κs =
     let start = c.before.before.before.before.before.before.before.before.before.before.before.before.before.before.before.before.before.before.before in
     let p = start.requires.0 in
     let tau = start.args.s.tau in
     let h = c.before.before.before.before.before.before.before.before.before.before.hash-bytes in
     let m = room c.before.before.before.before.before.before.before.before.before in
-    let part : h.result * tau ≡ 0 + hashBytes start.args.s * tau = ap (λ (n : ℕ). n * tau) h.ensures.0 ∙ sym (zero-add _) in
+    let part : h.result * tau ≡ 0 + hash_bytes start.args.s * tau = ap (λ (n : ℕ). n * tau) h.ensures.0 ∙ sym (zero-add _) in
     let keys = lent 0 (h.result * tau) _ (replicate 2048 0) part (omega arith) in
     ((p.0, p.1, p.2, p.3, keys, keys), start.requires.1)
 

@@ -6,7 +6,7 @@ use mathlib.Core.List.{List}
 use lib.ListN.{length}
 use Rattle.spec.specs.Hashes.{hash1}
 use Rattle.spec.specs.Shapes.{rate}
-use Rattle.spec.specs.Version1.{faest1, row1Byte}
+use Rattle.spec.specs.Version1.{faest1, row1_byte}
 use Rattle.spec.specs.Version1Calls.{reconstructed1}
 use Rattle.vector.proofs.InnerJob.{lent-job, no_keys}
 use Rattle.v1_rules.proofs.Numbers.{shape-parts}
@@ -53,7 +53,7 @@ returns c =
     c.before.before.h1.ensures ∙ ap (λ (r : ℕ). hash1 r vectors.new.1.1.1.1.1.1.1.1.0 (length g.commitment.now)) c.before.before.before.before.before.before.before.before.before.before.before.before.before.before.before.before.before.before.before.before.before.before.before.before.before.before.before.before.before.rate-bytes.ensures.0
     ∙ ap₂ (λ (m : List ℕ) (n : ℕ). hash1 (rate g.s) m n) made.1.1 start.requires.1.1.0 in
     let rows = uncorrected-rows g.s g.b x.result job.result job.ensures g.ch.now trees.new.1.1.1.1.1.0 _ made.1.0 in
-    reconstruct-writes g.s g.b x.result job.result job.ensures g.ch.now g.corrections.now g.opening.now _ _ _ _ trees.ensures hash made.0 (c.before.before.before.before.before.before.before.correct-vectors.ensures (row1Byte faest1 g.s x.result trees.new.1.1.1.1.1.0) rows)
+    reconstruct-writes g.s g.b x.result job.result job.ensures g.ch.now g.corrections.now g.opening.now _ _ _ _ trees.ensures hash made.0 (c.before.before.before.before.before.before.before.correct-vectors.ensures (row1_byte faest1 g.s x.result trees.new.1.1.1.1.1.0) rows)
     ∙ ap (λ (i : List ℕ). reconstructed1 faest1 g.s g.b i g.ch.now g.corrections.now g.opening.now) x.ensures
 
 pub write-all-spec : {M : Type 1} → statement M

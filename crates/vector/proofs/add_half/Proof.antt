@@ -7,11 +7,11 @@ use native.Mathlib.Nat.{mul-le-mul}
 use native.Mathlib.Omega.{arith}
 use lib.Bits.{bit_xor}
 use lib.ListN.{length}
-use Rattle.spec.specs.Shapes.{leafCommitmentBytes, entriesOf}
+use Rattle.spec.specs.Shapes.{leaf_commitment_bytes, entries_of}
 use Rattle.columns.specs.Columns.{Marked, Running}
 use Rattle.columns.proofs.Adding.{xored-lent}
 use Rattle.columns.proofs.Running.{running-start, running-next}
-use Rattle.job.specs.Jobs.{entryCommitment}
+use Rattle.job.specs.Jobs.{entry_commitment}
 use Rattle.vector.specs.Entries.{numbered, Written}
 use Rattle.vector.proofs.Buffers.{lent, last_end, cleared-before, cleared-behind}
 use Rattle.vector.proofs.Numbers.{entry_in, entry-end, width_small, deep, height-small}
@@ -22,7 +22,7 @@ use Rattle.vector.proofs.add_half.Tie as tie
 
 abbrev invariant-loop : tie.invariant-loop
 invariant-loop t m g run tree commitments₀ cols₀ i b w h last x₀ x-end commitments cols x =
-    (run.from ≤ x) × (x ≤ run.to) × Written w (entryCommitment g tree run.vector) run.mask run.from x commitments₀ commitments
+    (run.from ≤ x) × (x ≤ run.to) × Written w (entry_commitment g tree run.vector) run.mask run.from x commitments₀ commitments
     × Running g.stretch.width h run.from x (numbered g tree run) cols
 
 abbrev decreases-loop : tie.decreases-loop
@@ -58,23 +58,23 @@ loop-holds c =
     let room : at ≤ length g.cols.now = (let e = behind d in omega arith) in (
       omega arith,
       start.requires.0.2.order,
-      written_none _ (entryCommitment g.g g.tree.now g.run.vector) g.run.mask g.run.from g.commitments.now,
+      written_none _ (entry_commitment g.g g.tree.now g.run.vector) g.run.mask g.run.from g.commitments.now,
       running-start g.g.stretch.width (d.depth-of.result - 1) (numbered g.g g.tree.now g.run) g.run.from g.cols.now clear.new.0 (marked d) clear.auto.0
           (cleared-before at _ g.cols.now clear.new.0 room clear.ensures) (cleared-behind at _ g.cols.now clear.new.0 room clear.ensures),
     )
 
 -- ---- the parts lent
 
-entry : (c : tie.After-struct-known invariant-loop decreases-loop) → (bit_xor c.before.before.loop.x c.before.before.before.before.before.before.before.before.before.before.before.before.args.run.mask < entriesOf c.before.before.before.before.before.before.before.before.before.before.before.before.args.g.shape c.before.before.before.before.before.before.before.before.before.before.before.before.args.run.vector)
-    × (c.before.before.before.before.before.before.before.before.commitment-bytes.result * bit_xor c.before.before.loop.x c.before.before.before.before.before.before.before.before.before.before.before.before.args.run.mask + c.before.before.before.before.before.before.before.before.commitment-bytes.result ≤ c.before.before.before.before.before.before.before.before.commitment-bytes.result * entriesOf c.before.before.before.before.before.before.before.before.before.before.before.before.args.g.shape c.before.before.before.before.before.before.before.before.before.before.before.before.args.run.vector)
-    × (c.before.before.before.before.before.before.before.before.commitment-bytes.result * entriesOf c.before.before.before.before.before.before.before.before.before.before.before.before.args.g.shape c.before.before.before.before.before.before.before.before.before.before.before.before.args.run.vector ≤ 393216)
+entry : (c : tie.After-struct-known invariant-loop decreases-loop) → (bit_xor c.before.before.loop.x c.before.before.before.before.before.before.before.before.before.before.before.before.args.run.mask < entries_of c.before.before.before.before.before.before.before.before.before.before.before.before.args.g.shape c.before.before.before.before.before.before.before.before.before.before.before.before.args.run.vector)
+    × (c.before.before.before.before.before.before.before.before.commitment-bytes.result * bit_xor c.before.before.loop.x c.before.before.before.before.before.before.before.before.before.before.before.before.args.run.mask + c.before.before.before.before.before.before.before.before.commitment-bytes.result ≤ c.before.before.before.before.before.before.before.before.commitment-bytes.result * entries_of c.before.before.before.before.before.before.before.before.before.before.before.before.args.g.shape c.before.before.before.before.before.before.before.before.before.before.before.before.args.run.vector)
+    × (c.before.before.before.before.before.before.before.before.commitment-bytes.result * entries_of c.before.before.before.before.before.before.before.before.before.before.before.before.args.g.shape c.before.before.before.before.before.before.before.before.before.before.before.before.args.run.vector ≤ 393216)
 entry c =
     let start = c.before.before.before.before.before.before.before.before.before.before.before.before in
     let g = start.args in
     let inside = start.requires.0.2 in
     let w = c.before.before.before.before.before.before.before.before.commitment-bytes in
     let x = c.before.before.loop.x in
-    let below : x < entriesOf g.g.shape g.run.vector = (let t = c.before.loop-test.true in let a = inside.all in omega arith) in
+    let below : x < entries_of g.g.shape g.run.vector = (let t = c.before.loop-test.true in let a = inside.all in omega arith) in
     let e = entry-end g.g.shape w.result g.run.vector x g.run.mask start.requires.0.0.job.shape w.ensures.1 below inside.mask in
     (entry_in g.g.shape g.run.vector x g.run.mask below inside.mask, e.0, e.1)
 
@@ -82,7 +82,7 @@ part-add-entry-end : tie.Need-slice-bounds-add-entry-end invariant-loop decrease
 part-add-entry-end c =
     let start = c.before.before.before.before.before.before.before.before.before.before.before.before in
     let w = c.before.before.before.before.before.before.before.before.commitment-bytes in
-    let n = entriesOf start.args.g.shape start.args.run.vector in
+    let n = entries_of start.args.g.shape start.args.run.vector in
     let long : length c.before.before.loop.commitments ≡ w.result * n = c.before.before.loop.invariant.2.size ∙ start.requires.1.0 ∙ ap (λ (w : ℕ). w * n) (sym w.ensures.0) in
     let e = entry c in
     omega arith
@@ -129,7 +129,7 @@ loop-again c =
     let inside = c.before.before.before.before.before.before.before.before.before.before.before.before.loop-test.true in (
       omega arith,
       omega arith,
-      written-more w.result (entryCommitment g.g x g.run.vector) g.run.mask g.run.from l.x g.commitments.now l.commitments _ room
+      written-more w.result (entry_commitment g.g x g.run.vector) g.run.mask g.run.from l.x g.commitments.now l.commitments _ room
           (ap length made.ensures.0 ∙ entry_length g.g x g.run.vector _ start.requires.0.0.job.kind ∙ sym w.ensures.0) from made.ensures.0 l.invariant.2,
       running-next g.g.stretch.width h (numbered g.g x g.run) g.run.from l.x l.cols _ _ l.invariant.3
           (xored-lent (g.g.stretch.width * h) g.g.stretch.width _ l.cols _ (part-add-entry-end-2 c.before.before.before.before.before.before.before.before.before.before) made.ensures.1) c.before.before.add-last.ensures,

@@ -6,7 +6,7 @@ use native.Mathlib.Nat.{mul-zero}
 use native.Mathlib.Omega.{arith}
 use lib.ListN.{length, take}
 use Rattle.spec.specs.Bytes.{concat}
-use Rattle.spec.specs.Version1.{faest1, firstNode, reconstructedVectorTree, reconstructedTrees}
+use Rattle.spec.specs.Version1.{faest1, first_node, reconstructed_vector_tree, reconstructed_trees}
 use Rattle.laws.proofs.Concat.{mul-limit}
 use Rattle.planning_laws.proofs.ShapeFacts.{shape-facts, widths}
 use Rattle.planning_laws.proofs.Forest.{node-none}
@@ -16,7 +16,7 @@ use Rattle.verifier_forest.proofs.reconstruct_trees.Tie as tie
 
 abbrev invariant-loop : tie.invariant-loop
 invariant-loop t s ch iv opening trees₀ w tau i₀ trees i =
-    (i ≤ tau) × (length trees ≡ length trees₀) × (take (w * firstNode s i) trees ≡ concat i (reconstructedVectorTree faest1 s iv ch opening))
+    (i ≤ tau) × (length trees ≡ length trees₀) × (take (w * first_node s i) trees ≡ concat i (reconstructed_vector_tree faest1 s iv ch opening))
 
 abbrev decreases-loop : tie.decreases-loop
 decreases-loop t s ch iv opening trees₀ w tau i₀ trees i = tau - i
@@ -80,16 +80,16 @@ loop-again c =
     let w = c.before.before.write-tree in
     let h : (head k).loop.i < g.s.tau = k.before.before.before.before.before.loop-test.true in
     let made = w.ensures g.s g.ch.now g.opening.now (head k).loop.i v.vector in
-    (omega arith, search rules, v.put (reconstructedVectorTree faest1 g.s g.iv g.ch.now g.opening.now) _ _ (w.auto.1.1.1.1.1.1.0 ∙ v.tree) made (head k).loop.invariant.2)
+    (omega arith, search rules, v.put (reconstructed_vector_tree faest1 g.s g.iv g.ch.now g.opening.now) _ _ (w.auto.1.1.1.1.1.1.0 ∙ v.tree) made (head k).loop.invariant.2)
 
 returns : tie.Need-returns invariant-loop decreases-loop
-unfolding reconstructedTrees
+unfolding reconstructed_trees
 returns c =
     let st = c.before.before.before.before.before.before in
     let s = st.args.s in
     let w = c.before.before.node-bytes in
     let l = c.before.loop in
-    all-stand s st.requires.1.0 w.result l.i w.ensures.0 l.trees (reconstructedVectorTree faest1 s st.args.iv st.args.ch.now st.args.opening.now) (omega arith) (l.invariant.1 ∙ st.requires.1.3) l.invariant.2
+    all-stand s st.requires.1.0 w.result l.i w.ensures.0 l.trees (reconstructed_vector_tree faest1 s st.args.iv st.args.ch.now st.args.opening.now) (omega arith) (l.invariant.1 ∙ st.requires.1.3) l.invariant.2
 
 pub reconstruct-trees-spec : {M : Type 1} → statement M
 reconstruct-trees-spec =

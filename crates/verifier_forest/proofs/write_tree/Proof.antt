@@ -10,9 +10,9 @@ use lib.Pow.{pow_mono, pow_pos}
 use lib.Seq.{take_all, take_at}
 use Rattle.spec.specs.declared.Shape.{Shape}
 use Rattle.spec.specs.Bytes.{part, zeros}
-use Rattle.spec.specs.Tree.{expandTree}
-use Rattle.spec.specs.Shapes.{entriesOf}
-use Rattle.spec.specs.Version1.{faest1, reconstructedChildren1, reconstructedVectorTree}
+use Rattle.spec.specs.Tree.{expand_tree}
+use Rattle.spec.specs.Shapes.{entries_of}
+use Rattle.spec.specs.Version1.{faest1, reconstructed_children1, reconstructed_vector_tree}
 use Rattle.laws.proofs.Lists.{length_part, length-zeros}
 use Rattle.laws.proofs.Concat.{mul-limit, mul-within}
 use Rattle.verifier_forest.specs.ByWay.{VectorOf}
@@ -48,7 +48,7 @@ invariant-loop t w iv d j slots tree₀ inner path₀ l₀ a₀ tree path l a =
     × (length tree ≡ w * (2 * 2 ^ d - 1))
     × Walk d j a path l
     × ((s : Shape) (ch opening : List ℕ) (i : ℕ) → VectorOf w d j slots s ch opening i
-    → take (w * (2 * a + 1)) tree ≡ expandTree w (zeros w) (reconstructedChildren1 faest1 s iv ch opening i) a)
+    → take (w * (2 * a + 1)) tree ≡ expand_tree w (zeros w) (reconstructed_children1 faest1 s iv ch opening i) a)
 
 abbrev decreases-loop : tie.decreases-loop
 decreases-loop t w iv d j slots tree₀ inner path₀ l₀ a₀ tree path l a = inner - a
@@ -75,7 +75,7 @@ root_stands w d y h e =
     take_at y (drop (w - 0) (drop 0 d)) (w * 1) (ap length z ∙ length-zeros w ∙ sym (mul-one w)) ∙ z
 
 loop-holds : tie.Need-loop-init invariant-loop decreases-loop
-unfolding expandTree
+unfolding expand_tree
 loop-holds c =
     let st = c.before.before.before.before.before.before in
     let g = st.args in
@@ -153,7 +153,7 @@ loop-again-2 c =
     )
 
 returns : tie.Need-returns invariant-loop decreases-loop
-unfolding reconstructedVectorTree entriesOf
+unfolding reconstructed_vector_tree entries_of
 returns c =
     λ s ch opening i v.
     let g = (start c.before).args in
@@ -161,10 +161,10 @@ returns c =
     let q = power g.d (start c.before).pre.1.3 in
     let e : l.a ≡ 2 ^ g.d - 1 = omega arith in
     let all : length l.tree ≡ g.w * (2 * l.a + 1) = l.invariant.3 ∙ ap (λ (m : ℕ). g.w * m) (let z : 2 * 2 ^ g.d - 1 ≡ 2 * l.a + 1 = omega arith in z) in
-    let kids = reconstructedChildren1 faest1 s g.iv ch opening i in
+    let kids = reconstructed_children1 faest1 s g.iv ch opening i in
     sym (take_all (g.w * (2 * l.a + 1)) l.tree (omega arith))
     ∙ l.invariant.5 s ch opening i v
-    ∙ ap₂ (λ (w n : ℕ). expandTree w (zeros w) kids n) v.width (e ∙ ap (λ (n : ℕ). 2 ^ n - 1) v.depth)
+    ∙ ap₂ (λ (w n : ℕ). expand_tree w (zeros w) kids n) v.width (e ∙ ap (λ (n : ℕ). 2 ^ n - 1) v.depth)
 
 pub write-tree-spec : {M : Type 1} → statement M
 write-tree-spec =

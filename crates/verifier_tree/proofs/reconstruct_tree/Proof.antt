@@ -5,7 +5,7 @@ use Prim.Native.Nat.{ℕ, ◌-◌, ◌*◌, ◌%◌}
 use native.Mathlib.Omega.{arith}
 use lib.ListN.{length}
 use Rattle.spec.specs.Bytes.{part, zeros}
-use Rattle.spec.specs.Shapes.{nodeBytes, leafCommitmentBytes, treeBytes, openingBytes}
+use Rattle.spec.specs.Shapes.{node_bytes, leaf_commitment_bytes, tree_bytes, opening_bytes}
 use Rattle.laws.proofs.Lists.{length_part, length-zeros}
 use Rattle.laws.proofs.Concat.{mul-limit, mul-rest}
 use Rattle.planning_laws.proofs.ShapeFacts.{shape-facts, widths}
@@ -31,19 +31,19 @@ nodes-within c =
     omega (arith, w.ensures.0, w.auto.1.1.0)
 
 -- where the slots begin
-slots-from : (c : tie.After-write-tree-arg) → c.before.before.before.before.before.before.before.commitment-bytes.result * c.before.before.before.before.before.before.before.before.before.before.before.before.args.s.tau ≡ leafCommitmentBytes c.before.before.before.before.before.before.before.before.before.before.before.before.args.s * c.before.before.before.before.before.before.before.before.before.before.before.before.args.s.tau
+slots-from : (c : tie.After-write-tree-arg) → c.before.before.before.before.before.before.before.commitment-bytes.result * c.before.before.before.before.before.before.before.before.before.before.before.before.args.s.tau ≡ leaf_commitment_bytes c.before.before.before.before.before.before.before.before.before.before.before.before.args.s * c.before.before.before.before.before.before.before.before.before.before.before.before.args.s.tau
 slots-from c = ap (λ (n : ℕ). n * c.before.before.before.before.before.before.before.before.before.before.before.before.args.s.tau) c.before.before.before.before.before.before.before.commitment-bytes.ensures.0
 
 first-within : tie.Need-overflow-sub-write-tree-2
-unfolding openingBytes
+unfolding opening_bytes
 first-within c = (let h = c.before.before.before.before.before.before.before.before.before.before.before.before.requires.1.4 in let e = slots-from c in omega arith)
 
 slots-within : tie.Need-slice-bounds-write-tree-start-2
-unfolding openingBytes
+unfolding opening_bytes
 slots-within c = (let h = c.before.before.before.before.before.before.before.before.before.before.before.before.requires.1.4 in let e = slots-from c in omega arith)
 
 write-tree-requires : tie.Need-write-tree-requires
-unfolding treeBytes openingBytes zeros
+unfolding tree_bytes opening_bytes zeros
 write-tree-requires c κs =
     let st = c.before.before.before.before.before.before.before.before.before.before.before.before.before.before in
     let g = st.args in
@@ -59,7 +59,7 @@ write-tree-requires c κs =
     let n = c.before.before.before.before.leaf-count in
     let r = front-ready g.s f g.ch.now n.result g.n nodes.result nodes.new.1.1.0 n.ensures.0 p.1.2 p.1.3 nodes.ensures.0 nodes.ensures.1 in
     let rest : length (part o first (length o - first)) ≡ length o - first = length_part o first (length o - first) (let h = p.1.4 in omega arith) in
-    let slots : w.result * g.s.t ≡ nodeBytes g.s * g.s.t = ap (λ (m : ℕ). m * g.s.t) w.ensures.0 in
+    let slots : w.result * g.s.t ≡ node_bytes g.s * g.s.t = ap (λ (m : ℕ). m * g.s.t) w.ensures.0 in
     let used = mul-rest w.result g.n g.s.t p.1.3 in
     let long = p.1.4 in
     let all : length g.tree.now ≡ w.result * (2 * n.result - 1) = p.1.5 ∙ sym (ap₂ (λ (m k : ℕ). m * (2 * k - 1)) w.ensures.0 n.ensures.0) in

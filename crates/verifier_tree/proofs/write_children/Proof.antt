@@ -8,12 +8,12 @@ use native.Mathlib.Omega.{arith}
 use lib.ListN.{take, drop}
 use Rattle.spec.specs.Bytes.{part}
 use Rattle.laws.proofs.Tests.{failed, passed}
-use Rattle.verifier_tree.specs.ByNodes.{atOrAfter, readWith}
+use Rattle.verifier_tree.specs.ByNodes.{at_or_after, read_with}
 use Rattle.laws.proofs.Concat.{mul-limit}
 use Rattle.tree.proofs.Growing.{node-place}
 use Rattle.verifier_tree.proofs.Places.{node-passed, node_kept, children-kept}
 use Rattle.verifier_tree.proofs.Children.{other-reads, other-children, listed-reads, left-within, right-within, listed-children}
-use Rattle.job.specs.Versions.{primitivesOf}
+use Rattle.job.specs.Versions.{primitives_of}
 use Rattle.verifier_tree.proofs.write_children.Statement.{statement}
 use Rattle.verifier_tree.proofs.write_children.Tie as tie
 
@@ -32,7 +32,7 @@ right-room : (w a d : ℕ) → w * (2 * a + 3) ≤ d → w * (2 * a + 2) + w ≤
 right-room w a d h = (let x = node-place w a 2 in let y = node-place w a 3 in omega arith)
 
 returns : tie.Need-returns
-unfolding primitivesOf
+unfolding primitives_of
 returns c =
     let g = c.before.before.before.before.before.before.before.before.before.args in
     let p = c.before.before.before.before.before.before.before.before.before.requires.1 in
@@ -75,7 +75,7 @@ write-child-requires-2 c κs =
     let m = passed c.before.before.before.before.before.before.is-next.ensures c.before.before.before.before.before.if1.false in
     let w = c.before.before.before.write-child in (
       p.0,
-      w.ensures.0 ∙ ap (atOrAfter g.nodes.now) (let z : 2 * g.a + 1 + 1 ≡ 2 * g.a + 2 = omega arith in z),
+      w.ensures.0 ∙ ap (at_or_after g.nodes.now) (let z : 2 * g.a + 1 + 1 ≡ 2 * g.a + 2 = omega arith in z),
       right-within g.w g.nodes.now g.slots.now g.n g.a p.1 p.3 g.p.read w.result.read m p.2.2 w.ensures.1,
       p.4,
       right-room g.w g.a _ (rw w.auto.1.1.1.1.1.1.0 p.5),
@@ -99,9 +99,9 @@ returns-2 c =
     let w = c.before.before.write-child2 in (
       (
         (let z = node-passed nodes g.a p.0 m in omega (arith, p.2.0)),
-        w.ensures.0 ∙ ap (atOrAfter nodes) (let z : 2 * g.a + 2 + 1 ≡ 2 * (g.a + 1) + 1 = omega arith in z),
+        w.ensures.0 ∙ ap (at_or_after nodes) (let z : 2 * g.a + 2 + 1 ≡ 2 * (g.a + 1) + 1 = omega arith in z),
         w.ensures.1
-            ∙ ap (readWith nodes (2 * g.a + 2)) (v.ensures.1 ∙ ap (readWith nodes (2 * g.a + 1)) p.2.2)
+            ∙ ap (read_with nodes (2 * g.a + 2)) (v.ensures.1 ∙ ap (read_with nodes (2 * g.a + 1)) p.2.2)
             ∙ listed-reads g.w nodes g.slots.now g.n g.a p.1 p.3 m,
       ),
       λ s ok e.

@@ -9,12 +9,12 @@ use lib.ListN.{length, take, drop}
 use lib.Seq.{take_all, take_at}
 use Rattle.spec.specs.declared.Shape.{Shape}
 use Rattle.spec.specs.Bytes.{part, zeros}
-use Rattle.spec.specs.Tree.{revealedFrom, expandTree}
-use Rattle.spec.specs.Shapes.{nodeBytes, shapeOk}
+use Rattle.spec.specs.Tree.{revealed_from, expand_tree}
+use Rattle.spec.specs.Shapes.{node_bytes, shape_ok}
 use Rattle.laws.proofs.Lists.{length-zeros}
 use Rattle.laws.proofs.Concat.{mul-limit}
 use Rattle.tree.proofs.Growing.{grown-more}
-use Rattle.verifier_tree.specs.ByNodes.{readBefore, Before, childrenBy}
+use Rattle.verifier_tree.specs.ByNodes.{read_before, Before, children_by}
 use Rattle.verifier_tree.proofs.Places.{all_after, node-passed}
 use Rattle.verifier_tree.proofs.Children.{put-zeros-front, read-longer, length-by}
 use Rattle.verifier_tree.proofs.write_tree.Statement.{statement}
@@ -29,7 +29,7 @@ invariant-loop t w iv nodes l slots n tree₀ m p₀ a₀ a-end tree p a =
     (a ≤ l - 1)
     × (length tree ≡ w * (2 * l - 1))
     × Before nodes a p
-    × ((s : Shape) → shapeOk s ≡ true → w ≡ nodeBytes s → take (w * (2 * a + 1)) tree ≡ expandTree w (zeros w) (childrenBy w nodes slots n s iv) a)
+    × ((s : Shape) → shape_ok s ≡ true → w ≡ node_bytes s → take (w * (2 * a + 1)) tree ≡ expand_tree w (zeros w) (children_by w nodes slots n s iv) a)
 
 abbrev decreases-loop : tie.decreases-loop
 decreases-loop t w iv nodes l slots n tree₀ m p₀ a₀ a-end tree p a = l - 1 - a
@@ -47,7 +47,7 @@ root-end : tie.Need-slice-bounds-clear-from-end invariant-loop decreases-loop
 root-end c = (let st = c.before.before.before in let i = inside st.args.w st.args.l 0 1 _ st.requires.1.6 (omega (arith, st.requires.1.0)) in let o = mul-one st.args.w in omega arith)
 
 loop-holds : tie.Need-loop-init invariant-loop decreases-loop
-unfolding expandTree revealedFrom readBefore
+unfolding expand_tree revealed_from read_before
 loop-holds c =
     let st = c.before.before.before.before.before.before.before in
     let d = st.args.tree.now in
@@ -79,7 +79,7 @@ loop-again c =
       search rules,
       w.ensures.0,
       λ s ok e. ap (take (g.w * (2 * (l.a + 1) + 1))) (w.ensures.1 s ok e)
-          ∙ grown-more g.w (zeros g.w) (childrenBy g.w g.nodes.now g.slots.now g.n s g.iv) l.a l.tree (inside g.w g.l l.a 1 _ l.invariant.1 (omega arith))
+          ∙ grown-more g.w (zeros g.w) (children_by g.w g.nodes.now g.slots.now g.n s g.iv) l.a l.tree (inside g.w g.l l.a 1 _ l.invariant.1 (omega arith))
           (length-by g.w g.nodes.now g.slots.now g.n l.a (p.3 l.a (omega arith)) (omega (arith, p.4)) s g.iv (part l.tree (g.w * l.a) g.w) e p.5) (l.invariant.3 s ok e),
     )
 
@@ -91,7 +91,7 @@ returns c =
     let l = c.before.loop in
     let e : l.a ≡ g.l - 1 = omega arith in
     let all : length l.tree ≡ g.w * (2 * l.a + 1) = l.invariant.1 ∙ ap (λ (m : ℕ). g.w * m) (let z : 2 * g.l - 1 ≡ 2 * l.a + 1 = omega (arith, p.0) in z) in
-    sym (take_all (g.w * (2 * l.a + 1)) l.tree (omega arith)) ∙ l.invariant.3 s ok k ∙ ap (expandTree g.w (zeros g.w) (childrenBy g.w g.nodes.now g.slots.now g.n s g.iv)) e
+    sym (take_all (g.w * (2 * l.a + 1)) l.tree (omega arith)) ∙ l.invariant.3 s ok k ∙ ap (expand_tree g.w (zeros g.w) (children_by g.w g.nodes.now g.slots.now g.n s g.iv)) e
 
 pub write-tree-spec : {M : Type 1} → statement M
 write-tree-spec =

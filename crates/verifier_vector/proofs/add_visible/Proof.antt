@@ -6,8 +6,8 @@ use Prim.Native.Nat.{ℕ, ◌+◌, ◌*◌, ◌/◌, ◌≤◌}
 use native.Mathlib.Omega.{arith}
 use lib.ListN.{length, take, drop}
 use Rattle.spec.specs.Bytes.{part}
-use Rattle.spec.specs.Shapes.{leafCommitmentBytes, depth_of, entriesOf}
-use Rattle.job.specs.Jobs.{entryCommitment}
+use Rattle.spec.specs.Shapes.{leaf_commitment_bytes, depth_of, entries_of}
+use Rattle.job.specs.Jobs.{entry_commitment}
 use Rattle.vector.specs.Entries.{Written}
 use Rattle.vector.proofs.Buffers.{start_fits, block-end}
 use Rattle.vector.proofs.Numbers.{half_is}
@@ -23,8 +23,8 @@ room c =
     let start = c.before.before.before.before.before.before.before.before in
     let g = start.args in
     let w = c.before.before.before.commitment-bytes in
-    let n = entriesOf g.g.shape g.x.vector in
-    let all : w.result * n ≡ leafCommitmentBytes g.g.shape * n = ap (λ (m : ℕ). m * n) w.ensures.0 in
+    let n = entries_of g.g.shape g.x.vector in
+    let all : w.result * n ≡ leaf_commitment_bytes g.g.shape * n = ap (λ (m : ℕ). m * n) w.ensures.0 in
     block-end w.result g.x.entry n (length g.lcs.now) start.requires.0.3 (let l = start.requires.1.1 in omega arith)
 
 copy-part-requires : tie.Need-copy-part-requires
@@ -58,7 +58,7 @@ add-half-requires-2 c κs =
     )
 
 returns : tie.Need-returns
-unfolding entriesOf
+unfolding entries_of
 returns c =
     let start = c.before.before.before.before.before.before.before.before.before.before.before.before.before.before.before.before.before.before.before.before.before.before.before.before.before.before.before.before.before in
     let g = start.args in
@@ -69,8 +69,8 @@ returns c =
     let ok = p.0.0.job.shape in
     let n = c.before.before.before.before.before.before.before.before.before.before.before.before.before.before.before.before.before.before.before.before.before.before.before.entry-count in
     let half = half_is s i (depth_of s i) ok refl n.result n.ensures.0 in
-    let w = leafCommitmentBytes s in
-    let own = entryCommitment g.g g.tree.now i in
+    let w = leaf_commitment_bytes s in
+    let own = entry_commitment g.g g.tree.now i in
     let copy = c.before.before.before.before.before.before.before.before.before.before.before.before.before.before.before.before.before.before.before.before.copy-part in
     let one = c.before.before.before.before.before.before.before.before.before.before.before.add_half in
     let two = c.before.before.before.before.add-half2 in

@@ -8,11 +8,11 @@ use lib.Bits.{bit_xor}
 use lib.ListN.{length, take, drop}
 use Rattle.spec.specs.Bytes.{tabulate, concat}
 use Rattle.spec.specs.Hashes.{hash1}
-use Rattle.spec.specs.Shapes.{leafCommitmentBytes, rate, depth_of, entriesOf}
+use Rattle.spec.specs.Shapes.{leaf_commitment_bytes, rate, depth_of, entries_of}
 use Rattle.spec.specs.Primitives.{faest}
-use Rattle.spec.specs.Leaves.{vectorCommitments, vectorHash}
-use Rattle.spec.specs.Rows.{columnByte}
-use Rattle.job.specs.Jobs.{entryCommitment, entryByte, givenCommitment}
+use Rattle.spec.specs.Leaves.{vector_commitments, vector_hash}
+use Rattle.spec.specs.Rows.{column_byte}
+use Rattle.job.specs.Jobs.{entry_commitment, entry_byte, given_commitment}
 use Rattle.vector.proofs.Buffers.{block-end}
 use Rattle.vector.proofs.LeafNodes.{entry_length}
 use Rattle.verifier_vector.specs.Vector.{given, uncorrected}
@@ -31,13 +31,13 @@ hash-vector-requires c κs =
     let g = start.args in
     let w = c.before.before.before.before.before.before.before.before.before.before.before.before.commitment-bytes in
     let r = c.before.before.before.before.before.before.before.before.before.before.before.rate-bytes.ensures in
-    let n = entriesOf g.g.shape g.x.vector in
+    let n = entries_of g.g.shape g.x.vector in
     let long = c.before.before.before.before.before.before.add-visible.auto.1.1.1.1.1.1.0 ∙ start.requires.1.0 in
-    let all : w.result * n ≡ leafCommitmentBytes g.g.shape * n = ap (λ (m : ℕ). m * n) w.ensures.0 in
+    let all : w.result * n ≡ leaf_commitment_bytes g.g.shape * n = ap (λ (m : ℕ). m * n) w.ensures.0 in
     (r.1, r.2, block-end w.result g.x.entry n _ start.requires.0.3 (omega arith))
 
 returns : tie.Need-returns
-unfolding faest vectorCommitments vectorHash givenCommitment uncorrected
+unfolding faest vector_commitments vector_hash given_commitment uncorrected
 returns c ch opening hd hh =
     let start = c.before.before.before.before.before.before.before.before.before.before.before.before.before.before.before.before.before.before.before.before.before.before in
     let g = start.args in
@@ -46,16 +46,16 @@ returns c ch opening hd hh =
     let i = g.x.vector in
     let d = g.x.entry in
     let x = g.tree.now in
-    let n = entriesOf s i in
+    let n = entries_of s i in
     let w = c.before.before.before.before.before.before.before.before.before.before.before.before.before.before.before.commitment-bytes in
     let made = c.before.before.before.before.before.before.before.before.before.add-visible in
     let lcs : List ℕ = made.new.1.1.1.1.1.1.0 in
-    let own = entryCommitment g.g x i in
+    let own = entry_commitment g.g x i in
     let leaves = made.ensures.0 ∙ ap₂ (λ (v : List ℕ) (m : ℕ). concat n (given v own m)) hh hd in
     let message = hashed-whole w.result g.hidden.now own d n lcs p.0.3 (p.0.4 ∙ sym w.ensures.0) (λ e. entry_length g.g x i e p.0.0.job.kind ∙ sym w.ensures.0) made.ensures.0 in
     record {
       leaves = leaves;
-      columns = made.ensures.1 ∙ ap (λ (m : ℕ). concat (depth_of s i) (λ j. tabulate g.g.stretch.width (columnByte s (entryByte g.g x) (λ e. bit_xor e m) i j))) hd;
+      columns = made.ensures.1 ∙ ap (λ (m : ℕ). concat (depth_of s i) (λ j. tabulate g.g.stretch.width (column_byte s (entry_byte g.g x) (λ e. bit_xor e m) i j))) hd;
       digest =
           c.before.before.hash-vector.ensures
           ∙ ap (λ (k : ℕ). hash1 k (take (w.result * d) lcs ++ (g.hidden.now ++ drop (w.result * d + w.result) lcs)) (length g.hash.now)) c.before.before.before.before.before.before.before.before.before.before.before.before.before.before.rate-bytes.ensures.0

@@ -5,7 +5,7 @@ use Prim.Native.Nat.{ℕ, ◌+◌, ◌-◌, ◌*◌, ◌≤◌}
 use native.Mathlib.Omega.{arith}
 use lib.ListN.{length, get_or}
 use Rattle.spec.specs.Bytes.{bit, part}
-use Rattle.spec.specs.Shapes.{depth_of, correctionsBytes}
+use Rattle.spec.specs.Shapes.{depth_of, corrections_bytes}
 use Rattle.columns.specs.Columns.{Added}
 use Rattle.vector.proofs.Buffers.{part-size, lent, lent-order, start_fits, end_fits, block-end, columns-size, columns-end}
 use Rattle.verifier_vectors.proofs.Steps.{corrected, corrected-more}
@@ -13,7 +13,7 @@ use Rattle.verifier_vectors.proofs.correct_vector.Statement.{statement}
 use Rattle.verifier_vectors.proofs.correct_vector.Tie as tie
 
 correction-end : (c : tie.After-slice-known) → c.before.before.before.args.b * (c.before.before.before.args.i - 1) + c.before.before.before.args.b ≤ length c.before.before.before.args.corrections.now
-unfolding correctionsBytes
+unfolding corrections_bytes
 correction-end c = (let g = c.before.before.before.args in let p = c.before.before.before.requires in block-end g.b (g.i - 1) (g.s.tau - 1) _ (omega arith) (let l = p.5 in omega arith))
 
 q-end : tie.Need-slice-bounds-add-bytes-end

@@ -4,7 +4,7 @@ use mathlib.Core.Path.{◌≡◌, refl, ◌∙◌, subst}
 use Prim.Native.Nat.{ℕ, ◌-◌, ◌≤◌}
 use native.Mathlib.Omega.{arith}
 use lib.ListN.{length}
-use Rattle.spec.specs.Rows.{matrixOf}
+use Rattle.spec.specs.Rows.{matrix_of}
 use Rattle.planning_laws.proofs.ShapeFacts.{shape-facts}
 use Rattle.verifier_vector.specs.Vector.{uncorrected}
 use Rattle.verifier_vectors.specs.Corrections.{Corrected}
@@ -14,7 +14,7 @@ use Rattle.verifier_vectors.proofs.correct_vectors.Tie as tie
 
 abbrev invariant-loop : tie.invariant-loop
 invariant-loop s b ch corrections q₀ n i₀ q i =
-    (1 ≤ i) × (i ≤ s.tau) × (length q ≡ length q₀) × ((row : ℕ → ℕ → ℕ → ℕ) → q₀ ≡ matrixOf s b (uncorrected s b row ch) → Corrected s b row ch corrections i q)
+    (1 ≤ i) × (i ≤ s.tau) × (length q ≡ length q₀) × ((row : ℕ → ℕ → ℕ → ℕ) → q₀ ≡ matrix_of s b (uncorrected s b row ch) → Corrected s b row ch corrections i q)
 
 abbrev decreases-loop : tie.decreases-loop
 decreases-loop s b ch corrections q₀ n i₀ q i = s.tau - i

@@ -5,10 +5,10 @@ use Prim.Native.Nat.{ℕ, ◌-◌, ◌*◌, ◌≤◌}
 use native.Mathlib.Nat.{le_refl}
 use native.Mathlib.Omega.{arith}
 use lib.ListN.{length}
-use Rattle.spec.specs.Shapes.{hashBytes, leafCommitmentsBytes, matrixBytes}
+use Rattle.spec.specs.Shapes.{hash_bytes, leaf_commitments_bytes, matrix_bytes}
 use Rattle.spec.specs.Primitives.{faest}
 use Rattle.planning_laws.proofs.ShapeFacts.{shape-facts}
-use Rattle.job.specs.Jobs.{entryByte, givenCommitment}
+use Rattle.job.specs.Jobs.{entry_byte, given_commitment}
 use Rattle.vector.specs.Vectors.{Before}
 use Rattle.vector.proofs.Buffers.{all-columns}
 use Rattle.vector.proofs.Numbers.{width_small}
@@ -19,8 +19,8 @@ use Rattle.verifier_vectors.proofs.write_vectors.Tie as tie
 
 abbrev invariant-loop : tie.invariant-loop
 invariant-loop t g keys ch tree opening lcs₀ q₀ hashes₀ n i₀ lcs q hashes i =
-    (i ≤ g.shape.tau) × (length lcs ≡ leafCommitmentsBytes g.shape) × (length q ≡ matrixBytes g.shape g.stretch.width) × (length hashes ≡ hashBytes g.shape * g.shape.tau)
-    × Before g.shape g.stretch.width (givenCommitment g ch opening tree) (uncorrected g.shape g.stretch.width (entryByte g tree) ch) i lcs q hashes
+    (i ≤ g.shape.tau) × (length lcs ≡ leaf_commitments_bytes g.shape) × (length q ≡ matrix_bytes g.shape g.stretch.width) × (length hashes ≡ hash_bytes g.shape * g.shape.tau)
+    × Before g.shape g.stretch.width (given_commitment g ch opening tree) (uncorrected g.shape g.stretch.width (entry_byte g tree) ch) i lcs q hashes
 
 abbrev decreases-loop : tie.decreases-loop
 decreases-loop t g keys ch tree opening lcs₀ q₀ hashes₀ n i₀ lcs q hashes i = g.shape.tau - i
@@ -60,8 +60,8 @@ returns c =
     let l = c.before.before.before.before.before.before.loop in
     let out = c.before.before.before.before.before.loop-test.false in
     let all : l.i ≡ g.shape.tau = (let i = l.invariant.0 in omega arith) in
-    let lc = givenCommitment g start.args.ch.now start.args.opening.now start.args.tree.now in
-    let col = uncorrected g.shape g.stretch.width (entryByte g start.args.tree.now) start.args.ch.now in
+    let lc = given_commitment g start.args.ch.now start.args.opening.now start.args.tree.now in
+    let col = uncorrected g.shape g.stretch.width (entry_byte g start.args.tree.now) start.args.ch.now in
     let whole = before-all g.shape g.stretch.width lc col start.requires.0.0.job.shape _ l.lcs l.q _ l.hashes l.invariant.1 l.invariant.2 l.invariant.3 c.before.before.before.before.columns-from.ensures c.before.before.clear-from.ensures
     (subst (λ (n : ℕ). Before g.shape g.stretch.width lc col n l.lcs l.q l.hashes) all l.invariant.4) in
     (whole.0, (whole.1, whole.2))
