@@ -4,12 +4,24 @@
 ghost use Rattle.std.specs.Prelude.{◌≡◌, ◌++◌, ◌+◌, ◌-◌, ◌≤◌, length, take, drop};
 ghost use Rattle.spec.specs.Bytes.{part, zeros, all_zero};
 
+// Copies src to the front of dst, as much of it as there is room for.
+pub fn copy(src: &[u8], dst: &mut [u8])
+    ensures { dst.new ≡ take (length dst.old) src.now ++ drop (length src.now) dst.old }
+{
+    let n = if src.len() < dst.len() {
+        src.len()
+    } else {
+        dst.len()
+    };
+    dst[..n].copy_from_slice(&src[..n]);
+}
+
 // Copies n bytes of src from byte `from` on to dst from byte `at` on.
 pub fn copy_part(src: &[u8], from: usize, n: usize, dst: &mut [u8], at: usize)
     requires { (from + n ≤ length src.now) × (at + n ≤ length dst.old) }
     ensures { dst.new ≡ take at dst.old ++ (part src.now from n ++ drop (at + n) dst.old) }
 {
-    bytes::copy(&src[from..from + n], &mut dst[at..at + n]);
+    copy(&src[from..from + n], &mut dst[at..at + n]);
 }
 
 // Zeros from byte `at` on.

@@ -61,7 +61,7 @@ fn place(at: usize, part: &[u8]) -> [u8; 168]
     ensures { result ≡ zeros at ++ (part.now ++ zeros (168 - at - length part.now)) }
 {
     let mut block = [0u8; 168];
-    bytes::copy(part, &mut block[at..]);
+    buffers::copy(part, &mut block[at..]);
     block
 }
 
@@ -187,7 +187,7 @@ fn squeeze_part(s: Sponge, out: &mut [u8])
     let lanes = s.lanes;
     let block = state_bytes(lanes);
     let n = out.len();
-    bytes::copy(&block[..n], out);
+    buffers::copy(&block[..n], out);
 }
 
 // Fills out with the output of a sponge that is finished.

@@ -28,7 +28,7 @@ pub fn grow_tree(
     requires le_n { (16 ≤ n) × (n ≤ 32) × (n % 8 ≡ 0) × (length root.now ≡ n) × (length tree.old ≡ n * (2 * inner + 1)) × (length tree.old < 2 ^ 32) }
     ensures { (s : Shape) → shape_ok s ≡ true → n ≡ node_bytes s → tree.new ≡ expand_tree n root.now (children (primitives_of version) s iv) inner }
 {
-    bytes::copy(root, tree);
+    buffers::copy(root, tree);
     for a in 0..inner {
         tree::expand_node(t, n, version, iv, a, tree);
     }

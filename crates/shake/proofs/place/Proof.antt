@@ -33,7 +33,7 @@ returns : tie.Need-returns
 unfolding zeros
 returns c =
     let start = c.before.before.before.before in
-    placed 168 start.args.at start.args.part.now c.before.copy.new.1.0 start.requires c.before.copy.ensures.1
+    placed 168 start.args.at start.args.part.now c.before.copy.new.1.0 start.requires c.before.copy.ensures
 
 pub place-spec : {M : Type 1} → statement M
 place-spec = tie.close (tie.spec (λ c. search rules) (λ c. search rules) (λ c. search rules) (λ c κs. search rules) returns)

@@ -40,7 +40,7 @@ returns c =
     let block = c.before.before.before.before.before.state-bytes in
     let out = start.args.out.now in
     let src = take (length out) block.result in
-    c.before.before.copy.ensures.1
+    c.before.before.copy.ensures
     ∙ rw (
       take-length src,
       front_length start.args.s.lanes block.result out start.requires block.ensures,

@@ -7,8 +7,7 @@ use native.Mathlib.Omega.{arith}
 use lib.Dec.{leb}
 use borrow.Author.Tests.{le-leb, lt-leb}
 use Rattle.spec.specs.Calls.{stretch_ok}
-use Rattle.rules.proofs.is_stretch.Statement.{statement}
-use Rattle.rules.proofs.is_stretch.Tie as tie
+use Rattle.rules.proofs.is_stretch.Goals as goal
 
 by_difference : (f g b : ℕ) → g ≤ b → leb f (b - g) ≡ leb (f + g) b
 by_difference f g b h = go (dec_le f (b - g))
@@ -17,17 +16,14 @@ by_difference f g b h = go (dec_le f (b - g))
     go (yes l) = le-leb f (b - g) l ∙ sym (le-leb (f + g) b (omega arith))
     go (no l) = lt-leb f (b - g) (omega arith) ∙ sym (lt-leb (f + g) b (omega arith))
 
-returns : tie.Need-returns
+pub returns-then-b-g : goal.returns-then-b-g
 unfolding stretch_ok
-returns c =
-    let g = c.before.args in
+returns-then-b-g c =
+    let g = c.args in
     sym (ap (λ (x : Bool). leb 1 g.z.width && x) (lt-leb (g.z.first + g.z.width) g.b (omega arith)) ∙ and-false (leb 1 g.z.width))
 
-returns-2 : tie.Need-returns-2
+pub returns : goal.returns
 unfolding stretch_ok
-returns-2 c =
-    let g = c.before.args in
+returns c =
+    let g = c.args in
     ap (λ (x : Bool). leb 1 g.z.width && x) (by_difference g.z.first g.z.width g.b (omega arith))
-
-pub is-stretch-spec : {M : Type 1} → statement M
-is-stretch-spec = tie.close (tie.spec returns returns-2)

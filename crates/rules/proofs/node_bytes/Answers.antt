@@ -5,16 +5,12 @@ use native.Mathlib.Omega.{arith}
 use borrow.Author.Rules.{rules}
 use Rattle.spec.specs.Shapes.{node_bytes}
 use Rattle.planning_laws.proofs.ShapeFacts.{shape-facts, widths}
-use Rattle.rules.proofs.node_bytes.Statement.{statement}
-use Rattle.rules.proofs.node_bytes.Tie as tie
+use Rattle.rules.proofs.node_bytes.Goals as goal
 
-returns : tie.Need-returns
+pub returns : goal.returns
 unfolding node_bytes
 returns c =
-    let a = c.before in
+    let a = c in
     let w = widths a.args.s (shape-facts a.args.s a.requires) in
     let e = ap (λ (n : ℕ). n / 8) c.level_bits.ensures.0 in
     (e, omega (arith, w.node-min), omega (arith, w.node-max))
-
-pub node-bytes-spec : {M : Type 1} → statement M
-node-bytes-spec = tie.close (tie.spec (λ c κs. search rules) returns)

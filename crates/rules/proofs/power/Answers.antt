@@ -5,10 +5,9 @@ use native.Mathlib.Omega.{arith}
 use native.Mathlib.Nat.{mod-eq_of_lt, one-mul}
 use lib.Pow.{pow_mono, pow_pos}
 use borrow.Author.Rules.{rules}
-use Rattle.rules.proofs.power.Statement.{statement}
-use Rattle.rules.proofs.power.Tie as tie
+use Rattle.rules.proofs.power.Goals as goal
 
-returns : tie.Need-returns
+pub returns : goal.returns
 returns c =
     let d = c.args.d in
     let m : 2 ^ d ≤ 4096 = pow_mono c.requires in
@@ -17,6 +16,3 @@ returns c =
     let h : 1 * 2 ^ d < 2 ^ 64 = omega arith in
     let z = mod-eq_of_lt h in
     (z ∙ o, omega arith, omega arith)
-
-pub power-spec : {M : Type 1} → statement M
-power-spec = tie.close (tie.spec (λ c. search rules) returns)

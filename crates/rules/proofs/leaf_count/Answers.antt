@@ -4,17 +4,13 @@ use native.Mathlib.Omega.{arith}
 use borrow.Author.Rules.{rules}
 use Rattle.planning_laws.proofs.Depths.{entry-all}
 use Rattle.planning_laws.proofs.ShapeFacts.{shape-facts, leaves-max, leaves-pos}
-use Rattle.rules.proofs.leaf_count.Statement.{statement}
-use Rattle.rules.proofs.leaf_count.Tie as tie
+use Rattle.rules.proofs.leaf_count.Goals as goal
 
-returns : tie.Need-returns
+pub returns : goal.returns
 returns c =
-    let s = c.before.args.s in
-    let f = shape-facts s c.before.requires in
+    let s = c.args.s in
+    let f = shape-facts s c.requires in
     let e = c.first_entry.ensures.0 ∙ entry-all s (omega (arith, f.few)) in
     let p = leaves-pos s f in
     let m = leaves-max s f in
     (e, omega arith, omega arith)
-
-pub leaf-count-spec : {M : Type 1} → statement M
-leaf-count-spec = tie.close (tie.spec (λ c κs. search rules) returns)

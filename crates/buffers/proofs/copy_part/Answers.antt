@@ -9,12 +9,11 @@ use lib.Seq.{take-length}
 use Rattle.spec.specs.Bytes.{part}
 use Rattle.laws.proofs.Lists.{length_part}
 use Rattle.laws.proofs.Putting.{behind}
-use Rattle.buffers.proofs.copy_part.Statement.{statement}
-use Rattle.buffers.proofs.copy_part.Tie as tie
+use Rattle.buffers.proofs.copy_part.Goals as goal
 
-returns : tie.Need-returns
+pub returns : goal.returns
 returns c =
-    let g = c.before.before.before.before.before.before.before.args in
+    let g = c.args in
     let one : g.from + g.n - g.from ≡ g.n = omega arith in
     let two : g.at + g.n - g.at ≡ g.n = omega arith in
     let x = part g.src.now g.from (g.from + g.n - g.from) in
@@ -22,25 +21,9 @@ returns c =
     let lx : length x ≡ g.n = ap (λ (m : ℕ). length (part g.src.now g.from m)) one ∙ length_part g.src.now g.from g.n (omega arith) in
     let ly : length y ≡ g.n = ap (λ (m : ℕ). length (part g.dst.now g.at m)) two ∙ length_part g.dst.now g.at g.n (omega arith) in
     let copied =
-    c.before.before.copy.ensures.1
+    c.copy.ensures
     ∙ ap₂ (λ (a b : List ℕ). a ++ b) (take-length x) (drop_of_length-le y {i = length x} (omega arith))
     ∙ append-nil x
     ∙ ap (part g.src.now g.from) one
     in
     ap₂ (λ (a b : List ℕ). take g.at g.dst.now ++ (a ++ b)) copied (behind g.at g.n g.dst.now)
-
-pub copy-part-spec : {M : Type 1} → statement M
-copy-part-spec =
-    tie.close
-    (tie.spec
-    (λ c. search rules)
-    (λ c. search rules)
-    (λ c. search rules)
-    (λ c. search rules)
-    (λ c. search rules)
-    (λ c. search rules)
-    (λ c. search rules)
-    (λ c. search rules)
-    (λ c κs. search rules)
-    (λ c. search rules)
-    returns)

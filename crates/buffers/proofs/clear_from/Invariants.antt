@@ -1,0 +1,18 @@
+-- After some turns the bytes from `at` to p are zeros.
+use borrow.Author.Rules.{rules}
+use mathlib.Core.Path.{◌≡◌, refl, sym, ap, ◌∙◌}
+use mathlib.Core.List.{List, ◌++◌, append-nil}
+use Prim.Native.Nat.{ℕ, ◌+◌, ◌-◌, ◌≤◌}
+use native.Mathlib.Omega.{arith}
+use lib.ListN.{length, take}
+use lib.Seq.{take_all}
+use Rattle.spec.specs.Bytes.{tabulate, zeros}
+use Rattle.laws.proofs.Prefixes.{take-stored}
+use Rattle.laws.proofs.Strings.{zeros-tabulate}
+use Rattle.buffers.proofs.clear_from.Given as goal
+
+abbrev pub invariant-loop-p : goal.invariant-loop-p
+invariant-loop-p l = (l.at ≤ l.p) × (l.p ≤ length l.initial.out) × (length l.out ≡ length l.initial.out) × (take l.p l.out ≡ take l.at l.initial.out ++ tabulate (l.p - l.at) (λ i. 0))
+
+abbrev pub decreases-loop-p : goal.decreases-loop-p
+decreases-loop-p l = length l.initial.out - l.p
