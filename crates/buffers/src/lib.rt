@@ -4,16 +4,12 @@
 ghost use Rattle.std.specs.Prelude.{◌≡◌, ◌++◌, ◌+◌, ◌-◌, ◌≤◌, length, take, drop};
 ghost use Rattle.spec.specs.Bytes.{part, zeros, all_zero};
 
-// Copies src to the front of dst, as much of it as there is room for.
+// Copies src to the front of dst.
 pub fn copy(src: &[u8], dst: &mut [u8])
-    ensures { dst.new ≡ take (length dst.old) src.now ++ drop (length src.now) dst.old }
+    requires { length src.now ≤ length dst.old }
+    ensures { dst.new ≡ src.now ++ drop (length src.now) dst.old }
 {
-    let n = if src.len() < dst.len() {
-        src.len()
-    } else {
-        dst.len()
-    };
-    dst[..n].copy_from_slice(&src[..n]);
+    dst[..src.len()].copy_from_slice(src);
 }
 
 // Copies n bytes of src from byte `from` on to dst from byte `at` on.

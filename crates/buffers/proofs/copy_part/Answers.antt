@@ -22,7 +22,7 @@ returns c =
     let ly : length y ≡ g.n = ap (λ (m : ℕ). length (part g.dst.now g.at m)) two ∙ length_part g.dst.now g.at g.n (omega arith) in
     let copied =
     c.copy.ensures
-    ∙ ap₂ (λ (a b : List ℕ). a ++ b) (take-length x) (drop_of_length-le y {i = length x} (omega arith))
+    ∙ ap (λ (b : List ℕ). x ++ b) (drop_of_length-le y {i = length x} (omega arith))
     ∙ append-nil x
     ∙ ap (part g.src.now g.from) one
     in

@@ -1,0 +1,15 @@
+-- `aes::later_rounds` meets its contract. The loop's invariant: x is the state after round i - 1, and i is even. The measure is the number of rounds left.
+use mathlib.Core.Path.{◌≡◌, refl}
+use mathlib.Core.List.{List}
+use Prim.Native.Nat.{ℕ, ◌+◌, ◌≤◌, ◌-◌, ◌%◌}
+use native.Mathlib.Omega.{arith}
+use borrow.Author.Rules.{rules}
+use Rattle.aes.specs.Rounded.{Rounded}
+use Rattle.aes.proofs.Rounds.{rounded-two}
+use Rattle.aes.proofs.later_rounds.Given as goal
+
+abbrev pub invariant-loop-i : goal.invariant-loop-i
+invariant-loop-i l = (10 ≤ l.i) × (l.i ≤ l.n) × (l.i % 2 ≡ 0) × ((nk : ℕ) (a : List (List ℕ)) → l.n ≡ nk + 6 → Rounded nk l.keys a l.initial.x 9 → Rounded nk l.keys a l.x (l.i - 1))
+
+abbrev pub decreases-loop-i : goal.decreases-loop-i
+decreases-loop-i l = l.n - l.i

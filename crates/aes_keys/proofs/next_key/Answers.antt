@@ -1,0 +1,8 @@
+-- The first word as the definition has it, and the others by `chain`.
+use borrow.Author.Rules.{rules}
+use Rattle.aes_keys.specs.RoundKeys.{next_round_key}
+use Rattle.aes_keys.proofs.next_key.Goals as goal
+
+pub returns : goal.returns
+unfolding next_round_key
+returns c = cc

@@ -1,0 +1,16 @@
+-- The first i numbers are the hidden indices of the first i vectors.
+use Prim.Native.Nat.{◌-◌, ◌≤◌}
+use mathlib.Core.Path.{ap, ◌∙◌}
+use native.Mathlib.Omega.{arith}
+use lib.ListN.{length}
+use Rattle.laws.specs.Front.{Front}
+use Rattle.laws.proofs.Front.{front-none, front-set, front-all}
+use Rattle.spec.specs.Bytes.{tabulate}
+use Rattle.spec.specs.Shapes.{hidden_index, hidden_indices}
+use Rattle.challenge.proofs.write_indices.Given as goal
+
+abbrev pub invariant-loop-i : goal.invariant-loop-i
+invariant-loop-i l = (l.i ≤ length l.initial.out) × Front (hidden_index l.s l.ch) (length l.initial.out) l.i l.out
+
+abbrev pub decreases-loop-i : goal.decreases-loop-i
+decreases-loop-i l = length l.initial.out - l.i

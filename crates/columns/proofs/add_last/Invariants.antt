@@ -1,0 +1,22 @@
+-- The first j columns have the last added where their bit is set, and those behind are as they were. The measure is the number of columns left.
+use mathlib.Core.Path.{◌≡◌, sym, ap, ◌∙◌, subst}
+use mathlib.Core.List.{List}
+use Prim.Native.Nat.{ℕ, ◌+◌, ◌-◌, ◌*◌, ◌≤◌}
+use native.Mathlib.Nat.{zero-mul, one-mul}
+use native.Mathlib.Omega.{arith}
+use lib.ListN.{get_or}
+use Rattle.spec.specs.Bytes.{bit}
+use Rattle.laws.proofs.Concat.{mul-within}
+use Rattle.laws.proofs.Digits.{bit-lt}
+use Rattle.columns.specs.Columns.{Done}
+use Rattle.columns.proofs.Adding.{behind-start, done_none, done_more, done-skip}
+use Rattle.columns.proofs.add_last.Given as goal
+
+abbrev pub added : ℕ → ℕ → ℕ → List ℕ → ℕ → ℕ → ℕ
+added b h number cols j p = bit j number * get_or cols (b * h + p) 0
+
+abbrev pub invariant-loop-j : goal.invariant-loop-j
+invariant-loop-j l = (l.j ≤ l.h) × Done l.b l.j (added l.b l.h l.number l.initial.cols) l.initial.cols l.cols
+
+abbrev pub decreases-loop-j : goal.decreases-loop-j
+decreases-loop-j l = l.h - l.j

@@ -1,0 +1,14 @@
+-- The first i bytes of the block are xored in.
+use mathlib.Core.Path.{◌≡◌, ap, subst}
+use Prim.Native.Nat.{ℕ, ◌+◌, ◌-◌, ◌≤◌}
+use native.Mathlib.Omega.{arith}
+use lib.ListN.{get_or}
+use Rattle.columns.specs.Columns.{Xored}
+use Rattle.columns.proofs.Adding.{xored-none, xored-more, behind-start}
+use Rattle.columns.proofs.xor_16.Given as goal
+
+abbrev pub invariant-loop-i : goal.invariant-loop-i
+invariant-loop-i l = (l.i ≤ 16) × Xored l.at (l.at + l.i) (λ p. get_or l.block (p - l.at) 0) l.initial.d l.d
+
+abbrev pub decreases-loop-i : goal.decreases-loop-i
+decreases-loop-i l = 16 - l.i

@@ -1,0 +1,48 @@
+use Prim.Native.Nat.{ℕ, ◌+◌, ◌-◌, ◌*◌, ◌/◌, ◌%◌, ◌^◌, ◌≤◌}
+use mathlib.Core.Path.{◌≡◌, sym, ap, ◌∙◌}
+use mathlib.Core.List.{List}
+use native.Mathlib.Omega.{arith}
+use native.Mathlib.Nat.{div-one}
+use lib.ListN.{replicate}
+use lib.Pow.{shr-shr}
+use borrow.Author.Rules.{rules}
+use Rattle.spec.specs.Bytes.{tabulate, digits}
+use Rattle.spec.specs.Shapes.{challenge_bytes}
+use Rattle.laws.specs.Front.{Front}
+use Rattle.laws.proofs.Front.{front-none, front-set, front-all}
+use Rattle.enumeration_text.specs.Listed.{challenge_at}
+use Rattle.enumeration.proofs.challenge_at.Invariants.{byte}
+use Rattle.enumeration.proofs.challenge_at.Goals as goal
+
+bytes : (x : ℕ) (xs : List ℕ) → xs ≡ tabulate 16 (byte x) → xs ≡ digits 8 16 x
+unfolding digits
+bytes x xs e = e
+
+pub loop-i-init : goal.loop-i-init
+loop-i-init c = (omega arith, sym (div-one c.args.x), front-none (byte c.args.x) (replicate 16 0))
+
+pub bounds-challenge-i : goal.bounds-challenge-i
+bounds-challenge-i c = omega arith
+
+pub overflow_add-i : goal.overflow_add-i
+overflow_add-i c = omega arith
+
+pub loop-i-smaller : goal.loop-i-smaller
+loop-i-smaller c = omega arith
+
+pub loop-i-preserved : goal.loop-i-preserved
+loop-i-preserved c =
+    let l = c.loop-i in
+    let x = c.args.x in
+    let next : 8 * l.i + 8 ≡ 8 * (l.i + 1) = omega arith in (
+      omega arith,
+      ap (λ (n : ℕ). n / 256) l.invariant.1 ∙ shr-shr x (8 * l.i) 8 ∙ ap (λ (n : ℕ). x / 2 ^ n) next,
+      front-set (byte x) 16 l.i l.challenge _ (omega arith) l.invariant.2 (ap (λ (n : ℕ). n % 256) l.invariant.1),
+    )
+
+pub returns : goal.returns
+unfolding challenge_at challenge_bytes
+returns c s e =
+    let l = c.loop-i in
+    let x = c.args.x in
+    bytes x l.challenge (front-all (byte x) 16 l.i l.challenge c.loop-i-test.false l.invariant.2) ∙ sym (ap (λ (n : ℕ). digits 8 (n / 8) x) e)

@@ -1,0 +1,49 @@
+use Prim.Native.Nat.{◌-◌, ◌*◌, ◌≤◌}
+use mathlib.Core.Path.{◌≡◌, ◌∙◌}
+use native.Mathlib.Omega.{arith}
+use native.Mathlib.Numerals.{add-one}
+use lib.ListN.{length}
+use borrow.Author.Rules.{rules}
+use Rattle.spec.specs.Bytes.{concat}
+use Rattle.listing_text.specs.Put.{Put}
+use Rattle.listing_text.proofs.Writing.{put-none, put_next}
+use Rattle.enumeration.specs.Pieces.{lines_from}
+use Rattle.enumeration.proofs.put_lines.Goals as goal
+
+pub loop-i-init : goal.loop-i-init
+unfolding concat
+loop-i-init c = (omega arith, search rules, omega arith, put-none _ _)
+
+pub overflow_add-from : goal.overflow_add-from
+overflow_add-from c = omega (arith, c.requires.2)
+
+pub put_line-end-requires : goal.put_line-end-requires
+put_line-end-requires c =
+    let st = c in
+    (st.requires.0, st.requires.1, omega (arith, st.requires.3))
+
+pub overflow_add-i : goal.overflow_add-i
+overflow_add-i c = omega arith
+
+pub loop-i-smaller : goal.loop-i-smaller
+loop-i-smaller c = omega arith
+
+pub loop-i-preserved : goal.loop-i-preserved
+unfolding concat
+loop-i-preserved c =
+    let l = c.loop-i in
+    let p = c.put_line-end in (
+      omega arith,
+      p.auto.out ∙ l.invariant.1,
+      omega (arith, p.ensures.1),
+      rw add-one (put_next l.invariant.3 p.ensures.0),
+    )
+
+pub shape_of-out : goal.shape_of-out
+shape_of-out c = c.loop-i.invariant.1
+
+pub returns : goal.returns
+returns c =
+    let l = c.loop-i in
+    let e : l.i ≡ c.args.n = omega arith in
+    rw e at l.invariant.3

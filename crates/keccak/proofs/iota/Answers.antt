@@ -1,0 +1,9 @@
+-- `keccak::iota` meets its contract, by computing.
+use mathlib.Core.Path.{refl}
+use borrow.Author.Rules.{rules}
+use Rattle.spec.specs.Keccak.{iota}
+use Rattle.keccak.proofs.iota.Goals as goal
+
+pub returns : goal.returns
+unfolding iota
+returns c = refl

@@ -1,0 +1,16 @@
+-- `keccak::keccak_f` meets its contract. The loop's invariant: after i turns the state is that of the first i rounds. The measure is the number of rounds left.
+use mathlib.Core.Path.{◌≡◌, refl}
+use Prim.Native.Nat.{◌-◌, ◌≤◌}
+use native.Mathlib.Numerals.{add-one}
+use native.Mathlib.Omega.{arith}
+use borrow.Author.Rules.{rules}
+use lib.ListN.{get_or}
+use Rattle.laws.proofs.Lists.{get_d_tabulate}
+use Rattle.spec.specs.Keccak.{round_constant, first_rounds, keccak_f}
+use Rattle.keccak.proofs.keccak_f.Given as goal
+
+abbrev pub invariant-loop-i : goal.invariant-loop-i
+invariant-loop-i l = (l.i ≤ 24) × (l.s ≡ first_rounds l.i l.initial.s)
+
+abbrev pub decreases-loop-i : goal.decreases-loop-i
+decreases-loop-i l = 24 - l.i

@@ -1,0 +1,43 @@
+-- At most 32 leaf commitments of 96 bytes and 512 nodes of 32.
+use Prim.Native.Nat.{ℕ, ◌+◌, ◌*◌, ◌≤◌}
+use mathlib.Core.Path.{ap₂}
+use mathlib.Core.Bool.{true}
+use mathlib.Core.Path.{◌≡◌}
+use native.Mathlib.Omega.{arith}
+use borrow.Author.Rules.{rules}
+use Rattle.spec.specs.declared.Shape.{Shape}
+use Rattle.spec.specs.Shapes.{shape_ok, opening_bytes}
+use Rattle.laws.proofs.Concat.{mul-limit}
+use Rattle.planning_laws.proofs.ShapeFacts.{shape-facts}
+use Rattle.lengths.proofs.opening_bytes.Goals as goal
+
+hidden-part : (s : Shape) (w : ℕ) → shape_ok s ≡ true → w ≤ 96 → w * s.tau ≤ 96 * 32
+hidden-part s w ok h = mul-limit w s.tau 96 32 h (shape-facts s ok).tau-max
+
+slots-part : (s : Shape) (w : ℕ) → shape_ok s ≡ true → w ≤ 32 → w * s.t ≤ 32 * 512
+slots-part s w ok h = mul-limit w s.t 32 512 h (shape-facts s ok).t-max
+
+pub overflow_mul-result : goal.overflow_mul-result
+overflow_mul-result c = (let a = c in let m = hidden-part a.args.s c.commitment_bytes.result a.requires c.commitment_bytes.ensures.1 in omega arith)
+
+pub overflow_mul-result-2 : goal.overflow_mul-result-2
+overflow_mul-result-2 c = (let a = c in let m = slots-part a.args.s c.node_bytes.result a.requires c.node_bytes.ensures.2 in omega arith)
+
+pub overflow_add-result : goal.overflow_add-result
+overflow_add-result c =
+    let a = c in
+    let v = c.commitment_bytes in
+    let w = c.node_bytes in
+    let m = hidden-part a.args.s v.result a.requires v.ensures.1 in
+    let n = slots-part a.args.s w.result a.requires w.ensures.2 in
+    omega arith
+
+pub returns : goal.returns
+unfolding opening_bytes
+returns c =
+    let a = c in
+    let v = c.commitment_bytes in
+    let w = c.node_bytes in
+    let m = hidden-part a.args.s v.result a.requires v.ensures.1 in
+    let n = slots-part a.args.s w.result a.requires w.ensures.2 in
+    (ap₂ (λ (x y : ℕ). x * a.args.s.tau + y * a.args.s.t) v.ensures.0 w.ensures.0, omega arith)

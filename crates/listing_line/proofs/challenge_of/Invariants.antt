@@ -1,0 +1,21 @@
+-- The first i bytes are those that the first 2 i digits write.
+use Prim.Native.Nat.{ℕ, ◌+◌, ◌-◌, ◌*◌, ◌≤◌, ◌<◌}
+use mathlib.Core.Path.{◌≡◌, ap₂}
+use mathlib.Core.Bool.{true}
+use mathlib.Core.List.{List}
+use native.Mathlib.Omega.{arith}
+use lib.ListN.{get_or, replicate}
+use Rattle.laws.specs.Front.{Front}
+use Rattle.laws.proofs.Front.{front-none, front-set, front-all}
+use Rattle.listing_line.specs.Line.{is_hex_digit, hex_value, challenge_ok, challenge_of}
+use Rattle.listing_line.proofs.Challenge.{challenge-facts, hex-at}
+use Rattle.listing_line.proofs.challenge_of.Given as goal
+
+abbrev pub byte : List ℕ → ℕ → ℕ
+byte text i = 16 * hex_value (get_or text (2 * i) 0) + hex_value (get_or text (2 * i + 1) 0)
+
+abbrev pub invariant-loop-i : goal.invariant-loop-i
+invariant-loop-i l = (l.i ≤ 16) × Front (byte l.text) 16 l.i l.challenge
+
+abbrev pub decreases-loop-i : goal.decreases-loop-i
+decreases-loop-i l = 16 - l.i

@@ -1,0 +1,63 @@
+use Prim.Native.Nat.{ℕ, ◌-◌, ◌≤◌, ◌<◌}
+use mathlib.Core.Path.{◌≡◌, sym, ap, ◌∙◌}
+use native.Mathlib.Omega.{arith}
+use borrow.Author.Rules.{rules}
+use native.Mathlib.Numerals.{add-one}
+use lib.ListN.{get_or, take}
+use Rattle.listing_line.specs.Line.{digit_run, decimal_from, number_of}
+use Rattle.listing_line.proofs.Numbers.{digit-bounds, run-digits, value-more, value-small}
+use Rattle.listing_line.proofs.number_of.Goals as goal
+
+-- in the loop: the number so far is small, and the next byte is a digit
+known : (c : goal.In-loop-i) → (c.loop-i.v < 10000)
+    × (48 ≤ get_or c.args.text.now c.loop-i.i 0)
+    × (get_or c.args.text.now c.loop-i.i 0 ≤ 57)
+known c =
+    let st = c in
+    let l = c.loop-i in
+    let h : l.i < digit_run st.args.text.now = rw c.digit_run-n.ensures.0 at c.loop-i-test.true in
+    let d = digit-bounds (get_or st.args.text.now l.i 0) (run-digits _ _ h) in
+    (rw l.invariant.1 (value-small _ _ st.requires h), d.0, d.1)
+
+pub digit_run-n-requires : goal.digit_run-n-requires
+digit_run-n-requires c = tt
+
+pub loop-i-init : goal.loop-i-init
+unfolding decimal_from
+loop-i-init c = search rules
+
+pub overflow_mul-v : goal.overflow_mul-v
+overflow_mul-v c = omega (arith, known c)
+
+pub bounds-text-i : goal.bounds-text-i
+bounds-text-i c = omega arith
+
+pub overflow_sub-v : goal.overflow_sub-v
+overflow_sub-v c = (known c.before).1
+
+pub overflow_cast-v : goal.overflow_cast-v
+overflow_cast-v c = omega (arith, known c.before)
+
+pub overflow_add-v : goal.overflow_add-v
+overflow_add-v c = omega (arith, known c.before)
+
+pub overflow_add-i : goal.overflow_add-i
+overflow_add-i c = omega arith
+
+pub loop-i-smaller : goal.loop-i-smaller
+loop-i-smaller c = omega arith
+
+pub loop-i-preserved : goal.loop-i-preserved
+loop-i-preserved c =
+    let text = c.args.text.now in
+    let l = c.loop-i in
+    let r = c.digit_run-n.ensures.1 in
+    (omega arith, rw (l.invariant.1, add-one) (sym (value-more 0 text l.i (omega arith))))
+
+pub returns : goal.returns
+unfolding number_of
+returns c =
+    let text = c.args.text.now in
+    let l = c.loop-i in
+    let e : l.i ≡ digit_run text = omega (arith, c.digit_run-n.ensures.0) in
+    l.invariant.1 ∙ ap (λ (n : ℕ). decimal_from 0 (take n text)) e

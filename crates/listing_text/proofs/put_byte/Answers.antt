@@ -1,0 +1,7 @@
+-- One store.
+use borrow.Author.Rules.{rules}
+use Rattle.listing_text.proofs.Writing.{put_one}
+use Rattle.listing_text.proofs.put_byte.Goals as goal
+
+pub returns : goal.returns
+returns c = put_one _ _ _ c.requires

@@ -1,8 +1,0 @@
--- One store.
-use borrow.Author.Rules.{rules}
-use Rattle.listing_text.proofs.Writing.{put_one}
-use Rattle.listing_text.proofs.put_byte.Statement.{statement}
-use Rattle.listing_text.proofs.put_byte.Tie as tie
-
-pub put-byte-spec : {M : Type 1} → statement M
-put-byte-spec = tie.close (tie.spec (λ c. search rules) (λ c. search rules) (λ c. search rules) (λ c. put_one _ _ _ c.requires))

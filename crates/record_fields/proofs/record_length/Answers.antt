@@ -1,0 +1,18 @@
+-- The lengths of the fields, in the order of the places; the bound is a law.
+use borrow.Author.Rules.{rules}
+use native.Mathlib.Omega.{arith}
+use mathlib.Core.Path.{◌≡◌, ap, ◌∙◌}
+use Rattle.record.specs.Record.{head_bytes, corrections_place, opening_place, commitment_place, record_end, record_bytes}
+use Rattle.record.proofs.Bounds.{record-small}
+use Rattle.record_fields.proofs.record_length.Goals as goal
+
+pub record-length-spec : {M : Type 1} → statement M
+
+pub returns : goal.returns
+unfolding record_bytes record_end commitment_place opening_place corrections_place
+returns c =
+    let head = c in
+    let a = head in
+    let h = head.head_length-h.ensures.0 ∙ ap head_bytes head.version_for.ensures in
+    let m = record-small a.args.s a.args.b a.requires.0 a.requires.1 in
+    (omega (arith, h), omega (arith, h, m))

@@ -1,0 +1,52 @@
+-- Each way out is one law of `Answers`, by the tests that led there.
+use borrow.Author.Rules.{rules}
+use mathlib.Core.Path.{ap, ◌∙◌, sym}
+use Rattle.record_writer.proofs.Answers.{room, write-1, write-2, write-3, write-0}
+use Rattle.rules.proofs.RowLength.{row-max}
+use Rattle.laws.proofs.Tests.{failed, passed}
+use Rattle.spec.specs.Shapes.{shape_ok}
+use Rattle.record_writer.proofs.write_record.Goals as goal
+
+pub returns-then-not-is_shape : goal.returns-then-not-is_shape
+returns-then-not-is_shape c =
+    let sh = c in
+    write-1 _ _ sh.resolve-s.ensures _ _ (failed sh.is_shape.ensures c.if-not-is_shape.true) c.answer.ensures
+
+pub returns-then-not-is_row_length : goal.returns-then-not-is_row_length
+returns-then-not-is_row_length c =
+    let ro = c in
+    let sh = ro in
+    write-2 _ _ sh.resolve-s.ensures _ _ (passed sh.is_shape.ensures ro.if-not-is_shape.false) (failed ro.is_row_length.ensures c.if-not-is_row_length.true) c.answer-then-not-is_row_length.ensures
+
+pub write_lengths-requires : goal.write_lengths-requires
+write_lengths-requires c =
+    let ro = c in
+    let sh = ro in
+    (passed sh.is_shape.ensures ro.if-not-is_shape.false, row-max _ (passed ro.is_row_length.ensures c.if-not-is_row_length.false))
+
+pub returns-then-not-write_lengths : goal.returns-then-not-write_lengths
+returns-then-not-write_lengths c =
+    let ft = c in
+    let ro = ft in
+    let sh = ro in
+    write-3 _ _ sh.resolve-s.ensures _ _ (passed sh.is_shape.ensures ro.if-not-is_shape.false) (passed ro.is_row_length.ensures ft.if-not-is_row_length.false)
+    (failed ft.write_lengths.ensures c.if-not-write_lengths.true) c.answer-then-not-write_lengths.ensures
+
+pub write_fields-requires : goal.write_fields-requires
+write_fields-requires c =
+    let ft = c in
+    let sh = ft in
+    let g = sh.args in (
+      sym (ap shape_ok sh.resolve-s.ensures) ∙ passed sh.is_shape.ensures ft.if-not-is_shape.false,
+      room sh.resolve-s.result (record { shape = g.shape; row = g.row-bits; iv = g.iv.now; challenge = g.challenge.now; corrections = g.corrections.now; opening = g.opening.now; commitment = g.commitment.now })
+          g.«record».now sh.resolve-s.ensures (passed ft.write_lengths.ensures c.if-not-write_lengths.false),
+    )
+
+pub returns : goal.returns
+returns c =
+    let wr = c in
+    let ft = wr in
+    let ro = ft in
+    let sh = ro in
+    write-0 _ _ sh.resolve-s.ensures _ _ _ (passed sh.is_shape.ensures ro.if-not-is_shape.false) (passed ro.is_row_length.ensures ft.if-not-is_row_length.false)
+    (passed ft.write_lengths.ensures wr.if-not-write_lengths.false) wr.write_fields.ensures c.answer-2.ensures

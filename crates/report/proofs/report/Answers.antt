@@ -1,0 +1,22 @@
+-- More than 65,536 bytes are refused, and else the entries are put.
+use native.Mathlib.Omega.{arith}
+use borrow.Author.Rules.{rules}
+use borrow.Author.Tests.{le-leb, lt-leb}
+use lib.ListN.{length}
+use Rattle.listing_text.proofs.Writing.{put_front}
+use Rattle.report_text.specs.Text.{report_text}
+use Rattle.report.proofs.report.Goals as goal
+
+pub returns-then-input-gt65536 : goal.returns-then-input-gt65536
+unfolding report_text
+returns-then-input-gt65536 c =
+    let p = c in
+    let t = p in
+    rw (lt-leb (length t.args.input.now) 65536 t.if-input-gt65536.true) (put_front p.put_refused.ensures)
+
+pub returns : goal.returns
+unfolding report_text
+returns c =
+    let p = c in
+    let t = p in
+    rw (le-leb (length t.args.input.now) 65536 t.if-input-gt65536.false) (put_front p.put_entries.ensures)

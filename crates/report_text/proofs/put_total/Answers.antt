@@ -1,0 +1,11 @@
+-- The word, and behind it the pair.
+use borrow.Author.Rules.{rules}
+use Rattle.listing_text.proofs.Writing.{put_next}
+use Rattle.report_text.specs.Text.{total_text}
+use Rattle.report_text.proofs.put_total.Goals as goal
+
+pub returns : goal.returns
+unfolding total_text
+returns c =
+    let p = c in
+    put_next p.put_bytes-end.ensures p.put_pair.ensures.0

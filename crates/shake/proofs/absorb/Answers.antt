@@ -1,0 +1,31 @@
+use mathlib.Core.Path.{◌≡◌}
+use Prim.Native.Nat.{◌+◌, ◌-◌, ◌≤◌}
+use native.Mathlib.Omega.{arith}
+use borrow.Author.Rules.{rules}
+use lib.ListN.{length, take}
+use lib.Seq.{take-add, take_all}
+use Rattle.shake.specs.Absorbing.{Took}
+use Rattle.shake.proofs.Absorbing.{took-none, took_more}
+use Rattle.shake.proofs.absorb.Goals as goal
+
+pub loop-at-init : goal.loop-at-init
+loop-at-init c =
+    let a = c.args in
+    (omega arith, took-none a.rate a.s.lanes a.s.fill c.requires.1)
+
+pub loop-at-smaller : goal.loop-at-smaller
+loop-at-smaller c =
+    let room = c.loop-at.invariant.1.room in
+    omega arith
+
+pub loop-at-preserved : goal.loop-at-preserved
+loop-at-preserved c =
+    let l = c.loop-at in
+    let n = c.min-n.result in
+    let e : l.at + n - l.at ≡ n = omega arith in
+    (omega arith, rw take-add (took_more l.invariant.1 (rw e at c.absorb_part-u.ensures)))
+
+pub returns : goal.returns
+returns c =
+    let l = c.loop-at in
+    rw (take_all l.at c.args.message.now c.loop-at-test.false) at l.invariant.1

@@ -1,0 +1,12 @@
+-- What `hash` ensures of the sponge that has absorbed the message.
+use mathlib.Core.List.{[]}
+use borrow.Author.Rules.{rules}
+use Rattle.spec.specs.Hashes.{hash0}
+use Rattle.shake.proofs.h0.Goals as goal
+
+pub returns : goal.returns
+unfolding hash0
+returns c =
+    let start = c in
+    let none = c.new-s.ensures.0 start.args.rate start.requires.1 in
+    c.hash.ensures start.args.iv.now (c.absorb-t.ensures.holds [] none)

@@ -1,0 +1,10 @@
+-- What `h1_finish` ensures, of one part.
+use mathlib.Core.List.{[]}
+use borrow.Author.Rules.{rules}
+use Rattle.shake.proofs.h1.Goals as goal
+
+pub returns : goal.returns
+returns c =
+    let start = c in
+    let none = c.new-s.ensures.0 start.args.rate start.requires.1 in
+    c.h1_finish.ensures start.args.message.now (c.absorb-t.ensures.holds [] none)

@@ -1,0 +1,20 @@
+-- `shake::squeeze` meets its contract. The loop's invariant: the first `at` bytes are squeezed, and where there are more to come the state is that of the block
+-- that begins there. The measure is the number of bytes left.
+use mathlib.Core.Path.{◌≡◌, refl, sym, ap, ◌∙◌}
+use Prim.Native.Nat.{ℕ, suc, ◌+◌, ◌-◌, ◌*◌, ◌<◌}
+use native.Mathlib.Nat.{mul-zero, mul-suc}
+use native.Mathlib.Omega.{arith}
+use borrow.Author.Rules.{rules}
+use borrow.Rule.Slice.PartMut.{put_mid}
+use lib.ListN.{length}
+use Rattle.spec.specs.Keccak.{keccak_f}
+use Rattle.spec.specs.Sponge.{permuted}
+use Rattle.shake.proofs.Squeezing.{Squeezed, squeezed-none, squeezed-more, squeezed-all}
+use Rattle.shake.proofs.squeeze.Given as goal
+
+abbrev pub invariant-loop-at : goal.invariant-loop-at
+invariant-loop-at l =
+    Squeezed l.rate l.initial.t.lanes l.initial.out l.out l.at × ((q : ℕ) × (l.t.lanes ≡ permuted q l.initial.t.lanes) × (l.at < length l.initial.out → l.at ≡ l.rate * q))
+
+abbrev pub decreases-loop-at : goal.decreases-loop-at
+decreases-loop-at l = length l.initial.out - l.at

@@ -1,0 +1,11 @@
+-- Each length is that of its name; a challenge has as many bytes as a node.
+use borrow.Author.Rules.{rules}
+use mathlib.Core.Path.{refl}
+use Rattle.spec.specs.Shapes.{node_bytes, challenge_bytes}
+use Rattle.signer_refusals.proofs.open_fits.Goals as goal
+
+pub returns : goal.returns
+unfolding node_bytes challenge_bytes
+returns c =
+    let made = c in
+    rw (made.node_bytes-node.ensures.0, made.tree_bytes-tree.ensures.0, made.leaf_commitments_bytes-lcs.ensures.0, made.opening_bytes-opening.ensures.0) refl

@@ -1,0 +1,141 @@
+-- What `key_schedule` and `fill_keyed` ensure of the parts they are lent.
+use borrow.Author.Rules.{rules}
+use mathlib.Core.Path.{◌≡◌, refl, sym, ap, ap₂, subst, ◌∙◌}
+use mathlib.Core.List.{List, ◌++◌}
+use Prim.Native.Nat.{ℕ, ◌+◌, ◌-◌, ◌*◌, ◌/◌, ◌%◌, ◌^◌, ◌≤◌, ◌<◌}
+use native.Mathlib.Nat.{le-add_right}
+use native.Mathlib.Omega.{arith}
+use lib.ListN.{length, take, drop}
+use Rattle.spec.specs.Bytes.{part, tabulate}
+use Rattle.spec.specs.Shapes.{node_bytes, key_words}
+use Rattle.spec.specs.Primitives.{prg}
+use Rattle.job.specs.Versions.{byte_of}
+use Rattle.job.proofs.Each.{prg-byte}
+use Rattle.spec.specs.Leaves.{children}
+use Rattle.laws.proofs.Lists.{length_part, tabulate-from-0}
+use Rattle.laws.proofs.Concat.{mul-limit}
+use Rattle.laws.proofs.Putting.{behind}
+use Rattle.planning_laws.proofs.ShapeFacts.{shape-facts, widths}
+use Rattle.aes_keys.specs.RoundKeys.{Keyed}
+use Rattle.tree.proofs.Growing.{node-place}
+use Rattle.tree.proofs.expand_node.Goals as goal
+
+-- where node a and its children stand, in a tree of d bytes
+record Places (n a d : ℕ) : Type 0 where
+  pub small : a < 2 ^ 32
+  pub node : n * a + n ≤ n * (2 * a + 1)
+  pub last : n * (2 * a + 1) + 2 * n ≡ n * (2 * a + 3)
+  pub room : n * (2 * a + 1) + 2 * n ≤ d
+
+places : (n a d : ℕ) → 16 ≤ n → n * (2 * a + 3) ≤ d → d < 2 ^ 32 → Places n a d
+places n a d h r l =
+    let one = node-place n a 1 in
+    let three = node-place n a 3 in
+    let m = mul-limit 16 a n a h (let z : a ≤ a = omega arith in z) in
+    record { small = omega arith; node = omega arith; last = omega arith; room = omega arith }
+
+module _ (c : goal.After-slice-known) where
+  abbrev At : Type 0
+  At = Places c.before.args.n c.before.args.a (length c.before.args.tree.now)
+
+  at : At
+  at = (let p = c.before.requires.1 in places c.before.args.n c.before.args.a _ p.0 p.3 p.4)
+
+-- the key has a node's length
+key-size : (c : goal.After-tree-1) → length (part c.args.tree.now (c.args.n * c.args.a) (c.args.n * c.args.a + c.args.n - c.args.n * c.args.a)) ≡ c.args.n
+key-size c =
+    let g = c.args in
+    let one : g.n * g.a + g.n - g.n * g.a ≡ g.n = omega arith in
+    ap (λ (m : ℕ). length (part g.tree.now (g.n * g.a) m)) one ∙ length_part g.tree.now (g.n * g.a) g.n (key-end c)
+
+-- the children have the length of two nodes
+two_size : (c : goal.After-keys-1) → length (part c.args.tree.now (c.args.n * (2 * c.args.a + 1)) (c.args.n * (2 * c.args.a + 1) + 2 * c.args.n - c.args.n * (2 * c.args.a + 1))) ≡ 2 * c.args.n
+two_size c =
+    let g = c.args in
+    let from = g.n * (2 * g.a + 1) in
+    let two : from + 2 * g.n - from ≡ 2 * g.n = omega arith in
+    ap (λ (m : ℕ). length (part g.tree.now from m)) two ∙ length_part g.tree.now from (2 * g.n) (to_end c)
+
+pub overflow_mul-from : goal.overflow_mul-from
+overflow_mul-from c = (let p = at c in omega arith)
+
+pub overflow_add-from : goal.overflow_add-from
+overflow_add-from c = (let p = at c in omega arith)
+
+pub overflow_mul-from-2 : goal.overflow_mul-from-2
+overflow_mul-from-2 c = (let p = at c in omega (arith, c.requires.1.4))
+
+pub overflow_mul-n : goal.overflow_mul-n
+overflow_mul-n c = (let p = at c in omega (arith, c.requires.1.4))
+
+pub overflow_mul-n-2 : goal.overflow_mul-n-2
+overflow_mul-n-2 c = (let p = at c in omega (arith, c.requires.1.4))
+
+pub overflow_add-n : goal.overflow_add-n
+overflow_add-n c = (let p = at c in omega (arith, c.requires.1.4))
+
+pub slice_bounds-key_schedule-count : goal.slice_bounds-key_schedule-count
+slice_bounds-key_schedule-count c = le-add_right _ _
+
+pub slice_bounds-key_schedule-start : goal.slice_bounds-key_schedule-start
+slice_bounds-key_schedule-start c = le-add_right _ _
+
+pub slice_bounds-key_schedule-end : goal.slice_bounds-key_schedule-end
+slice_bounds-key_schedule-end c = (let p = at c.before in omega arith)
+
+pub key_schedule-keys-requires : goal.key_schedule-keys-requires
+key_schedule-keys-requires c =
+    let start = c in
+    let p = start.requires.1 in
+    let e = key-size c.before in
+    (start.requires.0, (omega (arith, p.0), omega (arith, p.1), ap (λ (m : ℕ). m % 8) e ∙ p.2))
+
+pub overflow_cast-x : goal.overflow_cast-x
+overflow_cast-x c = (let p = at c.before.before.before in omega arith)
+
+pub overflow_add-from-2 : goal.overflow_add-from-2
+overflow_add-from-2 c = (let p = at c.before.before.before.before in omega (arith, c.requires.1.4))
+
+pub slice_bounds-fill_keyed-count : goal.slice_bounds-fill_keyed-count
+slice_bounds-fill_keyed-count c = le-add_right _ _
+
+pub slice_bounds-fill_keyed-start : goal.slice_bounds-fill_keyed-start
+slice_bounds-fill_keyed-start c = le-add_right _ _
+
+pub slice_bounds-fill_keyed-end : goal.slice_bounds-fill_keyed-end
+slice_bounds-fill_keyed-end c = (let p = at c.before.before.before.before in omega arith)
+
+pub fill_keyed-requires : goal.fill_keyed-requires
+fill_keyed-requires c =
+    let start = c in
+    let p = start.requires.1 in
+    let e = two_size c.before in
+    let n = start.args.n in
+    (start.requires.0, (omega (arith, p.0), omega (arith, p.1), omega (arith, p.2), omega (arith, p.1)))
+
+pub returns : goal.returns
+unfolding prg children
+returns c = λ s ok e.
+    let start = c in
+    let g = start.args in
+    let x = g.tree.now in
+    let n = g.n in
+    let a = g.a in
+    let from = n * (2 * a + 1) in
+    let p = at c.before.before.before.before.before.before.before.before in
+    let w = widths s (shape-facts s ok) in
+    let words : n ≡ 4 * key_words s = e ∙ w.node-words in
+    let one : n * a + n - n * a ≡ n = omega arith in
+    let key : part x (n * a) (n * a + n - n * a) ≡ part x (n * a) n = ap (part x (n * a)) one in
+    let schedule = c.key_schedule-keys in
+    let quarter : length (part x (n * a) (n * a + n - n * a)) / 4 ≡ key_words s = (let k = key-size c.before.before.before.before.before.before.before in omega arith) in
+    let keyed = subst (λ (m : ℕ). Keyed m (part x (n * a) (n * a + n - n * a)) schedule.result) quarter schedule.ensures in
+    let rounds : n / 4 + 6 ≡ key_words s + 6 = omega arith in
+    let f : List ℕ → ℕ → ℕ = λ k. byte_of (key_words s) k (record { iv = g.iv; tweak = a; version = g.version }) in
+    let made =
+    c.fill_keyed.ensures (key_words s) _ rounds keyed
+    ∙ ap₂ (λ (m : ℕ) (k : List ℕ). tabulate m (λ q. f k (0 + q))) (two_size c.before.before.before.before ∙ ap (λ (m : ℕ). 2 * m) e) key
+    ∙ tabulate-from-0 (2 * node_bytes s) (f (part x (n * a) n))
+    ∙ ap (tabulate (2 * node_bytes s)) (sym (prg-byte g.version s (part x (n * a) n) g.iv a)) in
+    let rest : drop (from + 2 * n - from) (drop from x) ≡ drop (n * (2 * a + 3)) x = behind from (2 * n) x ∙ ap (λ (m : ℕ). drop m x) p.last in
+    ap₂ (λ (y z : List ℕ). take from x ++ (y ++ z)) made rest

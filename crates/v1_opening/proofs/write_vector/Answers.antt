@@ -1,0 +1,109 @@
+-- Each part lent ends where the next vector's begins, and what is written is the decommitment of the vector.
+-- ---- where each part ends, and what is between its start and its end
+use borrow.Author.Rules.{rules}
+use mathlib.Core.Path.{◌≡◌, refl, sym, ap, ◌∙◌}
+use Prim.Native.Nat.{ℕ, ◌+◌, ◌-◌, ◌*◌, ◌^◌, ◌≤◌}
+use native.Mathlib.Omega.{arith}
+use lib.ListN.{length}
+use Rattle.spec.specs.Shapes.{depth_of, entries_of}
+use Rattle.spec.specs.Version1.{decommitment}
+use Rattle.laws.proofs.Concat.{mul-limit}
+use Rattle.v1_opening.proofs.Parts.{lent, put-behind, tree-part, opening-part, leaf-part, is-decommitment}
+use Rattle.v1_opening.proofs.write_vector.Goals as goal
+
+module _ (c : goal.After-first-node2) where
+  abbrev Tree : Type 0
+  Tree =
+      (c.before.before.before.before.node-bytes.result * c.first-node2.result ≡ c.before.before.before.before.node-bytes.result * c.before.first-node.result + c.before.before.before.before.node-bytes.result * (2 * 2 ^ c.before.before.before.depth-of.result - 1))
+      × (c.before.before.before.before.node-bytes.result * c.first-node2.result ≤ length c.before.before.before.before.before.before.before.before.before.args.trees.now)
+
+  tree : Tree
+  tree =
+      let start = c.before.before.before.before.before.before.before.before.before in
+      tree-part start.args.s start.requires.0.0 start.args.i start.requires.0.3 _ _ _ _ _ c.before.before.before.before.node-bytes.ensures.0 c.before.before.before.depth-of.ensures.0 c.before.first-node.ensures.0 c.first-node2.ensures.0 start.requires.1.0
+
+leaf : (c : goal.After-entry-of) → 2 * c.before.before.before.before.before.node-bytes.result * c.entry_of.result + 2 * c.before.before.before.before.before.node-bytes.result ≤ length c.before.before.before.before.before.before.before.before.before.before.args.lcs.now
+leaf c =
+    let start = c.before.before.before.before.before.before.before.before.before.before in
+    leaf-part start.args.s _ _ _ c.before.before.before.before.before.node-bytes.ensures.0 c.entry_of.ensures.1 start.requires.1.1
+
+module _ (c : goal.After-decommitment-from2) where
+  abbrev Place : Type 0
+  Place =
+      (c.before.decommitment-from.result + (c.before.before.before.before.before.before.before.node-bytes.result * c.before.before.before.before.before.before.depth-of.result + 2 * c.before.before.before.before.before.before.before.node-bytes.result) ≡ c.decommitment-from2.result)
+      × (c.decommitment-from2.result ≤ length c.before.before.before.before.before.before.before.before.before.before.before.before.args.opening.now)
+
+  place : Place
+  place =
+      let start = c.before.before.before.before.before.before.before.before.before.before.before.before in
+      opening-part start.args.s start.requires.0.0 start.args.i start.requires.0.3 _ _ _ _ _ start.requires.0.1 c.before.before.before.before.before.before.before.node-bytes.ensures.0 c.before.before.before.before.before.before.depth-of.ensures.0 c.before.decommitment-from.ensures.0 c.decommitment-from2.ensures.0 start.requires.1.2
+
+pub overflow_mul-from : goal.overflow_mul-from
+overflow_mul-from c =
+    let n = c.node_bytes-n in
+    let m = mul-limit n.result c.first_node.result 32 172032 n.ensures.2 c.first_node.ensures.1 in
+    omega arith
+
+pub overflow_mul-to : goal.overflow_mul-to
+overflow_mul-to c = let t = (tree c).1 in omega arith
+
+pub overflow_mul-lc-2 : goal.overflow_mul-lc-2
+overflow_mul-lc-2 c = let l = leaf c in omega arith
+
+pub overflow_add-hidden : goal.overflow_add-hidden
+overflow_add-hidden c = let l = leaf c.before.before in omega arith
+
+pub slice_bounds-hidden-end : goal.slice_bounds-hidden-end
+slice_bounds-hidden-end c = leaf c.before.before
+
+pub slice_bounds-write_decommitment-count : goal.slice_bounds-write_decommitment-count
+slice_bounds-write_decommitment-count c = let t = (tree c.before.before.before.before).0 in omega arith
+
+pub slice_bounds-write_decommitment-start : goal.slice_bounds-write_decommitment-start
+slice_bounds-write_decommitment-start c = let t = (tree c.before.before.before.before).0 in omega arith
+
+pub slice_bounds-write_decommitment-end : goal.slice_bounds-write_decommitment-end
+slice_bounds-write_decommitment-end c = (tree c.before.before.before.before).1
+
+pub slice_bounds-write_decommitment-count-2 : goal.slice_bounds-write_decommitment-count-2
+slice_bounds-write_decommitment-count-2 c = let p = (place c.before.before).0 in omega arith
+
+pub slice_bounds-write_decommitment-start-2 : goal.slice_bounds-write_decommitment-start-2
+slice_bounds-write_decommitment-start-2 c = let p = (place c.before.before).0 in omega arith
+
+pub slice_bounds-write_decommitment-end-2 : goal.slice_bounds-write_decommitment-end-2
+slice_bounds-write_decommitment-end-2 c = (place c.before.before).1
+
+pub write_decommitment-requires : goal.write_decommitment-requires
+unfolding entries_of
+write_decommitment-requires c =
+    let start = c in
+    let g = start.args in
+    let n = c.node_bytes-n in
+    let d = c.depth_of-d in
+    let j = c.hidden_index-j in
+    let t = tree c.before.before.before.before.before.before in
+    let p = place c.before.before.before in
+    let pow : 2 ^ d.result ≡ 2 ^ depth_of g.s g.i = ap (λ (m : ℕ). 2 ^ m) d.ensures.0 in
+    let low = j.ensures.1 in
+    (n.ensures.2, d.ensures.1, omega arith, lent _ _ _ g.trees.now t.0 t.1, lent _ _ _ g.lcs.now refl (leaf c.before.before.before.before.before), lent _ _ _ g.opening.now (sym p.0) p.1)
+
+pub returns : goal.returns
+returns c = λ front.
+    let start = c in
+    let g = start.args in
+    let n = c.node_bytes-n in
+    let d = c.depth_of-d in
+    let j = c.hidden_index-j in
+    let a = c.first_node in
+    let b = c.first_node-2 in
+    let e = c.entry_of in
+    let at = c.decommitment_from-at in
+    let end = c.decommitment_from-end in
+    let p = place c.before.before.before.before.before.before in
+    let made = c.write_decommitment in
+    let y = made.new.out in
+    let size = n.result * d.result + 2 * n.result in
+    let is = made.ensures ∙ is-decommitment g.s start.requires.0.0 g.i start.requires.0.3 g.ch.now g.trees.now g.lcs.now start.requires.1.0 n.result d.result j.result a.result b.result e.result n.ensures.0 d.ensures.0 j.ensures.0 a.ensures.0 b.ensures.0 e.ensures.0 in
+    put-behind (decommitment g.s g.ch.now g.trees.now g.lcs.now) at.result _ size _ g.i g.opening.now y _ at.ensures.0 (p.0 ∙ end.ensures.0) (let q = p.1 in let r = p.0 in omega arith)
+    (made.auto.out ∙ lent _ _ _ g.opening.now (sym p.0) p.1) is front

@@ -1,0 +1,9 @@
+-- The tests in their order.
+use borrow.Author.Rules.{rules}
+use Rattle.v1_rules.proofs.front_number.Goals as goal
+
+pub returns : goal.returns
+returns c =
+    let row-tests = c in
+    let row = rw row-tests.is_row_length.ensures at row-tests.refusal-row.ensures in
+    rw (c.is_shape.ensures, row) at c.refusal.ensures

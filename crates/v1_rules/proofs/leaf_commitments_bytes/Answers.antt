@@ -1,0 +1,18 @@
+-- No shape has more than 86,016 leaves, and no node more than 32 bytes.
+use borrow.Author.Rules.{rules}
+use Prim.Native.Nat.{ℕ, ◌*◌, ◌≤◌}
+use mathlib.Core.Path.{ap₂}
+use native.Mathlib.Omega.{arith}
+use Rattle.spec.specs.Version1.{leaf_commitment_bytes1, leaf_commitments1_bytes}
+use Rattle.laws.proofs.Concat.{mul-limit}
+use Rattle.v1_rules.proofs.leaf_commitments_bytes.Goals as goal
+
+product : (c : goal.After-leaf-count) → 2 * c.before.node-bytes.result * c.leaf-count.result ≤ 64 * 86016
+product c = mul-limit (2 * c.before.node-bytes.result) c.leaf-count.result 64 86016 (let n = c.before.node-bytes.ensures.2 in omega arith) c.leaf-count.ensures.2
+
+pub overflow_mul-result-2 : goal.overflow_mul-result-2
+overflow_mul-result-2 c = let m = product c in omega arith
+
+pub returns : goal.returns
+unfolding leaf_commitment_bytes1 leaf_commitments1_bytes
+returns c = (let m = product c in (ap₂ (λ (w n : ℕ). 2 * w * n) c.node_bytes.ensures.0 c.leaf_count.ensures.0, omega arith))

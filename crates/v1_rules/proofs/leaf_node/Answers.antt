@@ -1,0 +1,16 @@
+-- An entry's leaf lies in the trees, so no sum overflows.
+use native.Mathlib.Omega.{arith}
+use borrow.Author.Rules.{rules}
+use Rattle.spec.specs.Version1.{first_node, leaf_in}
+use Rattle.planning_laws.proofs.ShapeFacts.{shape-facts}
+use Rattle.planning_laws.proofs.Forest.{forest-leaf}
+use Rattle.v1_rules.proofs.leaf_node.Goals as goal
+
+pub returns : goal.returns
+unfolding leaf_in
+returns c =
+    let a = c in
+    let l = forest-leaf a.args.s (shape-facts a.args.s a.requires.0) a.args.i a.args.j a.requires.1 a.requires.2 in
+    let r = c.first_node.ensures in
+    let n = c.entry_count.ensures in
+    (omega arith, omega arith, omega arith)

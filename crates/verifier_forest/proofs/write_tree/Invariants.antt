@@ -1,0 +1,34 @@
+-- Once a nodes have their children, the first 2 a + 1 nodes stand, and the walk down to the hidden leaf has not passed its next node.
+use borrow.Author.Rules.{rules}
+use Prim.Native.Nat.{ℕ, ◌+◌, ◌-◌, ◌*◌, ◌%◌, ◌^◌, ◌≤◌, ◌<◌}
+use mathlib.Core.Path.{◌≡◌, sym, ap, ap₂, ◌∙◌}
+use mathlib.Core.List.{List, ◌++◌}
+use native.Mathlib.Nat.{mod-eq_of_lt, one-mul, mul-one, le_refl}
+use native.Mathlib.Omega.{arith}
+use lib.ListN.{length, take, drop}
+use lib.Pow.{pow_mono, pow_pos}
+use lib.Seq.{take_all, take_at}
+use Rattle.spec.specs.declared.Shape.{Shape}
+use Rattle.spec.specs.Bytes.{part, zeros}
+use Rattle.spec.specs.Tree.{expand_tree}
+use Rattle.spec.specs.Shapes.{entries_of}
+use Rattle.spec.specs.Version1.{faest1, reconstructed_children1, reconstructed_vector_tree}
+use Rattle.laws.proofs.Lists.{length_part, length-zeros}
+use Rattle.laws.proofs.Concat.{mul-limit, mul-within}
+use Rattle.verifier_forest.specs.ByWay.{VectorOf}
+use Rattle.verifier_forest.proofs.Walk.{Walk, walk_start, walk-past, walk-off, walk_inside, walk-down}
+use Rattle.verifier_forest.proofs.ByVector.{way-grown, other-grown}
+use Rattle.verifier_forest.proofs.write_tree.Given as goal
+
+abbrev pub invariant-loop-a : goal.invariant-loop-a
+invariant-loop-a l =
+    (l.inner ≡ 2 ^ l.d - 1)
+    × (l.inner < 4096)
+    × (l.a ≤ l.inner)
+    × (length l.tree ≡ l.w * (2 * 2 ^ l.d - 1))
+    × Walk l.d l.j l.a l.path l.l
+    × ((s : Shape) (ch opening : List ℕ) (i : ℕ) → VectorOf l.w l.d l.j l.slots s ch opening i
+    → take (l.w * (2 * l.a + 1)) l.tree ≡ expand_tree l.w (zeros l.w) (reconstructed_children1 faest1 s l.iv ch opening i) l.a)
+
+abbrev pub decreases-loop-a : goal.decreases-loop-a
+decreases-loop-a l = l.inner - l.a

@@ -1,0 +1,85 @@
+-- The hidden entry has number 0, so that the first half starts at number 1. Its leaf commitment stands in its place before the others are written.
+use borrow.Author.Rules.{rules}
+use mathlib.Core.Path.{◌≡◌, refl, ap, ◌∙◌, subst}
+use mathlib.Core.List.{List, ◌++◌}
+use Prim.Native.Nat.{ℕ, ◌+◌, ◌*◌, ◌/◌, ◌≤◌}
+use native.Mathlib.Omega.{arith}
+use lib.ListN.{length, take, drop}
+use Rattle.spec.specs.Bytes.{part}
+use Rattle.spec.specs.Shapes.{leaf_commitment_bytes, depth_of, entries_of}
+use Rattle.job.specs.Jobs.{entry_commitment}
+use Rattle.vector.specs.Entries.{Written}
+use Rattle.vector.proofs.Buffers.{start_fits, block-end}
+use Rattle.vector.proofs.Numbers.{half_is}
+use Rattle.vector.proofs.Entries.{written_then}
+use Rattle.vector.proofs.Halves.{lower-inside, upper-inside, lower-marked, upper-marked, columns_of}
+use Rattle.verifier_vector.proofs.Given.{all-given}
+use Rattle.verifier_vector.proofs.add_visible.Goals as goal
+
+-- the hidden entry's place ends within the buffer
+room : (c : goal.After-struct-known) → c.before.before.before.commitment-bytes.result * c.before.before.before.before.before.before.before.before.args.x.entry + c.before.before.before.commitment-bytes.result ≤ length c.before.before.before.before.before.before.before.before.args.lcs.now
+room c =
+    let start = c.before.before.before.before.before.before.before.before in
+    let g = start.args in
+    let w = c.before.before.before.commitment-bytes in
+    let n = entries_of g.g.shape g.x.vector in
+    let all : w.result * n ≡ leaf_commitment_bytes g.g.shape * n = ap (λ (m : ℕ). m * n) w.ensures.0 in
+    block-end w.result g.x.entry n (length g.lcs.now) start.requires.0.3 (let l = start.requires.1.1 in omega arith)
+
+pub overflow_mul-w : goal.overflow_mul-w
+overflow_mul-w c = start_fits _ _ _ (room c) c.well-formed.1.1.1.1.1.1.0.0
+
+pub copy_part-requires : goal.copy_part-requires
+copy_part-requires c = (let w = c.commitment_bytes-w.ensures.0 in let h = c.requires.1.0 in (omega arith, room c))
+
+pub add_half-requires : goal.add_half-requires
+add_half-requires c =
+    let start = c in
+    let g = start.args in
+    let p = start.requires in
+    let ok = p.0.0.job.shape in
+    let n = c.entry_count-n in
+    let clear = c.clear_from in (
+      (p.0.0, p.0.1, lower-inside g.g ok g.x.vector g.x.entry n.result n.ensures.0 p.0.3 1 (omega arith) p.0.2),
+      (
+        c.copy_part.auto.dst ∙ p.1.1,
+        lower-marked g.g ok g.x.vector g.x.entry n.result n.ensures.0 p.0.3 g.tree.now 1 _ g.cols.now clear.new.out (omega arith) p.1.2 clear.auto.out clear.ensures,
+      ),
+    )
+
+pub add_half-requires-2 : goal.add_half-requires-2
+add_half-requires-2 c =
+    let start = c in
+    let g = start.args in
+    let p = start.requires in
+    let ok = p.0.0.job.shape in
+    let n = c.entry_count-n in
+    let made = c.add_half.ensures in (
+      (p.0.0, p.0.1, upper-inside g.g ok g.x.vector g.x.entry n.result n.ensures.0 p.0.3 p.0.2),
+      (made.0.size ∙ c.copy_part.auto.dst ∙ p.1.1, upper-marked g.g ok g.x.vector g.x.entry n.result n.ensures.0 p.0.3 g.tree.now 1 _ made.1),
+    )
+
+pub returns : goal.returns
+unfolding entries_of
+returns c =
+    let start = c in
+    let g = start.args in
+    let s = g.g.shape in
+    let i = g.x.vector in
+    let d = g.x.entry in
+    let p = start.requires in
+    let ok = p.0.0.job.shape in
+    let n = c.entry_count-n in
+    let half = half_is s i (depth_of s i) ok refl n.result n.ensures.0 in
+    let w = leaf_commitment_bytes s in
+    let own = entry_commitment g.g g.tree.now i in
+    let copy = c.copy_part in
+    let one = c.add_half in
+    let two = c.add_half-2 in
+    let old = copy.new.dst in
+    let new = two.new.commitments in
+    let put = subst (λ (w : ℕ). old ≡ take (w * d) g.lcs.now ++ (part g.hidden.now 0 w ++ drop (w * d + w) g.lcs.now)) c.commitment_bytes-w.ensures.0 copy.ensures in
+    let all = subst (λ (m : ℕ). Written w own d 1 m old new) n.ensures.0 (written_then w own d 1 (n.result / 2) n.result old _ new half.1 one.ensures.0 two.ensures.0) in (
+      all-given w g.hidden.now own d (depth_of s i) g.lcs.now old new p.0.3 p.1.1 p.1.0 put all,
+      columns_of g.g ok i d n.result n.ensures.0 p.0.3 g.tree.now _ two.ensures.1,
+    )

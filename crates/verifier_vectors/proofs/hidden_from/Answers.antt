@@ -1,0 +1,42 @@
+-- By the version: the law of each says that the place lies within an opening, and an opening's bytes are few.
+use borrow.Author.Rules.{rules}
+use Prim.Native.Nat.{ℕ, ◌+◌, ◌*◌, ◌≤◌}
+use mathlib.Core.Path.{ap, ap₂}
+use native.Mathlib.Omega.{arith}
+use Rattle.laws.proofs.Concat.{mul-limit}
+use Rattle.planning_laws.proofs.ShapeFacts.{shape-facts}
+use Rattle.verifier_vectors.proofs.HiddenPlaces.{within-one, within-two}
+use Rattle.verifier_vectors.proofs.hidden_from.Goals as goal
+
+-- the siblings of a vector, and the hidden leaf commitments of the vectors before it, have few bytes
+siblings-small : (c : goal.After-depth-of) → c.before.node-bytes.result * c.depth-of.result ≤ 32 * 12
+siblings-small c = mul-limit c.before.node-bytes.result c.depth-of.result 32 12 c.before.node-bytes.ensures.2 c.depth-of.ensures.1
+
+pub overflow_mul-result : goal.overflow_mul-result
+overflow_mul-result c = let m = siblings-small c in omega arith
+
+pub overflow_add-result : goal.overflow_add-result
+overflow_add-result c = (let m = siblings-small c in let d = c.decommitment_from.ensures.1 in omega arith)
+
+pub overflow_mul-result-in-Two : goal.overflow_mul-result-in-Two
+overflow_mul-result-in-Two c =
+    let start = c in
+    let f = shape-facts start.args.g.shape start.requires.0.shape in
+    let i : start.args.i ≤ 32 = (let l = f.tau-max in let p = start.requires.1 in omega arith) in
+    let m = mul-limit c.commitment_bytes.result start.args.i 96 32 c.commitment_bytes.ensures.1 i in
+    omega arith
+
+pub returns-in-One : goal.returns-in-One
+returns-in-One c =
+    let start = c in
+    let ready = start.requires.0 in
+    let s = start.args.g.shape in
+    within-one _ s (shape-facts s ready.shape) ready.kind start.args.i _ start.requires.1 c.enum_told-1.given.1
+    (ap₂ ◌+◌ c.decommitment_from.ensures.0 (ap₂ ◌*◌ c.node_bytes.ensures.0 c.depth_of.ensures.0))
+
+pub returns-in-Two : goal.returns-in-Two
+returns-in-Two c =
+    let start = c in
+    let ready = start.requires.0 in
+    let s = start.args.g.shape in
+    within-two _ s (shape-facts s ready.shape) ready.kind start.args.i _ start.requires.1 c.enum_told-in-Two-1.given.1 (ap (λ (w : ℕ). w * start.args.i) c.commitment_bytes.ensures.0)
