@@ -6,8 +6,8 @@ use Rattle.generator.proofs.fill.Goals as goal
 pub fill_keyed-requires : goal.fill_keyed-requires
 fill_keyed-requires c =
     let start = c in
-    let p = start.requires.1 in
-    (start.requires.0, (omega arith, omega arith, omega arith, p.3))
+    let p = start.requires.in_bounds in
+    (start.requires.sbox_table, (omega arith, omega arith, omega arith, p.3))
 
 pub returns : goal.returns
 returns c = λ nk e.

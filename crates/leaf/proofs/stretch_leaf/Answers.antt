@@ -61,16 +61,16 @@ commitment s key iv i x y o ex e =
 pub fill-requires : goal.fill-requires
 fill-requires c =
     let start = c in
-    let p = start.requires.1 in
+    let p = start.requires.s_value in
     let w = widths start.args.s (shape-facts start.args.s p.0) in
-    (start.requires.0, (omega (arith, w.node-min), omega (arith, w.node-max), ap (λ (n : ℕ). n % 8) p.3 ∙ w.node-eight, omega (arith, w.node-max, w.commitment-max)))
+    (start.requires.sbox_table, (omega (arith, w.node-min), omega (arith, w.node-max), ap (λ (n : ℕ). n % 8) p.3 ∙ w.node-eight, omega (arith, w.node-max, w.commitment-max)))
 
 pub returns : goal.returns
 unfolding HashMultiples
 returns c = λ i tweak multiples.
     let start = c in
     let g = start.args in
-    let p = start.requires.1 in
+    let p = start.requires.s_value in
     let n = c.node_bytes-n in
     let call = c.fill in
     let words = p.3 ∙ (widths g.s (shape-facts g.s p.0)).node-words in

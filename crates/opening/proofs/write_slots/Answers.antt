@@ -15,7 +15,7 @@ use Rattle.opening.proofs.write_slots.Goals as goal
 pub overflow_mul-first : goal.overflow_mul-first
 overflow_mul-first c =
     let start = c in
-    let f = shape-facts start.args.s start.requires.0.0 in
+    let f = shape-facts start.args.s start.requires.s_value.0 in
     let w = c.commitment_bytes in
     let m = mul-limit w.result start.args.s.tau 96 32 w.ensures.1 f.tau-max in
     omega arith
@@ -31,26 +31,26 @@ write_nodes-requires c =
     let slots : w.result * s.t ≡ node_bytes s * s.t = ap (λ (n : ℕ). n * s.t) w.ensures.0 in
     let front : v.result * s.tau ≡ leaf_commitment_bytes s * s.tau = ap (λ (n : ℕ). n * s.tau) v.ensures.0 in
     let all : w.result * (2 * leaves s - 1) ≡ node_bytes s * (2 * leaves s - 1) = ap (λ (n : ℕ). n * (2 * leaves s - 1)) w.ensures.0 in
-    let used = mul-rest w.result start.args.n s.t p.1.0 in
-    (omega arith, p.1.1, omega arith, λ m h. let q = mul-within w.result (get_or start.args.nodes.now m 0) (2 * leaves s - 1) (p.1.2 m h) in omega arith)
+    let used = mul-rest w.result start.args.n s.t p.n_le_t.0 in
+    (omega arith, p.n_le_t.1, omega arith, λ m h. let q = mul-within w.result (get_or start.args.nodes.now m 0) (2 * leaves s - 1) (p.n_le_t.2 m h) in omega arith)
 
 pub overflow_mul-w : goal.overflow_mul-w
 unfolding opening_bytes
 overflow_mul-w c =
     let start = c in
-    let f = shape-facts start.args.s start.requires.0.0 in
+    let f = shape-facts start.args.s start.requires.s_value.0 in
     let w = c.node_bytes-w in
-    let p = start.requires.1 in
+    let p = start.requires.n_le_t in
     let m = mul-limit w.result start.args.n 32 512 w.ensures.2 (omega arith) in
     omega arith
 
 pub overflow_add-first : goal.overflow_add-first
 overflow_add-first c =
     let start = c in
-    let f = shape-facts start.args.s start.requires.0.0 in
+    let f = shape-facts start.args.s start.requires.s_value.0 in
     let w = c.node_bytes-w in
     let v = c.commitment_bytes in
-    let p = start.requires.1 in
+    let p = start.requires.n_le_t in
     let m = mul-limit w.result start.args.n 32 512 w.ensures.2 (omega arith) in
     let k = mul-limit v.result start.args.s.tau 96 32 v.ensures.1 f.tau-max in
     omega arith
@@ -66,7 +66,7 @@ clear_from-requires c =
     let p = start.requires in
     let slots : w.result * s.t ≡ node_bytes s * s.t = ap (λ (n : ℕ). n * s.t) w.ensures.0 in
     let front : v.result * s.tau ≡ leaf_commitment_bytes s * s.tau = ap (λ (n : ℕ). n * s.tau) v.ensures.0 in
-    let used = mul-rest w.result start.args.n s.t p.1.0 in
+    let used = mul-rest w.result start.args.n s.t p.n_le_t.0 in
     omega arith
 
 pub returns : goal.returns
@@ -82,7 +82,7 @@ returns c =
     let s = g.s in
     let slots : w.result * s.t ≡ node_bytes s * s.t = ap (λ (n : ℕ). n * s.t) w.ensures.0 in
     let front : v.result * s.tau ≡ leaf_commitment_bytes s * s.tau = ap (λ (n : ℕ). n * s.tau) v.ensures.0 in
-    let used = mul-rest w.result g.n s.t p.1.0 in
+    let used = mul-rest w.result g.n s.t p.n_le_t.0 in
     let rest : length written.new.out - (v.result * s.tau + w.result * g.n) ≡ w.result * (s.t - g.n) = omega arith in
     c.clear_from.ensures ∙ ap₂ (λ (x : List ℕ) (n : ℕ). x ++ zeros n) written.ensures rest
     ∙ ap₂ (λ (m n : ℕ). (take m g.out.now ++ concat g.n (λ x. part g.tree.now (n * get_or g.nodes.now x 0) n)) ++ zeros (n * (s.t - g.n))) front w.ensures.0

@@ -13,7 +13,7 @@ use Rattle.reconstruction.proofs.write_reconstruction.Goals as goal
 pub overflow_mul-w : goal.overflow_mul-w
 overflow_mul-w c =
     let start = c in
-    let f = shape-facts start.args.s start.requires.0.0 in
+    let f = shape-facts start.args.s start.requires.s_value.0 in
     let w = c.commitment_bytes-w in
     let m = mul-limit w.result start.args.s.tau 96 32 w.ensures.1 f.tau-max in
     omega arith
@@ -21,7 +21,7 @@ overflow_mul-w c =
 pub slice_bounds-keys-end : goal.slice_bounds-keys-end
 slice_bounds-keys-end c =
     let start = c in
-    let f = shape-facts start.args.s start.requires.0.0 in
+    let f = shape-facts start.args.s start.requires.s_value.0 in
     let w = c.commitment_bytes-w in
     let m = mul-limit w.result start.args.s.tau 96 32 w.ensures.1 f.tau-max in
     omega arith
@@ -29,7 +29,7 @@ slice_bounds-keys-end c =
 pub overflow_mul-h : goal.overflow_mul-h
 overflow_mul-h c =
     let start = c in
-    let f = shape-facts start.args.s start.requires.0.0 in
+    let f = shape-facts start.args.s start.requires.s_value.0 in
     let w = c.hash_bytes-h in
     let m = mul-limit w.result start.args.s.tau 64 32 w.ensures.1 f.tau-max in
     omega arith
@@ -37,7 +37,7 @@ overflow_mul-h c =
 pub slice_bounds-hashes-end : goal.slice_bounds-hashes-end
 slice_bounds-hashes-end c =
     let start = c in
-    let f = shape-facts start.args.s start.requires.0.0 in
+    let f = shape-facts start.args.s start.requires.s_value.0 in
     let w = c.hash_bytes-h in
     let m = mul-limit w.result start.args.s.tau 64 32 w.ensures.1 f.tau-max in
     omega arith
@@ -45,7 +45,7 @@ slice_bounds-hashes-end c =
 pub write_all-requires : goal.write_all-requires
 write_all-requires c =
     let start = c in
-    let p = start.requires.0 in
+    let p = start.requires.s_value in
     let tau = start.args.s.tau in
     let w = c.commitment_bytes-w in
     let h = c.hash_bytes-h in

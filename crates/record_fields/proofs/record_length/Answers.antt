@@ -6,8 +6,6 @@ use Rattle.record.specs.Record.{head_bytes, corrections_place, opening_place, co
 use Rattle.record.proofs.Bounds.{record-small}
 use Rattle.record_fields.proofs.record_length.Goals as goal
 
-pub record-length-spec : {M : Type 1} → statement M
-
 pub returns : goal.returns
 unfolding record_bytes record_end commitment_place opening_place corrections_place
 returns c =

@@ -10,8 +10,6 @@ use Rattle.record.specs.Record.{record_bytes}
 use Rattle.record.specs.RecordCalls.{length_number}
 use Rattle.record_writer.proofs.record_length.Goals as goal
 
-pub record-length-spec : {M : Type 1} → statement M
-
 pub returns-then-not-is_shape : goal.returns-then-not-is_shape
 unfolding length_number
 returns-then-not-is_shape c =

@@ -19,15 +19,15 @@ use Rattle.signer_commit.proofs.Answers.{commit-writes}
 use Rattle.signer_commit.proofs.write_all.Goals as goal
 
 pub grow-requires : goal.grow-requires
-grow-requires c = (let start = c in (c.table-t.ensures, (start.requires.0.0, start.requires.0.2, start.requires.1.1)))
+grow-requires c = (let start = c in (c.table-t.ensures, (start.requires.s_value.0, start.requires.s_value.2, start.requires.commitment_len.1)))
 
 pub write_vectors-requires : goal.write_vectors-requires
 unfolding nodes_bytes
 write_vectors-requires c =
     let start = c in
     let g = start.args in
-    let p = start.requires.0 in
-    let q = start.requires.1 in
+    let p = start.requires.s_value in
+    let q = start.requires.commitment_len in
     let keys = keys-same g.s _ _ _ c.load_iv-x.ensures c.hash_keys.ensures in
     let lent-tree = c.grow.auto.tree ∙ q.1 in
     ((record { job = record { shape = p.0; kind = two_fits g.s; row = p.1 }; table = c.table-t.ensures; tree = lent-tree }, keys, q.2, p.5), (q.3, q.4, q.5))
@@ -45,6 +45,6 @@ returns c =
     let hashes = c.write_vectors.new.hashes in
     let hash =
     c.h1.ensures ∙ ap (λ (r : ℕ). hash1 r hashes (length g.commitment.now)) c.rate_bytes-r.ensures.0
-    ∙ ap₂ (λ (m : List ℕ) (n : ℕ). hash1 (rate g.s) m n) made.1.1.1.1 start.requires.1.0 in
-    commit-writes g.s g.z g.root.now x.result _ _ _ _ _ _ c.grow.ensures hash made.0 made.1.0 made.1.1.0 made.1.1.1.0
+    ∙ ap₂ (λ (m : List ℕ) (n : ℕ). hash1 (rate g.s) m n) made.hashes_after start.requires.commitment_len.0 in
+    commit-writes g.s g.z g.root.now x.result _ _ _ _ _ _ c.grow.ensures hash made.lcs_after made.u_after made.v_after made.corrections_after
     ∙ ap (committed faest g.s g.z g.root.now) x.ensures

@@ -29,7 +29,7 @@ module _ (c : goal.After-first-node) where
   at =
       let start = c.before.before.before.before.before.before.before in
       let l = c.before.before.before.loop in
-      placed start.args.s l.i _ _ _ _ _ start.requires.1.0 (omega arith) c.before.before.before.before.node-bytes.ensures.0 c.before.entry-count.ensures.0 c.first-node.ensures.0 l.invariant.1 start.requires.1.1
+      placed start.args.s l.i _ _ _ _ _ start.requires.s_value.0 (omega arith) c.before.before.before.before.node-bytes.ensures.0 c.before.entry-count.ensures.0 c.first-node.ensures.0 l.invariant.1 start.requires.s_value.1
 
 -- what `grow_tree` writes is the tree of vector i
 grown : (s : Shape) (roots iv : List ℕ) (i n e m : ℕ) (y : List ℕ) → n ≡ node_bytes s → e ≡ entries_of s i → m ≡ n → y ≡ expand_tree n (part roots (n * i) m) (children faest1 s iv) (e - 1) → y ≡ tree s roots iv i
@@ -43,8 +43,8 @@ unfolding concat
 loop-i-init c =
     let start = c in
     let s = start.args.s in
-    let none : node_bytes s * first_node s 0 ≡ 0 = ap (λ (m : ℕ). node_bytes s * m) (node-none s (shape-facts s start.requires.1.0)) ∙ mul-zero (node_bytes s) in
-    (omega arith, start.requires.1.2, ap (λ (m : ℕ). take m start.args.trees.now) none)
+    let none : node_bytes s * first_node s 0 ≡ 0 = ap (λ (m : ℕ). node_bytes s * m) (node-none s (shape-facts s start.requires.s_value.0)) ∙ mul-zero (node_bytes s) in
+    (omega arith, start.requires.s_value.2, ap (λ (m : ℕ). take m start.args.trees.now) none)
 
 pub overflow_mul-from : goal.overflow_mul-from
 overflow_mul-from c = let p = at c in omega arith
@@ -82,10 +82,10 @@ grow_tree-requires c =
     let e = c.entry_count-inner.result in
     let f = c.first_node.result in
     let p = at c.before.before in
-    let w = widths g.s (shape-facts g.s start.requires.1.0) in
+    let w = widths g.s (shape-facts g.s start.requires.s_value.0) in
     let own = lent (n.result * l.i) (n.result * l.i + n.result) n.result g.roots.now refl p.root in
     let whole = lent (n.result * f) (n.result * f + n.result * (2 * (e - 1) + 1)) (n.result * (2 * (e - 1) + 1)) l.trees refl p.room in
-    (start.requires.0, (n.ensures.1, n.ensures.2, ap (λ (m : ℕ). m % 8) n.ensures.0 ∙ w.node-eight, own, whole, omega arith))
+    (start.requires.sbox_table, (n.ensures.1, n.ensures.2, ap (λ (m : ℕ). m % 8) n.ensures.0 ∙ w.node-eight, own, whole, omega arith))
 
 pub loop-i-preserved : goal.loop-i-preserved
 unfolding primitives_of
@@ -102,7 +102,7 @@ loop-i-preserved c =
     let from = n.result * f.result in
     let size = n.result * (2 * (e.result - 1) + 1) in
     let whole = lent from (from + size) size l.trees refl p.room in
-    let is = grown g.s g.roots.now g.iv l.i n.result e.result (n.result * l.i + n.result - n.result * l.i) y n.ensures.0 e.ensures.0 (omega arith) (made.ensures g.s start.requires.1.0 n.ensures.0) in (
+    let is = grown g.s g.roots.now g.iv l.i n.result e.result (n.result * l.i + n.result - n.result * l.i) y n.ensures.0 e.ensures.0 (omega arith) (made.ensures g.s start.requires.s_value.0 n.ensures.0) in (
       omega arith,
       c.trees-1.given.1 ∙ l.invariant.1,
       put-behind (tree g.s g.roots.now g.iv) from (node_bytes g.s * first_node g.s l.i) size _ l.i l.trees y _ (ap₂ ◌*◌ n.ensures.0 f.ensures.0) p.next p.room
@@ -117,5 +117,5 @@ returns c =
     let s = g.s in
     let l = c.loop-i in
     let last : l.i ≡ s.tau = omega arith in
-    let all : length l.trees ≡ node_bytes s * first_node s l.i = l.invariant.1 ∙ ap (λ (m : ℕ). node_bytes s * m) (sym (ap (first_node s) last ∙ node-all s (shape-facts s start.requires.1.0))) in
+    let all : length l.trees ≡ node_bytes s * first_node s l.i = l.invariant.1 ∙ ap (λ (m : ℕ). node_bytes s * m) (sym (ap (first_node s) last ∙ node-all s (shape-facts s start.requires.s_value.0))) in
     sym (take_all (node_bytes s * first_node s l.i) l.trees (omega arith)) ∙ l.invariant.2 ∙ ap (λ (m : ℕ). concat m (tree s g.roots.now g.iv)) last

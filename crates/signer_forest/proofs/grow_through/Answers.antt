@@ -21,19 +21,19 @@ pub fill-requires : goal.fill-requires
 fill-requires c =
     let start = c in
     let s = start.args.s in
-    let p = start.requires.1 in
+    let p = start.requires.s_value in
     let f = shape-facts s p.0 in
     let w = widths s f in
     let most = mul-limit (node_bytes s) s.tau 32 32 w.node-max f.tau-max in
     let long = p.1 in
     let size = p.3 in
-    (start.requires.0, (omega arith, omega arith, ap (λ (m : ℕ). m % 8) p.1 ∙ w.node-eight, omega arith))
+    (start.requires.sbox_table, (omega arith, omega arith, ap (λ (m : ℕ). m % 8) p.1 ∙ w.node-eight, omega arith))
 
 pub grow_each-requires : goal.grow_each-requires
 grow_each-requires c =
     let start = c in
     let p = start.requires in
-    (p.0, (p.1.0, c.fill.auto.out ∙ p.1.3, p.1.2))
+    (p.sbox_table, (p.s_value.0, c.fill.auto.out ∙ p.s_value.3, p.s_value.2))
 
 pub returns : goal.returns
 unfolding prg prg1 vector_root vector_tree signer_trees primitives_of
@@ -41,7 +41,7 @@ returns c =
     let start = c in
     let g = start.args in
     let s = g.s in
-    let p = start.requires.1 in
+    let p = start.requires.s_value in
     let key = g.root.now in
     let w = widths s (shape-facts s p.0) in
     let f : ℕ → ℕ = byte_of (key_words s) key (record { iv = g.iv; tweak = 0; version = One }) in

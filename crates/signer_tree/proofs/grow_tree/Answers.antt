@@ -24,7 +24,7 @@ pub copy-requires : goal.copy-requires
 copy-requires c =
     let start = c in
     let g = start.args in
-    let p = start.requires.1 in
+    let p = start.requires.le_n in
     let i = inside g.n g.inner 0 1 (length g.tree.now) p.4 (omega arith) in
     let one : g.n * 1 ≡ g.n = mul-one g.n in
     let r = p.3 in
@@ -35,7 +35,7 @@ unfolding expand_tree
 loop-a-init c =
     let start = c in
     let g = start.args in
-    let p = start.requires.1 in
+    let p = start.requires.le_n in
     let r = g.root.now in
     let x = g.tree.now in
     let copied = c.copy.ensures in
@@ -52,10 +52,10 @@ pub expand_node-requires : goal.expand_node-requires
 expand_node-requires c =
     let start = c in
     let g = start.args in
-    let p = start.requires.1 in
+    let p = start.requires.le_n in
     let l = c.loop-a in
     let i = inside g.n g.inner l.a 3 (length l.tree) l.invariant.1 (omega arith) in
-    (start.requires.0, (p.0, p.1, p.2, i, l.invariant.2))
+    (start.requires.sbox_table, (p.0, p.1, p.2, i, l.invariant.2))
 
 pub loop-a-preserved : goal.loop-a-preserved
 loop-a-preserved c =

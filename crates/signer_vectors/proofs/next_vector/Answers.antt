@@ -25,7 +25,7 @@ slice_bounds-convert-start c = lent-order _ _ _ (lcs-size c)
 pub slice_bounds-convert-end : goal.slice_bounds-convert-end
 slice_bounds-convert-end c =
     let start = c in
-    commitments-end start.args.g.shape start.requires.0.0.job.shape start.args.i _ _ start.requires.0.2 c.commitments_from-lcs_to.ensures start.requires.1.0
+    commitments-end start.args.g.shape start.requires.lent.0.job.shape start.args.i _ _ start.requires.lent.2 c.commitments_from-lcs_to.ensures start.requires.lcs_len.0
 
 pub slice_bounds-convert-count-2 : goal.slice_bounds-convert-count-2
 slice_bounds-convert-count-2 c = lent-order _ _ _ (v-size c)
@@ -36,7 +36,7 @@ slice_bounds-convert-start-2 c = lent-order _ _ _ (v-size c)
 pub slice_bounds-convert-end-2 : goal.slice_bounds-convert-end-2
 slice_bounds-convert-end-2 c =
     let start = c in
-    columns-end start.args.g.shape start.requires.0.0.job.shape start.args.g.stretch.width start.args.i _ _ start.requires.0.2 c.columns_from-v_to.ensures start.requires.1.1
+    columns-end start.args.g.shape start.requires.lent.0.job.shape start.args.g.stretch.width start.args.i _ _ start.requires.lent.2 c.columns_from-v_to.ensures start.requires.lcs_len.1
 
 pub overflow_mul-h : goal.overflow_mul-h
 overflow_mul-h c = start_fits _ _ _ (hashes-end c) c.well-formed.1.1.1.1.1.1.1.1.0.0
@@ -53,14 +53,14 @@ slice_bounds-convert-end-3 c =
     let g = start.args in
     let h = c.hash_bytes-h in
     let all : h.result * g.g.shape.tau ≡ hash_bytes g.g.shape * g.g.shape.tau = ap (λ (n : ℕ). n * g.g.shape.tau) h.ensures.0 in
-    block-end h.result g.i g.g.shape.tau (length g.hashes.now) start.requires.0.2 (let l = start.requires.1.2 in omega arith)
+    block-end h.result g.i g.g.shape.tau (length g.hashes.now) start.requires.lent.2 (let l = start.requires.lcs_len.2 in omega arith)
 
 pub convert-requires : goal.convert-requires
 convert-requires c =
     let start = c in
     let g = start.args in
     let h = c.hash_bytes-h in (
-      (start.requires.0.0, start.requires.0.1, start.requires.0.2, start.requires.0.3),
+      (start.requires.lent.0, start.requires.lent.1, start.requires.lent.2, start.requires.lent.3),
       (
         lent _ _ _ g.lcs.now (lcs-size c.before.before.before) (lcs-end c.before.before.before),
         lent _ _ _ g.v.now (v-size c.before.before) (v-end c.before.before),
@@ -75,16 +75,16 @@ returns c =
     let s = g.g.shape in
     let i = g.i in
     let b = g.g.stretch.width in
-    let ok = start.requires.0.0.job.shape in
-    let below = start.requires.0.2 in
-    let p = start.requires.1 in
+    let ok = start.requires.lent.0.job.shape in
+    let below = start.requires.lent.2 in
+    let p = start.requires.lcs_len in
     let h = c.hash_bytes-h in
     let made = c.convert in
     let kept = made.auto.1.1.1.1.1.1 in
     let last = made.new.1.1.1.1.1.1 in (
-      made.ensures.0,
+      made.ensures.total_after,
       before_more s b _ _ i _ _ _ g.lcs.now g.v.now g.hashes.now last.0 last.1.0 last.1.1.0 _ _ _ c.commitments_from-lcs_from.ensures c.columns_from-v_from.ensures h.ensures.0
           (commitments-end s ok i _ _ below refl p.0) (columns-end s ok b i _ _ below refl p.1) (hashes-end c.before.before.before.before.before.before.before.before.before.before)
           (kept.0 ∙ lent _ _ _ g.lcs.now (lcs-size c.before.before.before.before.before.before.before.before.before.before.before.before) (lcs-end c.before.before.before.before.before.before.before.before.before.before.before.before)) (kept.1.0 ∙ lent _ _ _ g.v.now (v-size c.before.before.before.before.before.before.before.before.before.before.before) (v-end c.before.before.before.before.before.before.before.before.before.before.before))
-          (kept.1.1.0 ∙ lent (h.result * i) _ h.result g.hashes.now refl (hashes-end c.before.before.before.before.before.before.before.before.before.before)) made.ensures.1,
+          (kept.1.1.0 ∙ lent (h.result * i) _ h.result g.hashes.now refl (hashes-end c.before.before.before.before.before.before.before.before.before.before)) made.ensures.converted,
     )

@@ -29,20 +29,20 @@ correction-end c =
 correction-small : (c : goal.In-loop-j) → c.args.g.stretch.width * c.loop-j.j + c.args.g.stretch.width ≤ 8192 * 32 + 8192
 correction-small c =
     let start = c in
-    let f = shape-facts start.args.g.shape start.requires.0.0.job.shape in
-    let w = width_small start.args.g.stretch start.requires.0.0.job.row in
+    let f = shape-facts start.args.g.shape start.requires.lent.0.job.shape in
+    let w = width_small start.args.g.stretch start.requires.lent.0.job.row in
     let j : c.loop-j.j ≤ 32 = (let t = c.loop-j-test.true in let m = f.tau-max in omega arith) in
     let m = mul-limit start.args.g.stretch.width c.loop-j.j 8192 32 w j in
     omega arith
 
 pub overflow_sub-others : goal.overflow_sub-others
-overflow_sub-others c = (let start = c in let f = shape-facts start.args.g.shape start.requires.0.0.job.shape in omega arith)
+overflow_sub-others c = (let start = c in let f = shape-facts start.args.g.shape start.requires.lent.0.job.shape in omega arith)
 
 pub next_vector-requires : goal.next_vector-requires
 next_vector-requires c =
     let p = c.requires in
-    let f = shape-facts c.args.g.shape p.0.0.job.shape in
-    ((p.0.0, p.0.1, f.tau-pos, c.clear_from.auto.out ∙ p.1.0), (p.0.2, p.1.1, p.0.3))
+    let f = shape-facts c.args.g.shape p.lent.0.job.shape in
+    ((p.lent.0, p.lent.1, f.tau-pos, c.clear_from.auto.out ∙ p.u_len.0), (p.lent.2, p.u_len.1, p.lent.3))
 
 pub loop-j-init : goal.loop-j-init
 unfolding concat
@@ -53,13 +53,13 @@ loop-j-init c =
     let first = c.next_vector in
     let kept = first.auto.1.1.1.1.1.1 in (
       omega arith,
-      kept.0 ∙ p.0.2,
-      kept.1.0 ∙ p.1.1,
-      p.1.2,
-      kept.1.1.0 ∙ p.0.3,
-      u-of g.shape g.stretch.width (entry_byte g start.args.tree.now) _ _ _ c.clear_from.ensures first.ensures.0,
+      kept.0 ∙ p.lent.2,
+      kept.1.0 ∙ p.u_len.1,
+      p.u_len.2,
+      kept.1.1.0 ∙ p.lent.3,
+      u-of g.shape g.stretch.width (entry_byte g start.args.tree.now) _ _ _ c.clear_from.ensures first.ensures.total_after,
       ap (λ (m : ℕ). take m start.args.corrections.now) (mul-zero g.stretch.width),
-      first.ensures.1 (before-none _ _ _ _ _ _ _),
+      first.ensures.before (before-none _ _ _ _ _ _ _),
     )
 
 pub overflow_mul-at : goal.overflow_mul-at
@@ -86,10 +86,10 @@ next_vector-requires-in-loop-j c =
     let l = c.loop-j in
     let b = start.args.g.stretch.width in
     let below : l.j + 1 < start.args.g.shape.tau = (let t = c.loop-j-test.true in omega arith) in
-    ((p.0.0, p.0.1, below, lent (b * l.j) (b * l.j + b) b _ refl (part_end c.before.before.before.before)), (l.invariant.1, l.invariant.2, l.invariant.4))
+    ((p.lent.0, p.lent.1, below, lent (b * l.j) (b * l.j + b) b _ refl (part_end c.before.before.before.before)), (l.invariant.1, l.invariant.2, l.invariant.4))
 
 pub overflow_step-j : goal.overflow_step-j
-overflow_step-j c = let t = c.loop-j-test.true in let f = (shape-facts c.args.g.shape c.requires.0.0.job.shape).tau-max in omega arith
+overflow_step-j c = let t = c.loop-j-test.true in let f = (shape-facts c.args.g.shape c.requires.lent.0.job.shape).tau-max in omega arith
 
 pub loop-j-smaller : goal.loop-j-smaller
 loop-j-smaller c = let t = c.loop-j-test.true in omega arith
@@ -109,35 +109,35 @@ loop-j-preserved c =
       c.corrections-in-loop-j-1.given.1 ∙ copy.auto.dst ∙ l.invariant.3,
       kept.1.1.0 ∙ l.invariant.4,
       l.invariant.5,
-      correction-more g.shape g.stretch.width (entry_byte g start.args.tree.now) l.j _ l.corrections copy.new.dst _ _ l.invariant.5 (correction-end c.before.before.before.before.before.before.before.before.before.before.before.before.before.before.before.before.before.before) (u-length _ _ _ _ l.invariant.5) copy.ensures made.ensures.0 l.invariant.6,
-      made.ensures.1 l.invariant.7,
+      correction-more g.shape g.stretch.width (entry_byte g start.args.tree.now) l.j _ l.corrections copy.new.dst _ _ l.invariant.5 (correction-end c.before.before.before.before.before.before.before.before.before.before.before.before.before.before.before.before.before.before) (u-length _ _ _ _ l.invariant.5) copy.ensures made.ensures.total_after l.invariant.6,
+      made.ensures.before l.invariant.7,
     )
 
 pub columns_from-used-requires : goal.columns_from-used-requires
-columns_from-used-requires c = (let job = c.requires.0.0.job in (job.shape, le_refl _, width_small _ job.row))
+columns_from-used-requires c = (let job = c.requires.lent.0.job in (job.shape, le_refl _, width_small _ job.row))
 
 pub clear_from-requires-2 : goal.clear_from-requires-2
 clear_from-requires-2 c =
     let start = c in
-    let k = all-columns start.args.g.shape start.requires.0.0.job.shape start.args.g.stretch.width in
+    let k = all-columns start.args.g.shape start.requires.lent.0.job.shape start.args.g.stretch.width in
     let used = c.columns_from-used.ensures in
     let long = c.loop-j.invariant.2 in
     omega arith
 
 pub shape_of-lcs : goal.shape_of-lcs
-shape_of-lcs c = c.loop-j.invariant.1 ∙ sym c.requires.0.2
+shape_of-lcs c = c.loop-j.invariant.1 ∙ sym c.requires.lent.2
 
 pub shape_of-u : goal.shape_of-u
 shape_of-u c = c.next_vector.auto.total ∙ c.clear_from.auto.out
 
 pub shape_of-v : goal.shape_of-v
-shape_of-v c = c.clear_from-2.auto.out ∙ c.loop-j.invariant.2 ∙ sym c.requires.1.1
+shape_of-v c = c.clear_from-2.auto.out ∙ c.loop-j.invariant.2 ∙ sym c.requires.u_len.1
 
 pub shape_of-corrections : goal.shape_of-corrections
-shape_of-corrections c = c.loop-j.invariant.3 ∙ sym c.requires.1.2
+shape_of-corrections c = c.loop-j.invariant.3 ∙ sym c.requires.u_len.2
 
 pub shape_of-hashes : goal.shape_of-hashes
-shape_of-hashes c = c.loop-j.invariant.4 ∙ sym c.requires.0.3
+shape_of-hashes c = c.loop-j.invariant.4 ∙ sym c.requires.lent.3
 
 pub returns : goal.returns
 unfolding corrections_bytes corrections
@@ -149,11 +149,11 @@ returns c =
     let row = entry_byte g start.args.tree.now in
     let l = c.loop-j in
     let out = c.loop-j-test.false in
-    let f = shape-facts s start.requires.0.0.job.shape in
+    let f = shape-facts s start.requires.lent.0.job.shape in
     let rest : l.j ≡ s.tau - 1 = (let i = l.invariant.0 in omega arith) in
     let all : l.j + 1 ≡ s.tau = omega arith in
     let lc = entry_commitment g start.args.tree.now in
-    let whole = before-all s b lc (signer_column s b row) start.requires.0.0.job.shape _ l.lcs l.v _ l.hashes l.invariant.1 l.invariant.2 l.invariant.4 c.columns_from-used.ensures c.clear_from-2.ensures
+    let whole = before-all s b lc (signer_column s b row) start.requires.lent.0.job.shape _ l.lcs l.v _ l.hashes l.invariant.1 l.invariant.2 l.invariant.4 c.columns_from-used.ensures c.clear_from-2.ensures
     (subst (λ (n : ℕ). Before s b lc (signer_column s b row) n l.lcs l.v l.hashes) all l.invariant.7) in (
       whole.0,
       (l.invariant.5, (whole.1, (put_all (λ i. correction s b row (i + 1)) (b * (s.tau - 1)) (s.tau - 1) l.corrections l.invariant.3 (subst (λ (n : ℕ). take (b * n) l.corrections ≡ concat n (λ i. correction s b row (i + 1))) rest l.invariant.6), whole.2))),

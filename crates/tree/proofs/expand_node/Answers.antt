@@ -39,7 +39,7 @@ module _ (c : goal.After-slice-known) where
   At = Places c.before.args.n c.before.args.a (length c.before.args.tree.now)
 
   at : At
-  at = (let p = c.before.requires.1 in places c.before.args.n c.before.args.a _ p.0 p.3 p.4)
+  at = (let p = c.before.requires.le_n in places c.before.args.n c.before.args.a _ p.0 p.3 p.4)
 
 -- the key has a node's length
 key-size : (c : goal.After-tree-1) → length (part c.args.tree.now (c.args.n * c.args.a) (c.args.n * c.args.a + c.args.n - c.args.n * c.args.a)) ≡ c.args.n
@@ -63,16 +63,16 @@ pub overflow_add-from : goal.overflow_add-from
 overflow_add-from c = (let p = at c in omega arith)
 
 pub overflow_mul-from-2 : goal.overflow_mul-from-2
-overflow_mul-from-2 c = (let p = at c in omega (arith, c.requires.1.4))
+overflow_mul-from-2 c = (let p = at c in omega (arith, c.requires.le_n.4))
 
 pub overflow_mul-n : goal.overflow_mul-n
-overflow_mul-n c = (let p = at c in omega (arith, c.requires.1.4))
+overflow_mul-n c = (let p = at c in omega (arith, c.requires.le_n.4))
 
 pub overflow_mul-n-2 : goal.overflow_mul-n-2
-overflow_mul-n-2 c = (let p = at c in omega (arith, c.requires.1.4))
+overflow_mul-n-2 c = (let p = at c in omega (arith, c.requires.le_n.4))
 
 pub overflow_add-n : goal.overflow_add-n
-overflow_add-n c = (let p = at c in omega (arith, c.requires.1.4))
+overflow_add-n c = (let p = at c in omega (arith, c.requires.le_n.4))
 
 pub slice_bounds-key_schedule-count : goal.slice_bounds-key_schedule-count
 slice_bounds-key_schedule-count c = le-add_right _ _
@@ -86,15 +86,15 @@ slice_bounds-key_schedule-end c = (let p = at c.before in omega arith)
 pub key_schedule-keys-requires : goal.key_schedule-keys-requires
 key_schedule-keys-requires c =
     let start = c in
-    let p = start.requires.1 in
+    let p = start.requires.le_n in
     let e = key-size c.before in
-    (start.requires.0, (omega (arith, p.0), omega (arith, p.1), ap (λ (m : ℕ). m % 8) e ∙ p.2))
+    (start.requires.sbox_table, (omega (arith, p.0), omega (arith, p.1), ap (λ (m : ℕ). m % 8) e ∙ p.2))
 
 pub overflow_cast-x : goal.overflow_cast-x
 overflow_cast-x c = (let p = at c.before.before.before in omega arith)
 
 pub overflow_add-from-2 : goal.overflow_add-from-2
-overflow_add-from-2 c = (let p = at c.before.before.before.before in omega (arith, c.requires.1.4))
+overflow_add-from-2 c = (let p = at c.before.before.before.before in omega (arith, c.requires.le_n.4))
 
 pub slice_bounds-fill_keyed-count : goal.slice_bounds-fill_keyed-count
 slice_bounds-fill_keyed-count c = le-add_right _ _
@@ -108,10 +108,10 @@ slice_bounds-fill_keyed-end c = (let p = at c.before.before.before.before in ome
 pub fill_keyed-requires : goal.fill_keyed-requires
 fill_keyed-requires c =
     let start = c in
-    let p = start.requires.1 in
+    let p = start.requires.le_n in
     let e = two_size c.before in
     let n = start.args.n in
-    (start.requires.0, (omega (arith, p.0), omega (arith, p.1), omega (arith, p.2), omega (arith, p.1)))
+    (start.requires.sbox_table, (omega (arith, p.0), omega (arith, p.1), omega (arith, p.2), omega (arith, p.1)))
 
 pub returns : goal.returns
 unfolding prg children

@@ -20,12 +20,12 @@ module _ (c : goal.After-first-node2) where
   tree : Tree
   tree =
       let start = c.before.before.before.before.before.before.before.before.before in
-      tree-part start.args.s start.requires.0.0 start.args.i start.requires.0.3 _ _ _ _ _ c.before.before.before.before.node-bytes.ensures.0 c.before.before.before.depth-of.ensures.0 c.before.first-node.ensures.0 c.first-node2.ensures.0 start.requires.1.0
+      tree-part start.args.s start.requires.s_value.0 start.args.i start.requires.s_value.3 _ _ _ _ _ c.before.before.before.before.node-bytes.ensures.0 c.before.before.before.depth-of.ensures.0 c.before.first-node.ensures.0 c.first-node2.ensures.0 start.requires.trees_len.0
 
 leaf : (c : goal.After-entry-of) → 2 * c.before.before.before.before.before.node-bytes.result * c.entry_of.result + 2 * c.before.before.before.before.before.node-bytes.result ≤ length c.before.before.before.before.before.before.before.before.before.before.args.lcs.now
 leaf c =
     let start = c.before.before.before.before.before.before.before.before.before.before in
-    leaf-part start.args.s _ _ _ c.before.before.before.before.before.node-bytes.ensures.0 c.entry_of.ensures.1 start.requires.1.1
+    leaf-part start.args.s _ _ _ c.before.before.before.before.before.node-bytes.ensures.0 c.entry_of.ensures.1 start.requires.trees_len.1
 
 module _ (c : goal.After-decommitment-from2) where
   abbrev Place : Type 0
@@ -36,7 +36,7 @@ module _ (c : goal.After-decommitment-from2) where
   place : Place
   place =
       let start = c.before.before.before.before.before.before.before.before.before.before.before.before in
-      opening-part start.args.s start.requires.0.0 start.args.i start.requires.0.3 _ _ _ _ _ start.requires.0.1 c.before.before.before.before.before.before.before.node-bytes.ensures.0 c.before.before.before.before.before.before.depth-of.ensures.0 c.before.decommitment-from.ensures.0 c.decommitment-from2.ensures.0 start.requires.1.2
+      opening-part start.args.s start.requires.s_value.0 start.args.i start.requires.s_value.3 _ _ _ _ _ start.requires.s_value.1 c.before.before.before.before.before.before.before.node-bytes.ensures.0 c.before.before.before.before.before.before.depth-of.ensures.0 c.before.decommitment-from.ensures.0 c.decommitment-from2.ensures.0 start.requires.trees_len.2
 
 pub overflow_mul-from : goal.overflow_mul-from
 overflow_mul-from c =
@@ -104,6 +104,6 @@ returns c = λ front.
     let made = c.write_decommitment in
     let y = made.new.out in
     let size = n.result * d.result + 2 * n.result in
-    let is = made.ensures ∙ is-decommitment g.s start.requires.0.0 g.i start.requires.0.3 g.ch.now g.trees.now g.lcs.now start.requires.1.0 n.result d.result j.result a.result b.result e.result n.ensures.0 d.ensures.0 j.ensures.0 a.ensures.0 b.ensures.0 e.ensures.0 in
+    let is = made.ensures ∙ is-decommitment g.s start.requires.s_value.0 g.i start.requires.s_value.3 g.ch.now g.trees.now g.lcs.now start.requires.trees_len.0 n.result d.result j.result a.result b.result e.result n.ensures.0 d.ensures.0 j.ensures.0 a.ensures.0 b.ensures.0 e.ensures.0 in
     put-behind (decommitment g.s g.ch.now g.trees.now g.lcs.now) at.result _ size _ g.i g.opening.now y _ at.ensures.0 (p.0 ∙ end.ensures.0) (let q = p.1 in let r = p.0 in omega arith)
     (made.auto.out ∙ lent _ _ _ g.opening.now (sym p.0) p.1) is front

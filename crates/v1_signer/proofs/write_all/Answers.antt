@@ -14,17 +14,17 @@ use Rattle.v1_signer.proofs.Written.{lent-lengths, commit-writes}
 use Rattle.v1_signer.proofs.write_all.Goals as goal
 
 pub rate_bytes-r-requires : goal.rate_bytes-r-requires
-rate_bytes-r-requires c = (shape-parts _ c.requires.0.0).0
+rate_bytes-r-requires c = (shape-parts _ c.requires.s_value.0).0
 
 pub grow_trees-requires : goal.grow_trees-requires
-grow_trees-requires c = (let start = c in (c.table-t.ensures, ((shape-parts _ start.requires.0.0).0, start.requires.0.2, start.requires.1.1)))
+grow_trees-requires c = (let start = c in (c.table-t.ensures, ((shape-parts _ start.requires.s_value.0).0, start.requires.s_value.2, start.requires.commitment_len.1)))
 
 pub write_vectors-requires : goal.write_vectors-requires
 write_vectors-requires c =
     let start = c in
     let g = start.args in
-    let p = start.requires.0 in
-    let q = start.requires.1 in
+    let p = start.requires.s_value in
+    let q = start.requires.commitment_len in
     let job = c.job_of-g in
     let x = c.load_iv-x.result in
     let box = c.table-t.ensures in
@@ -45,6 +45,6 @@ returns c =
     let made = vectors.ensures in
     let hash =
     c.h1.ensures ∙ ap (λ (r : ℕ). hash1 r vectors.new.hashes (length g.commitment.now)) c.rate_bytes-r.ensures.0
-    ∙ ap₂ (λ (m : List ℕ) (n : ℕ). hash1 (rate g.s) m n) made.1.1.1.1 start.requires.1.0 in
+    ∙ ap₂ (λ (m : List ℕ) (n : ℕ). hash1 (rate g.s) m n) made.1.1.1.1 start.requires.commitment_len.0 in
     commit-writes g.s g.b x.result job.result job.ensures g.root.now _ _ _ _ _ _ c.grow_trees.ensures hash made.0 made.1.0 made.1.1.0 made.1.1.1.0
     ∙ ap (committed1 faest1 g.s g.b g.root.now) x.ensures

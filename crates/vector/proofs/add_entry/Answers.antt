@@ -13,7 +13,7 @@ pub add_leaf-requires : goal.add_leaf-requires
 add_leaf-requires c =
     let start = c in
     let n = c.node_bytes-n in
-    (start.requires.0, (lent 0 n.result n.result (replicate 32 0) (omega arith) (seed-end c.before.before.before) ∙ n.ensures.0, start.requires.1.0, start.requires.1.1))
+    (start.requires.lent, (lent 0 n.result n.result (replicate 32 0) (omega arith) (seed-end c.before.before.before) ∙ n.ensures.0, start.requires.commitment_len.0, start.requires.commitment_len.1))
 
 pub returns : goal.returns
 returns c = c.add_leaf.ensures

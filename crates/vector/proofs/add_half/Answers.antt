@@ -22,12 +22,12 @@ small c =
     let start = c.before.before.before.before.before in
     let s = start.args.g.shape in
     let i = start.args.run.vector in
-    let ok = start.requires.0.0.job.shape in
+    let ok = start.requires.lent.0.job.shape in
     let low = height-small s i c.depth-of.result ok c.depth-of.ensures.0 in
-    (deep s i c.depth-of.result ok c.depth-of.ensures.0, low, mul-le-mul (width_small start.args.g.stretch start.requires.0.0.job.row) low)
+    (deep s i c.depth-of.result ok c.depth-of.ensures.0, low, mul-le-mul (width_small start.args.g.stretch start.requires.lent.0.job.row) low)
 
 marked : (c : goal.After-depth-of) → Marked c.before.before.before.before.before.args.g.stretch.width (c.depth-of.result - 1) c.before.before.before.before.before.args.run.from (numbered c.before.before.before.before.before.args.g c.before.before.before.before.before.args.tree.now c.before.before.before.before.before.args.run) c.before.before.before.before.before.args.cols.now
-marked c = (let start = c.before.before.before.before.before in let g = start.args in subst (λ (d : ℕ). Marked g.g.stretch.width (d - 1) g.run.from (numbered g.g g.tree.now g.run) g.cols.now) (sym c.depth-of.ensures.0) start.requires.1.1)
+marked c = (let start = c.before.before.before.before.before in let g = start.args in subst (λ (d : ℕ). Marked g.g.stretch.width (d - 1) g.run.from (numbered g.g g.tree.now g.run) g.cols.now) (sym c.depth-of.ensures.0) start.requires.commitments_len.1)
 
 behind : (c : goal.After-depth-of) → c.before.before.before.before.before.args.g.stretch.width * (c.depth-of.result - 1) + c.before.before.before.before.before.args.g.stretch.width ≤ length c.before.before.before.before.before.args.cols.now
 behind c = last_end _ _ _ (marked c).size
@@ -38,11 +38,11 @@ entry : (c : goal.After-struct-known) → (bit_xor c.before.before.loop.x c.befo
 entry c =
     let start = c.before.before.before.before.before.before.before.before.before.before.before.before in
     let g = start.args in
-    let inside = start.requires.0.2 in
+    let inside = start.requires.lent.2 in
     let w = c.before.before.before.before.before.before.before.before.commitment-bytes in
     let x = c.before.before.loop.x in
     let below : x < entries_of g.g.shape g.run.vector = (let t = c.before.loop-test.true in let a = inside.all in omega arith) in
-    let e = entry-end g.g.shape w.result g.run.vector x g.run.mask start.requires.0.0.job.shape w.ensures.1 below inside.mask in
+    let e = entry-end g.g.shape w.result g.run.vector x g.run.mask start.requires.lent.0.job.shape w.ensures.1 below inside.mask in
     (entry_in g.g.shape g.run.vector x g.run.mask below inside.mask, e.0, e.1)
 
 pub overflow_sub-h : goal.overflow_sub-h
@@ -63,7 +63,7 @@ loop-x-init c =
     let at = g.g.stretch.width * (d.depth_of-h.result - 1) in
     let room : at ≤ length g.cols.now = (let e = behind d in omega arith) in (
       omega arith,
-      start.requires.0.2.order,
+      start.requires.lent.2.order,
       written_none _ (entry_commitment g.g g.tree.now g.run.vector) g.run.mask g.run.from g.commitments.now,
       running-start g.g.stretch.width (d.depth_of-h.result - 1) (numbered g.g g.tree.now g.run) g.run.from g.cols.now clear.new.out (marked d) clear.auto.out
           (cleared-before at _ g.cols.now clear.new.out room clear.ensures) (cleared-behind at _ g.cols.now clear.new.out room clear.ensures),
@@ -83,12 +83,12 @@ slice_bounds-add_entry-end c =
     let start = c in
     let w = c.commitment_bytes-w in
     let n = entries_of start.args.g.shape start.args.run.vector in
-    let long : length c.loop-x.commitments ≡ w.result * n = c.loop-x.invariant.2.size ∙ start.requires.1.0 ∙ ap (λ (w : ℕ). w * n) (sym w.ensures.0) in
+    let long : length c.loop-x.commitments ≡ w.result * n = c.loop-x.invariant.2.size ∙ start.requires.commitments_len.0 ∙ ap (λ (w : ℕ). w * n) (sym w.ensures.0) in
     let e = entry c in
     omega arith
 
 pub overflow_add-last : goal.overflow_add-last
-overflow_add-last c = (let m = small c.before.before.before.before.before.before.before.before in let b = width_small c.args.g.stretch c.requires.0.0.job.row in omega arith)
+overflow_add-last c = (let m = small c.before.before.before.before.before.before.before.before in let b = width_small c.args.g.stretch c.requires.lent.0.job.row in omega arith)
 
 pub slice_bounds-add_entry-end-in-loop-x : goal.slice_bounds-add_entry-end-in-loop-x
 slice_bounds-add_entry-end-in-loop-x c = last_end _ _ _ c.loop-x.invariant.3.size
@@ -101,7 +101,7 @@ add_entry-requires c =
     let l = c.loop-x in
     let at = w.result * bit_xor l.x g.run.mask in
     let last = g.g.stretch.width * (c.depth_of-h.result - 1) in (
-      (start.requires.0.0, start.requires.0.1, start.requires.0.2.vector, (entry c.before.before).0),
+      (start.requires.lent.0, start.requires.lent.1, start.requires.lent.2.vector, (entry c.before.before).0),
       (
         lent at (at + w.result) w.result l.commitments refl (part-add-entry-end c.before.before) ∙ w.ensures.0,
         lent last (last + g.g.stretch.width) g.g.stretch.width l.cols refl (part-add-entry-end-2 c.before),
@@ -113,7 +113,7 @@ add_last-requires c =
     let g = c.args in
     let l = c.loop-x in
     let last = g.g.stretch.width * (c.depth_of-h.result - 1) in
-    ((small c.before.before.before.before.before.before.before.before.before.before.before.before.before.before.before).1, (xored-lent last g.g.stretch.width _ l.cols _ (part-add-entry-end-2 c.before.before.before.before.before.before.before) c.add_entry.ensures.1).size ∙ l.invariant.3.size)
+    ((small c.before.before.before.before.before.before.before.before.before.before.before.before.before.before.before).1, (xored-lent last g.g.stretch.width _ l.cols _ (part-add-entry-end-2 c.before.before.before.before.before.before.before) c.add_entry.ensures.xored).size ∙ l.invariant.3.size)
 
 pub loop-x-preserved : goal.loop-x-preserved
 loop-x-preserved c =
@@ -130,9 +130,9 @@ loop-x-preserved c =
       omega arith,
       omega arith,
       written-more w.result (entry_commitment g.g x g.run.vector) g.run.mask g.run.from l.x g.commitments.now l.commitments _ room
-          (ap length made.ensures.0 ∙ entry_length g.g x g.run.vector _ start.requires.0.0.job.kind ∙ sym w.ensures.0) from made.ensures.0 l.invariant.2,
+          (ap length made.ensures.commitment_after ∙ entry_length g.g x g.run.vector _ start.requires.lent.0.job.kind ∙ sym w.ensures.0) from made.ensures.commitment_after l.invariant.2,
       running-next g.g.stretch.width h (numbered g.g x g.run) g.run.from l.x l.cols _ _ l.invariant.3
-          (xored-lent (g.g.stretch.width * h) g.g.stretch.width _ l.cols _ (part-add-entry-end-2 c.before.before.before.before.before.before.before.before.before.before) made.ensures.1) c.add_last.ensures,
+          (xored-lent (g.g.stretch.width * h) g.g.stretch.width _ l.cols _ (part-add-entry-end-2 c.before.before.before.before.before.before.before.before.before.before) made.ensures.xored) c.add_last.ensures,
     )
 
 pub shape_of-commitments : goal.shape_of-commitments

@@ -19,7 +19,7 @@ use Rattle.vector.proofs.add_leaf.Goals as goal
 
 -- the seed has a node's length
 seed-size : (c : goal.After-slice-known5) → length c.before.before.before.before.commit-leaf.new.1.1.1.1.1.0 ≡ node_bytes c.before.before.before.before.before.before.before.before.before.before.before.before.before.before.before.before.before.before.args.g.shape
-seed-size c = c.before.before.before.before.commit-leaf.auto.1.1.1.1.1.0 ∙ c.before.before.before.before.before.before.before.before.before.before.before.before.before.before.before.before.before.before.requires.1.0
+seed-size c = c.before.before.before.before.commit-leaf.auto.1.1.1.1.1.0 ∙ c.before.before.before.before.before.before.before.before.before.before.before.before.before.before.before.before.before.before.requires.seed_len.0
 
 pub overflow_mul-a : goal.overflow_mul-a
 overflow_mul-a c =
@@ -30,13 +30,13 @@ overflow_mul-a c =
 pub leaf_tweak-tweak-requires : goal.leaf_tweak-tweak-requires
 leaf_tweak-tweak-requires c =
     let start = c in
-    let f = shape-facts start.args.g.shape start.requires.0.0.job.shape in
+    let f = shape-facts start.args.g.shape start.requires.lent.0.job.shape in
     (omega arith, omega arith)
 
 pub overflow_add-row : goal.overflow_add-row
 overflow_add-row c =
     let start = c in
-    let f = shape-facts start.args.g.shape start.requires.0.0.job.shape in
+    let f = shape-facts start.args.g.shape start.requires.lent.0.job.shape in
     omega arith
 
 pub overflow_add-a : goal.overflow_add-a
@@ -52,23 +52,23 @@ slice_bounds-commit_leaf-end c =
     let n = c.node_bytes-n in
     let l = c.leaf_node in
     let all : n.result * l.result ≡ node_bytes start.args.g.shape * l.result = ap (λ (w : ℕ). w * l.result) n.ensures.0 in
-    omega (arith, start.requires.0.0.tree, l.ensures.1, n.ensures.0)
+    omega (arith, start.requires.lent.0.tree, l.ensures.1, n.ensures.0)
 
 pub commit_leaf-requires : goal.commit_leaf-requires
 commit_leaf-requires c =
     let start = c in
     let n = c.node_bytes-n in
     let a = n.result * c.leaf_node.result in
-    let lent-tree = start.requires.0.0 in
-    (lent-tree.table, (lent-tree.job.shape, lent-tree.job.kind, lent a (a + n.result) n.result start.args.tree.now refl (leaf-end c.before.before.before) ∙ n.ensures.0, start.requires.1.0, start.requires.1.1))
+    let lent-tree = start.requires.lent.0 in
+    (lent-tree.table, (lent-tree.job.shape, lent-tree.job.kind, lent a (a + n.result) n.result start.args.tree.now refl (leaf-end c.before.before.before) ∙ n.ensures.0, start.requires.seed_len.0, start.requires.seed_len.1))
 
 pub add_row-requires : goal.add_row-requires
 add_row-requires c =
     let start = c in
-    let job = start.requires.0.0.job in
+    let job = start.requires.lent.0.job in
     let w = widths start.args.g.shape (shape-facts start.args.g.shape job.shape) in
     let e = seed-size c.before.before in
-    (start.requires.0.0.table, (omega (arith, w.node-min), omega (arith, w.node-max), ap (λ (n : ℕ). n % 8) e ∙ w.node-eight, omega (arith, job.row, start.requires.1.2)))
+    (start.requires.lent.0.table, (omega (arith, w.node-min), omega (arith, w.node-max), ap (λ (n : ℕ). n % 8) e ∙ w.node-eight, omega (arith, job.row, start.requires.seed_len.2)))
 
 pub returns : goal.returns
 unfolding node_at entry_commitment entry_byte
@@ -81,10 +81,10 @@ returns c =
     let leaf = c.leaf_node in
     let n = c.node_bytes-n in
     let tweak = c.leaf_tweak-tweak.ensures ∙ ap (λ (n : ℕ). i + n - 1) c.leaf_count.ensures.0 in
-    let made = c.commit_leaf.ensures i tweak start.requires.0.1 in
+    let made = c.commit_leaf.ensures i tweak start.requires.lent.1 in
     let a = n.result * leaf.result in
     let key = ap (part x a) (part-size a n.result) ∙ ap₂ (λ (w k : ℕ). part x (w * k) w) n.ensures.0 leaf.ensures.0 in
-    let w = widths s (shape-facts s start.requires.0.0.job.shape) in
+    let w = widths s (shape-facts s start.requires.lent.0.job.shape) in
     let seed = made.0 ∙ ap (leaf_seed_of g.version s g.iv i) key in
     let byte = ap (λ (k : List ℕ). byte_of (key_words s) k (nonce_of g (i + 2 ^ 31))) seed ∙ sym (prg-byte g.version s _ g.iv (i + 2 ^ 31)) in (
       made.1 ∙ ap (leaf_commitment_of g.version s g.iv i) key,

@@ -35,26 +35,26 @@ module _ (c : goal.After-first-node2) where
       c.before.before.decommitment-from.ensures.0 c.before.first-node.ensures.0 c.first-node2.ensures.0 p.2 (head.loop.inv.1 ∙ p.3)
 
 pub node_bytes-w-requires : goal.node_bytes-w-requires
-node_bytes-w-requires c = c.requires.1.0
+node_bytes-w-requires c = c.requires.s_value.0
 
 pub loop-i-init : goal.loop-i-init
 unfolding concat
 loop-i-init c =
     let st = c in
     let w = c.node_bytes-w.result in
-    (omega arith, refl, ap (λ (n : ℕ). take n st.args.trees.now) (ap (λ (n : ℕ). w * n) (node-none st.args.s (shape-facts st.args.s st.requires.1.0)) ∙ mul-zero w))
+    (omega arith, refl, ap (λ (n : ℕ). take n st.args.trees.now) (ap (λ (n : ℕ). w * n) (node-none st.args.s (shape-facts st.args.s st.requires.s_value.0)) ∙ mul-zero w))
 
 pub depth_of-d-requires : goal.depth_of-d-requires
-depth_of-d-requires c = c.requires.1.0
+depth_of-d-requires c = c.requires.s_value.0
 
 pub hidden_index-j-requires : goal.hidden_index-j-requires
-hidden_index-j-requires c = let p = c.requires.1 in (p.0, p.1, c.loop-i-test.true)
+hidden_index-j-requires c = let p = c.requires.s_value in (p.0, p.1, c.loop-i-test.true)
 
 pub decommitment_from-from-requires : goal.decommitment_from-from-requires
-decommitment_from-from-requires c = (c.requires.1.0, omega arith)
+decommitment_from-from-requires c = (c.requires.s_value.0, omega arith)
 
 pub first_node-requires : goal.first_node-requires
-first_node-requires c = (c.requires.1.0, omega arith)
+first_node-requires c = (c.requires.s_value.0, omega arith)
 
 pub overflow_mul-at : goal.overflow_mul-at
 overflow_mul-at c =
@@ -64,7 +64,7 @@ overflow_mul-at c =
     omega arith
 
 pub first_node-requires-in-loop-i : goal.first_node-requires-in-loop-i
-first_node-requires-in-loop-i c = (c.requires.1.0, omega arith)
+first_node-requires-in-loop-i c = (c.requires.s_value.0, omega arith)
 
 pub overflow_mul-end : goal.overflow_mul-end
 overflow_mul-end c =
@@ -113,4 +113,4 @@ returns c =
     let s = st.args.s in
     let w = c.node_bytes-w in
     let l = c.loop-i in
-    all-stand s st.requires.1.0 w.result l.i w.ensures.0 l.trees (reconstructed_vector_tree faest1 s st.args.iv st.args.ch.now st.args.opening.now) (omega arith) (l.invariant.1 ∙ st.requires.1.3) l.invariant.2
+    all-stand s st.requires.s_value.0 w.result l.i w.ensures.0 l.trees (reconstructed_vector_tree faest1 s st.args.iv st.args.ch.now st.args.opening.now) (omega arith) (l.invariant.1 ∙ st.requires.s_value.3) l.invariant.2

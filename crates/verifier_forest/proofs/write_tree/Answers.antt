@@ -66,21 +66,21 @@ level c = (let g = (start c.before.before).args in let l = c.loop-a in walk_insi
 pub slice_bounds-clear_from-end : goal.slice_bounds-clear_from-end
 slice_bounds-clear_from-end c =
     let g = c.args in
-    let p = c.requires.1 in
+    let p = c.requires.le_w in
     let q = power g.d p.3 in
     let i = inside g.w (2 ^ g.d) 0 1 _ p.1 q.2 p.6 (omega arith) in
     let o = mul-one g.w in
     omega arith
 
 pub overflow_sub-inner : goal.overflow_sub-inner
-overflow_sub-inner c = (let q = power c.args.d c.requires.1.3 in omega arith)
+overflow_sub-inner c = (let q = power c.args.d c.requires.le_w.3 in omega arith)
 
 pub loop-a-init : goal.loop-a-init
 unfolding expand_tree
 loop-a-init c =
     let st = c in
     let g = st.args in
-    let p = st.requires.1 in
+    let p = st.requires.le_w in
     let q = power g.d p.3 in (
       omega arith,
       omega arith,

@@ -19,7 +19,7 @@ slots-from c = ap (λ (n : ℕ). n * c.before.before.before.before.before.before
 pub overflow_mul-first : goal.overflow_mul-first
 overflow_mul-first c =
     let st = c in
-    let f = shape-facts st.args.s st.requires.1.0 in
+    let f = shape-facts st.args.s st.requires.s_value.0 in
     let v = c.commitment_bytes in
     let m = mul-limit v.result st.args.s.tau 96 32 v.ensures.1 f.tau-max in
     omega arith
@@ -29,17 +29,17 @@ unfolding zeros
 slice_bounds-write_tree-end c =
     let st = c in
     let w = c.covered_nodes-m in
-    let k = few-nodes st.args.s (shape-facts st.args.s st.requires.1.0) st.args.ch.now st.args.n st.requires.1.2 st.requires.1.3 in
+    let k = few-nodes st.args.s (shape-facts st.args.s st.requires.s_value.0) st.args.ch.now st.args.n st.requires.s_value.2 st.requires.s_value.3 in
     let z = length-zeros 576 in
     omega (arith, w.ensures.0, w.auto.out)
 
 pub slice_bounds-write_tree-count-2 : goal.slice_bounds-write_tree-count-2
 unfolding opening_bytes
-slice_bounds-write_tree-count-2 c = (let h = c.requires.1.4 in let e = slots-from c in omega arith)
+slice_bounds-write_tree-count-2 c = (let h = c.requires.s_value.4 in let e = slots-from c in omega arith)
 
 pub slice_bounds-write_tree-start-2 : goal.slice_bounds-write_tree-start-2
 unfolding opening_bytes
-slice_bounds-write_tree-start-2 c = (let h = c.requires.1.4 in let e = slots-from c in omega arith)
+slice_bounds-write_tree-start-2 c = (let h = c.requires.s_value.4 in let e = slots-from c in omega arith)
 
 pub write_tree-requires : goal.write_tree-requires
 unfolding tree_bytes opening_bytes zeros
@@ -48,7 +48,7 @@ write_tree-requires c =
     let g = st.args in
     let p = st.requires in
     let o = g.opening.now in
-    let f = shape-facts g.s p.1.0 in
+    let f = shape-facts g.s p.s_value.0 in
     let ws = widths g.s f in
     let w = c.node_bytes-w in
     let v = c.commitment_bytes in
@@ -56,14 +56,14 @@ write_tree-requires c =
     let at = slots-from c.before.before in
     let nodes = c.covered_nodes-m in
     let n = c.leaf_count-l in
-    let r = front-ready g.s f g.ch.now n.result g.n nodes.result nodes.new.out n.ensures.0 p.1.2 p.1.3 nodes.ensures.0 nodes.ensures.1 in
-    let rest : length (part o first (length o - first)) ≡ length o - first = length_part o first (length o - first) (let h = p.1.4 in omega arith) in
+    let r = front-ready g.s f g.ch.now n.result g.n nodes.result nodes.new.out n.ensures.0 p.s_value.2 p.s_value.3 nodes.ensures.0 nodes.ensures.1 in
+    let rest : length (part o first (length o - first)) ≡ length o - first = length_part o first (length o - first) (let h = p.s_value.4 in omega arith) in
     let slots : w.result * g.s.t ≡ node_bytes g.s * g.s.t = ap (λ (m : ℕ). m * g.s.t) w.ensures.0 in
-    let used = mul-rest w.result g.n g.s.t p.1.3 in
-    let long = p.1.4 in
-    let all : length g.tree.now ≡ w.result * (2 * n.result - 1) = p.1.5 ∙ sym (ap₂ (λ (m k : ℕ). m * (2 * k - 1)) w.ensures.0 n.ensures.0) in
+    let used = mul-rest w.result g.n g.s.t p.s_value.3 in
+    let long = p.s_value.4 in
+    let all : length g.tree.now ≡ w.result * (2 * n.result - 1) = p.s_value.5 ∙ sym (ap₂ (λ (m k : ℕ). m * (2 * k - 1)) w.ensures.0 n.ensures.0) in
     let most = mul-limit w.result (2 * n.result - 1) 32 172031 w.ensures.2 (omega (arith, n.ensures.2)) in
-    (p.0, (n.ensures.1, r.0, r.1, r.2, r.3, omega arith, all, omega arith, w.ensures.1, w.ensures.2, ap (λ (m : ℕ). m % 8) w.ensures.0 ∙ ws.node-eight))
+    (p.sbox_table, (n.ensures.1, r.0, r.1, r.2, r.3, omega arith, all, omega arith, w.ensures.1, w.ensures.2, ap (λ (m : ℕ). m % 8) w.ensures.0 ∙ ws.node-eight))
 
 pub returns : goal.returns
 unfolding zeros
@@ -71,9 +71,9 @@ returns c =
     let st = c in
     let g = st.args in
     let p = st.requires in
-    let f = shape-facts g.s p.1.0 in
+    let f = shape-facts g.s p.s_value.0 in
     let w = c.node_bytes-w in
     let nodes = c.covered_nodes-m in
     let n = c.leaf_count-l in
-    front-tree g.s f g.ch.now n.result g.n nodes.result nodes.new.out n.ensures.0 p.1.2 p.1.3 nodes.ensures.0 nodes.ensures.1
-    w.result _ g.opening.now g.iv c.write_tree.new.tree w.ensures.0 (slots-from c.before.before.before.before.before) (c.write_tree.ensures g.s p.1.0 w.ensures.0)
+    front-tree g.s f g.ch.now n.result g.n nodes.result nodes.new.out n.ensures.0 p.s_value.2 p.s_value.3 nodes.ensures.0 nodes.ensures.1
+    w.result _ g.opening.now g.iv c.write_tree.new.tree w.ensures.0 (slots-from c.before.before.before.before.before) (c.write_tree.ensures g.s p.s_value.0 w.ensures.0)

@@ -24,13 +24,13 @@ inside w l a k d e h = (let m = mul-limit w (2 * a + k) w (2 * l - 1) (le_refl w
 
 -- the root is in the tree
 pub slice_bounds-clear_from-end : goal.slice_bounds-clear_from-end
-slice_bounds-clear_from-end c = (let st = c in let i = inside st.args.w st.args.l 0 1 _ st.requires.1.6 (omega (arith, st.requires.1.0)) in let o = mul-one st.args.w in omega arith)
+slice_bounds-clear_from-end c = (let st = c in let i = inside st.args.w st.args.l 0 1 _ st.requires.le_l.6 (omega (arith, st.requires.le_l.0)) in let o = mul-one st.args.w in omega arith)
 
 pub overflow_sub-p : goal.overflow_sub-p
 overflow_sub-p c =
     let st = c in
     let nodes = st.args.nodes.now in
-    let z = node-passed nodes 0 st.requires.1.1 st.requires.1.2 in
+    let z = node-passed nodes 0 st.requires.le_l.1 st.requires.le_l.2 in
     let y = all_after nodes in
     omega arith
 
@@ -43,7 +43,7 @@ loop-a-init c =
     let w = st.args.w in (
       omega arith,
       search rules,
-      (sym (all_after nodes), (let z = node-passed nodes 0 st.requires.1.1 st.requires.1.2 in let y = all_after nodes in omega arith), refl),
+      (sym (all_after nodes), (let z = node-passed nodes 0 st.requires.le_l.1 st.requires.le_l.2 in let y = all_after nodes in omega arith), refl),
       λ s ok e. ap (take (w * 1)) (put-zeros-front w d c.clear_from.new.out (root-end c.before.before.before.before) c.clear_from.ensures)
           ∙ take_at (zeros w) (drop w d) (w * 1) (length-zeros w ∙ sym (mul-one w)),
     )
@@ -54,12 +54,12 @@ write_children-p-requires c =
     let p = c.requires in
     let l = c.loop-a in
     let r = read-longer g.nodes.now (l.a + 1) (g.l - 1) (omega arith) in
-    (p.0, (p.1.1, p.1.3 l.a (omega arith), l.invariant.2, omega (arith, p.1.4), p.1.5, inside g.w g.l l.a 3 _ l.invariant.1 (omega arith), omega (arith, l.invariant.1, p.1.6, p.1.7), p.1.8, p.1.9, p.1.10))
+    (p.sbox_table, (p.le_l.1, p.le_l.3 l.a (omega arith), l.invariant.2, omega (arith, p.le_l.4), p.le_l.5, inside g.w g.l l.a 3 _ l.invariant.1 (omega arith), omega (arith, l.invariant.1, p.le_l.6, p.le_l.7), p.le_l.8, p.le_l.9, p.le_l.10))
 
 pub loop-a-preserved : goal.loop-a-preserved
 loop-a-preserved c =
     let g = c.args in
-    let p = c.requires.1 in
+    let p = c.requires.le_l in
     let l = c.loop-a in
     let w = c.write_children-p in
     let r = read-longer g.nodes.now (l.a + 1) (g.l - 1) (omega arith) in (
@@ -75,7 +75,7 @@ pub returns : goal.returns
 returns c =
     λ s ok k.
     let g = c.args in
-    let p = c.requires.1 in
+    let p = c.requires.le_l in
     let l = c.loop-a in
     let e : l.a ≡ g.l - 1 = omega arith in
     let all : length l.tree ≡ g.w * (2 * l.a + 1) = l.invariant.1 ∙ ap (λ (m : ℕ). g.w * m) (let z : 2 * g.l - 1 ≡ 2 * l.a + 1 = omega (arith, p.0) in z) in

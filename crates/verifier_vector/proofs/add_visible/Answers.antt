@@ -24,26 +24,26 @@ room c =
     let w = c.before.before.before.commitment-bytes in
     let n = entries_of g.g.shape g.x.vector in
     let all : w.result * n ≡ leaf_commitment_bytes g.g.shape * n = ap (λ (m : ℕ). m * n) w.ensures.0 in
-    block-end w.result g.x.entry n (length g.lcs.now) start.requires.0.3 (let l = start.requires.1.1 in omega arith)
+    block-end w.result g.x.entry n (length g.lcs.now) start.requires.lent.3 (let l = start.requires.hidden_len.1 in omega arith)
 
 pub overflow_mul-w : goal.overflow_mul-w
 overflow_mul-w c = start_fits _ _ _ (room c) c.well-formed.1.1.1.1.1.1.0.0
 
 pub copy_part-requires : goal.copy_part-requires
-copy_part-requires c = (let w = c.commitment_bytes-w.ensures.0 in let h = c.requires.1.0 in (omega arith, room c))
+copy_part-requires c = (let w = c.commitment_bytes-w.ensures.0 in let h = c.requires.hidden_len.0 in (omega arith, room c))
 
 pub add_half-requires : goal.add_half-requires
 add_half-requires c =
     let start = c in
     let g = start.args in
     let p = start.requires in
-    let ok = p.0.0.job.shape in
+    let ok = p.lent.0.job.shape in
     let n = c.entry_count-n in
     let clear = c.clear_from in (
-      (p.0.0, p.0.1, lower-inside g.g ok g.x.vector g.x.entry n.result n.ensures.0 p.0.3 1 (omega arith) p.0.2),
+      (p.lent.0, p.lent.1, lower-inside g.g ok g.x.vector g.x.entry n.result n.ensures.0 p.lent.3 1 (omega arith) p.lent.2),
       (
-        c.copy_part.auto.dst ∙ p.1.1,
-        lower-marked g.g ok g.x.vector g.x.entry n.result n.ensures.0 p.0.3 g.tree.now 1 _ g.cols.now clear.new.out (omega arith) p.1.2 clear.auto.out clear.ensures,
+        c.copy_part.auto.dst ∙ p.hidden_len.1,
+        lower-marked g.g ok g.x.vector g.x.entry n.result n.ensures.0 p.lent.3 g.tree.now 1 _ g.cols.now clear.new.out (omega arith) p.hidden_len.2 clear.auto.out clear.ensures,
       ),
     )
 
@@ -52,11 +52,11 @@ add_half-requires-2 c =
     let start = c in
     let g = start.args in
     let p = start.requires in
-    let ok = p.0.0.job.shape in
+    let ok = p.lent.0.job.shape in
     let n = c.entry_count-n in
     let made = c.add_half.ensures in (
-      (p.0.0, p.0.1, upper-inside g.g ok g.x.vector g.x.entry n.result n.ensures.0 p.0.3 p.0.2),
-      (made.0.size ∙ c.copy_part.auto.dst ∙ p.1.1, upper-marked g.g ok g.x.vector g.x.entry n.result n.ensures.0 p.0.3 g.tree.now 1 _ made.1),
+      (p.lent.0, p.lent.1, upper-inside g.g ok g.x.vector g.x.entry n.result n.ensures.0 p.lent.3 p.lent.2),
+      (made.written.size ∙ c.copy_part.auto.dst ∙ p.hidden_len.1, upper-marked g.g ok g.x.vector g.x.entry n.result n.ensures.0 p.lent.3 g.tree.now 1 _ made.running),
     )
 
 pub returns : goal.returns
@@ -68,7 +68,7 @@ returns c =
     let i = g.x.vector in
     let d = g.x.entry in
     let p = start.requires in
-    let ok = p.0.0.job.shape in
+    let ok = p.lent.0.job.shape in
     let n = c.entry_count-n in
     let half = half_is s i (depth_of s i) ok refl n.result n.ensures.0 in
     let w = leaf_commitment_bytes s in
@@ -79,7 +79,7 @@ returns c =
     let old = copy.new.dst in
     let new = two.new.commitments in
     let put = subst (λ (w : ℕ). old ≡ take (w * d) g.lcs.now ++ (part g.hidden.now 0 w ++ drop (w * d + w) g.lcs.now)) c.commitment_bytes-w.ensures.0 copy.ensures in
-    let all = subst (λ (m : ℕ). Written w own d 1 m old new) n.ensures.0 (written_then w own d 1 (n.result / 2) n.result old _ new half.1 one.ensures.0 two.ensures.0) in (
-      all-given w g.hidden.now own d (depth_of s i) g.lcs.now old new p.0.3 p.1.1 p.1.0 put all,
-      columns_of g.g ok i d n.result n.ensures.0 p.0.3 g.tree.now _ two.ensures.1,
+    let all = subst (λ (m : ℕ). Written w own d 1 m old new) n.ensures.0 (written_then w own d 1 (n.result / 2) n.result old _ new half.1 one.ensures.written two.ensures.written) in (
+      all-given w g.hidden.now own d (depth_of s i) g.lcs.now old new p.lent.3 p.hidden_len.1 p.hidden_len.0 put all,
+      columns_of g.g ok i d n.result n.ensures.0 p.lent.3 g.tree.now _ two.ensures.running,
     )

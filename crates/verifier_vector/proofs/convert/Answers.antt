@@ -22,7 +22,7 @@ use Rattle.verifier_vector.proofs.convert.Goals as goal
 pub add_visible-requires : goal.add_visible-requires
 add_visible-requires c =
     let p = c.requires in
-    ((p.0.0, c.hash_multiples-m.ensures c.args.g.iv p.0.1, p.0.2, p.0.3), (p.0.4, p.1.0, p.1.1))
+    ((p.lent.0, c.hash_multiples-m.ensures c.args.g.iv p.lent.1, p.lent.2, p.lent.3), (p.lent.4, p.lcs_len.0, p.lcs_len.1))
 
 pub hash_vector-requires : goal.hash_vector-requires
 hash_vector-requires c =
@@ -31,9 +31,9 @@ hash_vector-requires c =
     let w = c.commitment_bytes-w in
     let r = c.rate_bytes-r.ensures in
     let n = entries_of g.g.shape g.x.vector in
-    let long = c.add_visible.auto.lcs ∙ start.requires.1.0 in
+    let long = c.add_visible.auto.lcs ∙ start.requires.lcs_len.0 in
     let all : w.result * n ≡ leaf_commitment_bytes g.g.shape * n = ap (λ (m : ℕ). m * n) w.ensures.0 in
-    (r.1, r.2, block-end w.result g.x.entry n _ start.requires.0.3 (omega arith))
+    (r.1, r.2, block-end w.result g.x.entry n _ start.requires.lent.3 (omega arith))
 
 pub returns : goal.returns
 unfolding faest vector_commitments vector_hash given_commitment uncorrected
@@ -50,13 +50,13 @@ returns c ch opening hd hh =
     let made = c.add_visible in
     let lcs : List ℕ = made.new.lcs in
     let own = entry_commitment g.g x i in
-    let leaves = made.ensures.0 ∙ ap₂ (λ (v : List ℕ) (m : ℕ). concat n (given v own m)) hh hd in
-    let message = hashed-whole w.result g.hidden.now own d n lcs p.0.3 (p.0.4 ∙ sym w.ensures.0) (λ e. entry_length g.g x i e p.0.0.job.kind ∙ sym w.ensures.0) made.ensures.0 in
+    let leaves = made.ensures.lcs_after ∙ ap₂ (λ (v : List ℕ) (m : ℕ). concat n (given v own m)) hh hd in
+    let message = hashed-whole w.result g.hidden.now own d n lcs p.lent.3 (p.lent.4 ∙ sym w.ensures.0) (λ e. entry_length g.g x i e p.lent.0.job.kind ∙ sym w.ensures.0) made.ensures.lcs_after in
     record {
       leaves = leaves;
-      columns = made.ensures.1 ∙ ap (λ (m : ℕ). concat (depth_of s i) (λ j. tabulate g.g.stretch.width (column_byte s (entry_byte g.g x) (λ e. bit_xor e m) i j))) hd;
+      columns = made.ensures.cols_after ∙ ap (λ (m : ℕ). concat (depth_of s i) (λ j. tabulate g.g.stretch.width (column_byte s (entry_byte g.g x) (λ e. bit_xor e m) i j))) hd;
       digest =
           c.hash_vector.ensures
           ∙ ap (λ (k : ℕ). hash1 k (take (w.result * d) lcs ++ (g.hidden.now ++ drop (w.result * d + w.result) lcs)) (length g.hash.now)) c.rate_bytes-r.ensures.0
-          ∙ ap₂ (λ (v : List ℕ) (m : ℕ). hash1 (rate s) v m) (message ∙ leaves) p.1.2;
+          ∙ ap₂ (λ (v : List ℕ) (m : ℕ). hash1 (rate s) v m) (message ∙ leaves) p.lcs_len.2;
     }

@@ -21,7 +21,7 @@ pub overflow_add-at : goal.overflow_add-at
 overflow_add-at c = end_fits _ _ _ (opening-end c) c.well-formed.1.1.1.1.1.0.0
 
 pub slice_bounds-convert-end : goal.slice_bounds-convert-end
-slice_bounds-convert-end c = (let w = c.commitment_bytes-w.ensures.0 in let at = c.hidden_from-at.ensures.1 in let l = c.requires.0.4 in omega arith)
+slice_bounds-convert-end c = (let w = c.commitment_bytes-w.ensures.0 in let at = c.hidden_from-at.ensures.1 in let l = c.requires.lent.4 in omega arith)
 
 pub slice_bounds-convert-count-2 : goal.slice_bounds-convert-count-2
 slice_bounds-convert-count-2 c = lent-order _ _ _ (lcs-size c)
@@ -32,7 +32,7 @@ slice_bounds-convert-start-2 c = lent-order _ _ _ (lcs-size c)
 pub slice_bounds-convert-end-2 : goal.slice_bounds-convert-end-2
 slice_bounds-convert-end-2 c =
     let start = c in
-    commitments-end start.args.g.shape start.requires.0.0.job.shape start.args.x.vector _ _ start.requires.0.2 c.commitments_from-lcs_to.ensures start.requires.1.0
+    commitments-end start.args.g.shape start.requires.lent.0.job.shape start.args.x.vector _ _ start.requires.lent.2 c.commitments_from-lcs_to.ensures start.requires.lcs_len.0
 
 pub slice_bounds-convert-count-3 : goal.slice_bounds-convert-count-3
 slice_bounds-convert-count-3 c = lent-order _ _ _ (q-size c)
@@ -43,7 +43,7 @@ slice_bounds-convert-start-3 c = lent-order _ _ _ (q-size c)
 pub slice_bounds-convert-end-3 : goal.slice_bounds-convert-end-3
 slice_bounds-convert-end-3 c =
     let start = c in
-    columns-end start.args.g.shape start.requires.0.0.job.shape start.args.g.stretch.width start.args.x.vector _ _ start.requires.0.2 c.columns_from-q_to.ensures start.requires.1.1
+    columns-end start.args.g.shape start.requires.lent.0.job.shape start.args.g.stretch.width start.args.x.vector _ _ start.requires.lent.2 c.columns_from-q_to.ensures start.requires.lcs_len.1
 
 pub overflow_mul-h : goal.overflow_mul-h
 overflow_mul-h c = start_fits _ _ _ (hashes-end c) c.well-formed.1.1.1.1.1.1.1.1.0.0
@@ -61,7 +61,7 @@ slice_bounds-convert-end-4 c =
     let s = g.g.shape in
     let h = c.hash_bytes-h in
     let all : h.result * s.tau ≡ hash_bytes s * s.tau = ap (λ (n : ℕ). n * s.tau) h.ensures.0 in
-    block-end h.result g.x.vector s.tau (length g.hashes.now) start.requires.0.2 (let l = start.requires.1.2 in omega arith)
+    block-end h.result g.x.vector s.tau (length g.hashes.now) start.requires.lent.2 (let l = start.requires.lcs_len.2 in omega arith)
 
 pub convert-requires : goal.convert-requires
 convert-requires c =
@@ -71,7 +71,7 @@ convert-requires c =
     let w = c.commitment_bytes-w in
     let at = c.hidden_from-at.result in
     let h = c.hash_bytes-h in
-    let p = start.requires.0 in (
+    let p = start.requires.lent in (
       (p.0, p.1, p.2, p.3, lent at _ w.result g.opening.now refl (opening-end c.before.before.before.before) ∙ w.ensures.0),
       (
         lent _ _ _ g.lcs.now (lcs-size c.before.before.before) (lcs-end c.before.before.before),
@@ -87,9 +87,9 @@ returns c ch hd =
     let s = g.g.shape in
     let i = g.x.vector in
     let b = g.g.stretch.width in
-    let ok = start.requires.0.0.job.shape in
-    let below = start.requires.0.2 in
-    let p = start.requires.1 in
+    let ok = start.requires.lent.0.job.shape in
+    let below = start.requires.lent.2 in
+    let p = start.requires.lcs_len in
     let w = c.commitment_bytes-w in
     let at = c.hidden_from-at in
     let h = c.hash_bytes-h in

@@ -16,19 +16,19 @@ use Rattle.verifier_vector.specs.Vector.{uncorrected}
 use Rattle.verifier_vectors.proofs.write_vectors.Goals as goal
 
 pub loop-i-init : goal.loop-i-init
-loop-i-init c = (let p = c.requires in (omega arith, p.1.0, p.1.1, p.1.2, before-none _ _ _ _ _ _ _))
+loop-i-init c = (let p = c.requires in (omega arith, p.lcs_len.0, p.lcs_len.1, p.lcs_len.2, before-none _ _ _ _ _ _ _))
 
 pub hidden_index-requires : goal.hidden_index-requires
-hidden_index-requires c = (c.requires.0.0.job.shape, c.requires.0.2, c.loop-i-test.true)
+hidden_index-requires c = (c.requires.lent.0.job.shape, c.requires.lent.2, c.loop-i-test.true)
 
 pub next_vector-requires : goal.next_vector-requires
 next_vector-requires c =
     let p = c.requires in
     let l = c.loop-i.invariant in
-    ((p.0.0, p.0.1, c.loop-i-test.true, c.hidden_index.ensures.1, p.0.3), (l.1, l.2, l.3))
+    ((p.lent.0, p.lent.1, c.loop-i-test.true, c.hidden_index.ensures.1, p.lent.3), (l.1, l.2, l.3))
 
 pub overflow_step-i : goal.overflow_step-i
-overflow_step-i c = let t = c.loop-i-test.true in let f = (shape-facts c.args.g.shape c.requires.0.0.job.shape).tau-max in omega arith
+overflow_step-i c = let t = c.loop-i-test.true in let f = (shape-facts c.args.g.shape c.requires.lent.0.job.shape).tau-max in omega arith
 
 pub loop-i-smaller : goal.loop-i-smaller
 loop-i-smaller c = omega arith
@@ -42,24 +42,24 @@ loop-i-preserved c =
     (omega arith, kept.0 ∙ l.1, kept.1.0 ∙ l.2, kept.1.1.0 ∙ l.3, made.ensures c.args.ch.now c.hidden_index.ensures.0 l.4)
 
 pub columns_from-used-requires : goal.columns_from-used-requires
-columns_from-used-requires c = (let job = c.requires.0.0.job in (job.shape, le_refl _, width_small _ job.row))
+columns_from-used-requires c = (let job = c.requires.lent.0.job in (job.shape, le_refl _, width_small _ job.row))
 
 pub clear_from-requires : goal.clear_from-requires
 clear_from-requires c =
     let start = c in
-    let k = all-columns start.args.g.shape start.requires.0.0.job.shape start.args.g.stretch.width in
+    let k = all-columns start.args.g.shape start.requires.lent.0.job.shape start.args.g.stretch.width in
     let used = c.columns_from-used.ensures in
     let long = c.loop-i.invariant.2 in
     omega arith
 
 pub shape_of-lcs : goal.shape_of-lcs
-shape_of-lcs c = c.loop-i.invariant.1 ∙ sym c.requires.1.0
+shape_of-lcs c = c.loop-i.invariant.1 ∙ sym c.requires.lcs_len.0
 
 pub shape_of-q : goal.shape_of-q
-shape_of-q c = c.clear_from.auto.out ∙ c.loop-i.invariant.2 ∙ sym c.requires.1.1
+shape_of-q c = c.clear_from.auto.out ∙ c.loop-i.invariant.2 ∙ sym c.requires.lcs_len.1
 
 pub shape_of-hashes : goal.shape_of-hashes
-shape_of-hashes c = c.loop-i.invariant.3 ∙ sym c.requires.1.2
+shape_of-hashes c = c.loop-i.invariant.3 ∙ sym c.requires.lcs_len.2
 
 pub returns : goal.returns
 returns c =
@@ -70,6 +70,6 @@ returns c =
     let all : l.i ≡ g.shape.tau = (let i = l.invariant.0 in omega arith) in
     let lc = given_commitment g start.args.ch.now start.args.opening.now start.args.tree.now in
     let col = uncorrected g.shape g.stretch.width (entry_byte g start.args.tree.now) start.args.ch.now in
-    let whole = before-all g.shape g.stretch.width lc col start.requires.0.0.job.shape _ l.lcs l.q _ l.hashes l.invariant.1 l.invariant.2 l.invariant.3 c.columns_from-used.ensures c.clear_from.ensures
+    let whole = before-all g.shape g.stretch.width lc col start.requires.lent.0.job.shape _ l.lcs l.q _ l.hashes l.invariant.1 l.invariant.2 l.invariant.3 c.columns_from-used.ensures c.clear_from.ensures
     (subst (λ (n : ℕ). Before g.shape g.stretch.width lc col n l.lcs l.q l.hashes) all l.invariant.4) in
     (whole.0, (whole.1, whole.2))
