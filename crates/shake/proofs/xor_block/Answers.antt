@@ -22,7 +22,7 @@ loop-j-preserved c =
     let l = c.loop-j in
     let s = start.args.s in
     let block = start.args.block in
-    let all : length s ≡ 25 = start.well-formed.0.1.0.1 in
+    let all : length s ≡ 25 = start.well_formed.0.1.0.1 in
     let eight : 8 * l.j + 8 - 8 * l.j ≡ 8 = omega arith in
     let loaded : c.load_lane-v.result ≡ lane_of block l.j = c.load_lane-v.ensures ∙ ap (λ (n : ℕ). number 8 (take n (drop (8 * l.j) block))) eight in (
       omega arith,
@@ -36,8 +36,8 @@ returns c =
     let l = c.loop-j in
     let s = start.args.s in
     let block = start.args.block in
-    let all : length s ≡ 25 = start.well-formed.0.1.0.1 in
-    let end : length block ≡ 168 = start.well-formed.1.0.1.0.1 in
+    let all : length s ≡ 25 = start.well_formed.0.1.0.1 in
+    let end : length block ≡ 168 = start.well_formed.1.0.1.0.1 in
     let j : l.j ≡ 21 = omega arith in
     l.invariant.1
     ∙ ap (λ (n : ℕ). filled n (lane s block) s) j

@@ -39,13 +39,13 @@ slice_bounds-convert-end-2 c =
     columns-end start.args.g.shape start.requires.lent.0.job.shape start.args.g.stretch.width start.args.i _ _ start.requires.lent.2 c.columns_from-v_to.ensures start.requires.lcs_len.1
 
 pub overflow_mul-h : goal.overflow_mul-h
-overflow_mul-h c = start_fits _ _ _ (hashes-end c) c.well-formed.1.1.1.1.1.1.1.1.0.0
+overflow_mul-h c = start_fits _ _ _ (hashes-end c) c.well_formed.1.1.1.1.1.1.1.1.0.0
 
 pub overflow_mul-h-2 : goal.overflow_mul-h-2
-overflow_mul-h-2 c = start_fits _ _ _ (hashes-end c) c.well-formed.1.1.1.1.1.1.1.1.0.0
+overflow_mul-h-2 c = start_fits _ _ _ (hashes-end c) c.well_formed.1.1.1.1.1.1.1.1.0.0
 
 pub overflow_add-h : goal.overflow_add-h
-overflow_add-h c = end_fits _ _ _ (hashes-end c) c.well-formed.1.1.1.1.1.1.1.1.0.0
+overflow_add-h c = end_fits _ _ _ (hashes-end c) c.well_formed.1.1.1.1.1.1.1.1.0.0
 
 pub slice_bounds-convert-end-3 : goal.slice_bounds-convert-end-3
 slice_bounds-convert-end-3 c =

@@ -27,7 +27,7 @@ room c =
     block-end w.result g.x.entry n (length g.lcs.now) start.requires.lent.3 (let l = start.requires.hidden_len.1 in omega arith)
 
 pub overflow_mul-w : goal.overflow_mul-w
-overflow_mul-w c = start_fits _ _ _ (room c) c.well-formed.1.1.1.1.1.1.0.0
+overflow_mul-w c = start_fits _ _ _ (room c) c.well_formed.1.1.1.1.1.1.0.0
 
 pub copy_part-requires : goal.copy_part-requires
 copy_part-requires c = (let w = c.commitment_bytes-w.ensures.0 in let h = c.requires.hidden_len.0 in (omega arith, room c))

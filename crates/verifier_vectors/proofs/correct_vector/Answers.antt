@@ -19,7 +19,7 @@ q-size : (c : goal.After-hidden-index) → c.before.columns-from2.result ≡ c.b
 q-size c = columns-size _ _ _ _ _ c.before.before.columns-from.ensures c.before.columns-from2.ensures
 
 pub overflow_mul-at : goal.overflow_mul-at
-overflow_mul-at c = start_fits _ _ _ (correction-end c) c.well-formed.1.1.1.1.0.0
+overflow_mul-at c = start_fits _ _ _ (correction-end c) c.well_formed.1.1.1.1.0.0
 
 pub slice_bounds-add_bytes-count : goal.slice_bounds-add_bytes-count
 slice_bounds-add_bytes-count c = lent-order _ _ _ (q-size c)
@@ -31,7 +31,7 @@ pub slice_bounds-add_bytes-end : goal.slice_bounds-add_bytes-end
 slice_bounds-add_bytes-end c = (let g = c.args in let p = c.requires in columns-end g.s p.0 g.b g.i _ _ p.2 c.columns_from-to.ensures p.6)
 
 pub overflow_add-at : goal.overflow_add-at
-overflow_add-at c = end_fits _ _ _ (correction-end c.before.before.before.before.before) c.well-formed.1.1.1.1.0.0
+overflow_add-at c = end_fits _ _ _ (correction-end c.before.before.before.before.before) c.well_formed.1.1.1.1.0.0
 
 pub slice_bounds-add_bytes-end-2 : goal.slice_bounds-add_bytes-end-2
 slice_bounds-add_bytes-end-2 c = correction-end c.before.before.before.before.before

@@ -18,7 +18,7 @@ q-size : (c : goal.After-convert-arg-2-1) → c.columns_from-q_to.result ≡ c.c
 q-size c = columns-size _ _ _ _ _ c.columns_from-q_from.ensures c.columns_from-q_to.ensures
 
 pub overflow_add-at : goal.overflow_add-at
-overflow_add-at c = end_fits _ _ _ (opening-end c) c.well-formed.1.1.1.1.1.0.0
+overflow_add-at c = end_fits _ _ _ (opening-end c) c.well_formed.1.1.1.1.1.0.0
 
 pub slice_bounds-convert-end : goal.slice_bounds-convert-end
 slice_bounds-convert-end c = (let w = c.commitment_bytes-w.ensures.0 in let at = c.hidden_from-at.ensures.1 in let l = c.requires.lent.4 in omega arith)
@@ -46,13 +46,13 @@ slice_bounds-convert-end-3 c =
     columns-end start.args.g.shape start.requires.lent.0.job.shape start.args.g.stretch.width start.args.x.vector _ _ start.requires.lent.2 c.columns_from-q_to.ensures start.requires.lcs_len.1
 
 pub overflow_mul-h : goal.overflow_mul-h
-overflow_mul-h c = start_fits _ _ _ (hashes-end c) c.well-formed.1.1.1.1.1.1.1.1.0.0
+overflow_mul-h c = start_fits _ _ _ (hashes-end c) c.well_formed.1.1.1.1.1.1.1.1.0.0
 
 pub overflow_mul-h-2 : goal.overflow_mul-h-2
-overflow_mul-h-2 c = start_fits _ _ _ (hashes-end c) c.well-formed.1.1.1.1.1.1.1.1.0.0
+overflow_mul-h-2 c = start_fits _ _ _ (hashes-end c) c.well_formed.1.1.1.1.1.1.1.1.0.0
 
 pub overflow_add-h : goal.overflow_add-h
-overflow_add-h c = end_fits _ _ _ (hashes-end c) c.well-formed.1.1.1.1.1.1.1.1.0.0
+overflow_add-h c = end_fits _ _ _ (hashes-end c) c.well_formed.1.1.1.1.1.1.1.1.0.0
 
 pub slice_bounds-convert-end-4 : goal.slice_bounds-convert-end-4
 slice_bounds-convert-end-4 c =
