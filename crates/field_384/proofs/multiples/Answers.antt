@@ -1,10 +1,11 @@
 use borrow.Author.Rules.{rules}
+use Rattle.std.proofs.Common.{List, Fits, w8, ◌≡◌}
 use mathlib.Core.Path.{refl, ap, ◌∙◌}
 use Prim.Native.Nat.{ℕ, ◌-◌, ◌*◌, ◌^◌, ◌<◌}
 use native.Mathlib.Omega.{arith}
 use lib.Bits.{bit_xor}
 use lib.Dec.{lit<, lit≤}
-use lib.ListN.{set, replicate}
+use lib.ListN.{length, get_or, set, replicate}
 use Rattle.spec.specs.Bytes.{number}
 use Rattle.spec.specs.Polynomials.{remainder}
 use Rattle.laws.proofs.Limbs.{number-below}
@@ -12,13 +13,14 @@ use Rattle.field_limbs.proofs.Products.{Entries, entries-first, entries_next}
 use Rattle.field_384.specs.Field.{p384}
 use Rattle.field_384.proofs.multiples.Goals as goal
 
-key-lt : (c : goal.After-shared-slice-known) → number 8 c.before.args.key.now < 2 ^ 384
-key-lt c = number-below 8 48 c.before.args.key.now c.before.requires (λ k. (c.shared-slice-known.given k).fits)
+-- an element of 48 bytes is below 2^384
+key-lt : (key : List ℕ) → length key ≡ 48 → ((k : ℕ) → Fits w8 (get_or key k 0)) → number 8 key < 2 ^ 384
+key-lt key e f = number-below 8 48 key e (λ k. (f k).fits)
 
 pub loop-d-init : goal.loop-d-init
 unfolding number
 loop-d-init c =
-    entries-first 384 p384 (lit≤ tt) (lit< tt) (number 8 c.args.key.now) (set (replicate 16 (replicate 12 0)) 1 c.padded.result) (key-lt c.before.before) refl refl
+    entries-first 384 p384 (lit≤ tt) (lit< tt) (number 8 c.args.key.now) (set (replicate 16 (replicate 12 0)) 1 c.padded.result) (key-lt c.args.key.now c.requires (search rules)) refl refl
     (c.padded.ensures ∙ c.element.ensures)
 
 pub loop-d-preserved : goal.loop-d-preserved
@@ -26,9 +28,9 @@ loop-d-preserved c =
     let l = c.loop-d in
     let e = c in
     let shifted = c.times_alpha in
-    entries_next 384 p384 (lit≤ tt) (lit< tt) (number 8 e.args.key.now) l.t l.d shifted.result c.padded-in-loop-d.result (key-lt e) (omega arith)
+    entries_next 384 p384 (lit≤ tt) (lit< tt) (number 8 e.args.key.now) l.t l.d shifted.result c.padded-in-loop-d.result (key-lt c.args.key.now c.requires (search rules)) (omega arith)
     (λ h. shifted.ensures ∙ ap (λ (x : ℕ). remainder 384 p384 1 (x * 2 ^ 1)) (c.limbs.ensures h))
     (λ h. c.padded-in-loop-d.ensures ∙ c.xor.ensures ∙ ap (bit_xor (number 64 shifted.result)) (c.limbs-in-loop-d.ensures h)) l.invariant
 
 pub returns : goal.returns
-returns c = record { degree = key-lt c.before.before.before.before; entry = λ d h. c.loop-d.invariant.3 d (omega arith) }
+returns c = record { degree = key-lt c.args.key.now c.requires (search rules); entry = λ d h. c.loop-d.invariant.3 d (omega arith) }
