@@ -8,34 +8,7 @@ use Rattle.spec.specs.Aes.{bytes_of}
 use Rattle.aes.specs.Rounded.{Rounded}
 use Rattle.aes.proofs.Rounds.{steps-round, rounded-none, rounded-more, rounded-cipher}
 use Rattle.aes.proofs.encrypt_pair.Goals as goal
-
--- where the branch ends, x and y are the states before the last round
-module _ (c : goal.Joined-n-gt-FEWEST) where
-  abbrev keys : List (List (List ℕ))
-  keys = c.before.before.before.before.before.before.before.args.keys.now
-
-  abbrev n : ℕ
-  n = c.before.before.before.before.before.before.before.args.n
-
-  before-last-x : (nk : ℕ) → n ≡ nk + 6 → Rounded nk keys c.before.before.before.before.before.add-round-key.result c.if1.x (n - 1)
-  before-last-x nk e =
-      let l = c.before.before.loop in
-      let nine : l.i - 1 ≡ 9 = omega arith in
-      let x = l.invariant.2 nk e in
-      ⊎_elim
-      (λ w. subst (λ (s : List (List ℕ)). Rounded nk keys c.before.before.before.before.before.add-round-key.result s (n - 1)) (sym w.3) (w.1.ensures nk _ e (rw nine at x)))
-      (λ w. let same : l.i - 1 ≡ n - 1 = omega (arith, w.0.left) in subst (λ (s : List (List ℕ)). Rounded nk keys c.before.before.before.before.before.add-round-key.result s (n - 1)) (sym w.1) (rw same at x))
-      c.if1.branch
-
-  before-last-y : (nk : ℕ) → n ≡ nk + 6 → Rounded nk keys c.before.before.before.add-round-key2.result c.if1.y (n - 1)
-  before-last-y nk e =
-      let l = c.before.before.loop in
-      let nine : l.i - 1 ≡ 9 = omega arith in
-      let y = l.invariant.3 nk e in
-      ⊎_elim
-      (λ w. subst (λ (s : List (List ℕ)). Rounded nk keys c.before.before.before.add-round-key2.result s (n - 1)) (sym w.4) (w.2.ensures nk _ e (rw nine at y)))
-      (λ w. let same : l.i - 1 ≡ n - 1 = omega (arith, w.0.left) in subst (λ (s : List (List ℕ)). Rounded nk keys c.before.before.before.add-round-key2.result s (n - 1)) (sym w.2) (rw same at y))
-      c.if1.branch
+use Rattle.aes.proofs.encrypt_pair.Goals.{then-n-gt-FEWEST, else-n-gt-FEWEST}
 
 pub loop-i-init : goal.loop-i-init
 loop-i-init c = (search rules, search rules, (λ nk e. rounded-none nk _ _), (λ nk e. rounded-none nk _ _))
@@ -55,9 +28,20 @@ loop-i-preserved c =
 pub returns : goal.returns
 returns c = λ nk key e keyed.
     let g = c.args in
-    let j = c in (
+    let l = c.loop-i in
+    let nine : l.i - 1 ≡ 9 = omega arith in
+    let before-last-x : Rounded nk g.keys.now c.add_round_key-x.result c.if-n-gt-FEWEST.x (g.n - 1) =
+    elim c.if-n-gt-FEWEST.branch [
+      | then-n-gt-FEWEST w ↦ subst (λ (s : List (List ℕ)). Rounded nk g.keys.now c.add_round_key-x.result s (g.n - 1)) (sym w.x-is) (w.later_rounds-c.ensures nk _ e (rw nine at (l.invariant.2 nk e)))
+      | else-n-gt-FEWEST w ↦ let same : l.i - 1 ≡ g.n - 1 = omega (arith, w.if-n-gt-FEWEST.false) in subst (λ (s : List (List ℕ)). Rounded nk g.keys.now c.add_round_key-x.result s (g.n - 1)) (sym w.x-is) (rw same at (l.invariant.2 nk e))
+    ] in
+    let before-last-y : Rounded nk g.keys.now c.add_round_key-y.result c.if-n-gt-FEWEST.y (g.n - 1) =
+    elim c.if-n-gt-FEWEST.branch [
+      | then-n-gt-FEWEST w ↦ subst (λ (s : List (List ℕ)). Rounded nk g.keys.now c.add_round_key-y.result s (g.n - 1)) (sym w.y-is) (w.later_rounds-d.ensures nk _ e (rw nine at (l.invariant.3 nk e)))
+      | else-n-gt-FEWEST w ↦ let same : l.i - 1 ≡ g.n - 1 = omega (arith, w.if-n-gt-FEWEST.false) in subst (λ (s : List (List ℕ)). Rounded nk g.keys.now c.add_round_key-y.result s (g.n - 1)) (sym w.y-is) (rw same at (l.invariant.3 nk e))
+    ] in (
       c.bytes_of.ensures
-          ∙ ap bytes_of (rounded-cipher nk g.keys.now _ _ _ _ g.n e c.add_round_key-x.ensures (before-last-x j nk e) c.last_round.ensures key keyed),
+          ∙ ap bytes_of (rounded-cipher nk g.keys.now _ _ _ _ g.n e c.add_round_key-x.ensures before-last-x c.last_round.ensures key keyed),
       c.bytes_of-2.ensures
-          ∙ ap bytes_of (rounded-cipher nk g.keys.now _ _ _ _ g.n e c.add_round_key-y.ensures (before-last-y j nk e) c.last_round-2.ensures key keyed),
+          ∙ ap bytes_of (rounded-cipher nk g.keys.now _ _ _ _ g.n e c.add_round_key-y.ensures before-last-y c.last_round-2.ensures key keyed),
     )
