@@ -1,7 +1,7 @@
 use borrow.Author.Rules.{rules}
-use Rattle.std.proofs.Common.{List, Fits, w8, ◌≡◌}
+use Rattle.std.proofs.Common.{ℕ, List, Fits, w8, ◌≡◌}
 use mathlib.Core.Path.{refl}
-use Prim.Native.Nat.{◌-◌, ◌^◌, ◌<◌}
+use Prim.Native.Nat.{◌-◌, ◌^◌, ◌<◌, ◌*◌}
 use native.Mathlib.Omega.{arith}
 use lib.Dec.{lit<, lit≤}
 use lib.ListN.{length, get_or, set, replicate}
@@ -29,4 +29,4 @@ loop-d-preserved c =
     (λ h. c.times_alpha.ensures) (λ h. c.xor.ensures) l.invariant
 
 pub returns : goal.returns
-returns c = record { degree = key-lt c.before.before.before; entry = λ d h. c.loop-d.invariant.3 d (omega arith) }
+returns c = record { degree = key-lt c.args.key.now c.requires (search rules); entry = λ d h. c.loop-d.invariant.3 d (omega arith) }

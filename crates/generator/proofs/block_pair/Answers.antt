@@ -10,7 +10,7 @@ pub returns-in-Two : goal.returns-in-Two
 returns-in-Two c =
     λ nk key e keyed.
     let a = c.args in
-    let v = c.enum_told-in-Two-1.given.1 in
+    let v = c.in-Two.is in
     let first = c.load_state-s.ensures in
     let pair = c.encrypt_pair.ensures nk key e keyed in (
       block-is nk key a.x a.n _ _ (counter-two _ _ _ _ _ _ v first c.add_to_words.ensures) pair.0,

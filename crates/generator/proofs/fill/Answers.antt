@@ -7,7 +7,7 @@ pub fill_keyed-requires : goal.fill_keyed-requires
 fill_keyed-requires c =
     let start = c in
     let p = start.requires.in_bounds in
-    (start.requires.sbox_table, (omega arith, omega arith, omega arith, p.3))
+    record { sbox_table = start.requires.sbox_table; le_rounds = (omega arith, omega arith, omega arith, p.3) }
 
 pub returns : goal.returns
 returns c = λ nk e.

@@ -10,27 +10,22 @@ use borrow.Author.Tests.{eq-eqb, ne_eqb}
 use Rattle.spec.specs.HostCalls.{word_bytes}
 use Rattle.host_words.proofs.put_list.Goals as goal
 
--- the part that is lent
-lent : (c : goal.Then-number-eq0)
-    → length (take c.args.n c.args.words.now) ≡ c.args.n
-lent c =
-    let st = c in
-    length-take-le st.args.n st.args.words.now (st.requires c.if-number-eq0.true).0
-
 pub slice_bounds-put_words-end : goal.slice_bounds-put_words-end
-slice_bounds-put_words-end c = sym (lent c.before)
+slice_bounds-put_words-end c =
+    let g = c.args in
+    sym (length-take-le g.n g.words.now (c.requires c.if-number-eq0.true).0)
 
 pub put_words-requires : goal.put_words-requires
 put_words-requires c =
-    let st = c in
-    omega (arith, lent c.before.before, (st.requires c.if-number-eq0.true).1)
+    let g = c.args in
+    let p = c.requires c.if-number-eq0.true in
+    omega (arith, length-take-le g.n g.words.now p.0, p.1)
 
 pub returns-then-number-eq0 : goal.returns-then-number-eq0
 returns-then-number-eq0 c =
-    let t = c in
-    let a = t.args in
-    rw (eq-eqb a.number 0 t.if-number-eq0.true)
-    (c.put_words.ensures ∙ ap (λ (k : ℕ). word_bytes (take a.n a.words.now) ++ drop (4 * k) a.out.now) (lent t))
+    let g = c.args in
+    rw (eq-eqb g.number 0 c.if-number-eq0.true)
+    (c.put_words.ensures ∙ ap (λ (k : ℕ). word_bytes (take g.n g.words.now) ++ drop (4 * k) g.out.now) (length-take-le g.n g.words.now (c.requires c.if-number-eq0.true).0))
 
 pub returns-else-number-eq0 : goal.returns-else-number-eq0
 returns-else-number-eq0 c = rw (ne_eqb c.args.number 0 c.if-number-eq0.false) refl

@@ -1,3 +1,4 @@
+use mathlib.Core.List.{List}
 use Prim.Native.Nat.{ℕ, ◌-◌, ◌≤◌, ◌<◌}
 use mathlib.Core.Path.{◌≡◌, sym, ap, ◌∙◌}
 use native.Mathlib.Omega.{arith}
@@ -8,16 +9,10 @@ use Rattle.listing_line.specs.Line.{digit_run, decimal_from, number_of}
 use Rattle.listing_line.proofs.Numbers.{digit-bounds, run-digits, value-more, value-small}
 use Rattle.listing_line.proofs.number_of.Goals as goal
 
--- in the loop: the number so far is small, and the next byte is a digit
-known : (c : goal.In-loop-i) → (c.loop-i.v < 10000)
-    × (48 ≤ get_or c.args.text.now c.loop-i.i 0)
-    × (get_or c.args.text.now c.loop-i.i 0 ≤ 57)
-known c =
-    let st = c in
-    let l = c.loop-i in
-    let h : l.i < digit_run st.args.text.now = rw c.digit_run-n.ensures.0 at c.loop-i-test.true in
-    let d = digit-bounds (get_or st.args.text.now l.i 0) (run-digits _ _ h) in
-    (rw l.invariant.1 (value-small _ _ st.requires h), d.0, d.1)
+-- before digit i of the run at the front of a text, the number v so far is small, and the digit is one
+known : (text : List ℕ) (v i : ℕ) → digit_run text ≤ 5 → v ≡ decimal_from 0 (take i text) → i < digit_run text
+    → (v < 10000) × (48 ≤ get_or text i 0) × (get_or text i 0 ≤ 57)
+known text v i short e h = (let d = digit-bounds (get_or text i 0) (run-digits _ _ h) in (rw e (value-small _ _ short h), d.0, d.1))
 
 pub digit_run-n-requires : goal.digit_run-n-requires
 digit_run-n-requires c = tt
@@ -27,19 +22,19 @@ unfolding decimal_from
 loop-i-init c = search rules
 
 pub overflow_mul-v : goal.overflow_mul-v
-overflow_mul-v c = omega (arith, known c)
+overflow_mul-v c = omega (arith, known c.args.text.now c.loop-i.v c.loop-i.i c.requires c.loop-i.invariant.1 (rw c.digit_run-n.ensures.0 at c.loop-i-test.true))
 
 pub bounds-text-i : goal.bounds-text-i
 bounds-text-i c = omega arith
 
 pub overflow_sub-v : goal.overflow_sub-v
-overflow_sub-v c = (known c.before).1
+overflow_sub-v c = (known c.args.text.now c.loop-i.v c.loop-i.i c.requires c.loop-i.invariant.1 (rw c.digit_run-n.ensures.0 at c.loop-i-test.true)).1
 
 pub overflow_cast-v : goal.overflow_cast-v
-overflow_cast-v c = omega (arith, known c.before)
+overflow_cast-v c = omega (arith, known c.args.text.now c.loop-i.v c.loop-i.i c.requires c.loop-i.invariant.1 (rw c.digit_run-n.ensures.0 at c.loop-i-test.true))
 
 pub overflow_add-v : goal.overflow_add-v
-overflow_add-v c = omega (arith, known c.before)
+overflow_add-v c = omega (arith, known c.args.text.now c.loop-i.v c.loop-i.i c.requires c.loop-i.invariant.1 (rw c.digit_run-n.ensures.0 at c.loop-i-test.true))
 
 pub overflow_add-i : goal.overflow_add-i
 overflow_add-i c = omega arith
