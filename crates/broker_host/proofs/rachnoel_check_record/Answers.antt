@@ -19,7 +19,7 @@ give-requires c h =
     let p = k.passed_on-n in
     let g = k.args in
     let n = c.answer-given.ensures.0 ∙ c.counting_number.ensures in
-    checked-sized _ (record { tree = g.tree.now; leaf_commitments = g.leaf-commitments.now; q = g.q.now }) g.count.now p.result p.ensures.0 _ _ k.check_record-a.ensures
+    checked-sized _ (record { tree = g.tree.now; leaf_commitments = g.leaf_commitments.now; q = g.q.now }) g.count.now p.result p.ensures.0 _ _ k.check_record-a.ensures
     (sym (ap count_given n) ∙ h)
 
 pub returns : goal.returns

@@ -41,6 +41,6 @@ returns c =
     record {
       number =
           rw (passed (sh.is_shape.ensures ∙ ap shape_ok sh.resolve-s.ensures) ro.if-not-is_shape.false, passed ro.is_row_length.ensures c.if-not-is_row_length.false) refl;
-      bytes = c.record_length.ensures.0 ∙ ap (λ s. record_bytes s (sh.args.row-bits / 8)) sh.resolve-s.ensures;
+      bytes = c.record_length.ensures.0 ∙ ap (λ s. record_bytes s (sh.args.row_bits / 8)) sh.resolve-s.ensures;
       most = c.record_length.ensures.1;
     }

@@ -17,7 +17,7 @@ returns c =
     let f₀ = f₁ in
     let start = f₀ in
     let g = start.args in
-    let said : Contents = record { shape = g.shape; row = g.row-bits; iv = g.iv.now; challenge = g.challenge.now; corrections = g.corrections.now; opening = g.opening.now; commitment = g.commitment.now } in
+    let said : Contents = record { shape = g.shape; row = g.row_bits; iv = g.iv.now; challenge = g.challenge.now; corrections = g.corrections.now; opening = g.opening.now; commitment = g.commitment.now } in
     let same : length f₅.put_field.new.out ≡ length g.«record».now = omega arith in
     put_whole
     (put_record said _ _ _ _ _ f₀.put_front-two.ensures.0 f₁.put_field-three.ensures.0 f₂.put_field-four.ensures.0 f₃.put_field-five.ensures.0 f₄.put_field-six.ensures.0 f₀.put_front-two.ensures.1

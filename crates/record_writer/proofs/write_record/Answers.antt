@@ -38,7 +38,7 @@ write_fields-requires c =
     let sh = ft in
     let g = sh.args in (
       sym (ap shape_ok sh.resolve-s.ensures) ∙ passed sh.is_shape.ensures ft.if-not-is_shape.false,
-      room sh.resolve-s.result (record { shape = g.shape; row = g.row-bits; iv = g.iv.now; challenge = g.challenge.now; corrections = g.corrections.now; opening = g.opening.now; commitment = g.commitment.now })
+      room sh.resolve-s.result (record { shape = g.shape; row = g.row_bits; iv = g.iv.now; challenge = g.challenge.now; corrections = g.corrections.now; opening = g.opening.now; commitment = g.commitment.now })
           g.«record».now sh.resolve-s.ensures (passed ft.write_lengths.ensures c.if-not-write_lengths.false),
     )
 

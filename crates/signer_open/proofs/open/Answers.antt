@@ -39,7 +39,7 @@ write_slots-requires c =
     let front = answer.ensures.1 passed.if-r-ne0.false (rw length-replicate (omega arith)) in
     let within = p.3 in
     let low = in_tree _ _ _ _ p.2 front p.0 in
-    ((p.0, l.1.0, hidden.write_hidden.auto.out ∙ l.1.1.1.0), (omega arith, omega arith, λ m h. low m (omega arith)))
+    record { s_value = (p.0, l.1.0, hidden.write_hidden.auto.out ∙ l.1.1.1.0); n_le_t = (omega arith, omega arith, λ m h. low m (omega arith)) }
 
 pub returns : goal.returns
 returns c =
