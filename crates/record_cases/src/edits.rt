@@ -181,13 +181,7 @@ fn edited(
 }
 
 // An edit with each from it on.
-fn row(
-    rt: &impl Print,
-    bytes: &mut [u8; 512],
-    n: usize,
-    first: usize,
-    l: Lengths,
-) -> io::Result<()>
+fn row(rt: &impl Print, bytes: &mut [u8; 512], n: usize, first: usize, l: Lengths) -> io::Result<()>
     requires { first ≤ 12 }
 {
     for second in first..12 {

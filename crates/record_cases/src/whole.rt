@@ -52,7 +52,12 @@ pub fn check(
     if r.number == 0 {
         print_buffer(rt, b"record ", bytes, n)?;
         print_buffer(rt, b"tree ", tree, l.tree)?;
-        print_buffer(rt, b"leaf_commitments ", leaf_commitments, l.leaf_commitments)?;
+        print_buffer(
+            rt,
+            b"leaf_commitments ",
+            leaf_commitments,
+            l.leaf_commitments,
+        )?;
         print_buffer(rt, b"q ", q, l.q)?;
     }
     Ok(())
@@ -68,5 +73,8 @@ pub fn check_named(
     q: &mut [u8],
 ) -> io::Result<()> {
     let l = broker::work_lengths(front(bytes, n));
-    print_answer(rt, call_named(front(bytes, n), l, tree, leaf_commitments, q))
+    print_answer(
+        rt,
+        call_named(front(bytes, n), l, tree, leaf_commitments, q),
+    )
 }

@@ -28,7 +28,12 @@ pub fn is_version(n: usize) -> bool {
 }
 
 // VERSION TAU K W T LEVEL KIND ROWBITS ROOT IV CHALLENGE, and FLIP where a byte of the opening is flipped.
-pub fn calls(rt: &(impl Print + AllocGlobal), file: &[u8], l: Line, flipped: bool) -> io::Result<bool> {
+pub fn calls(
+    rt: &(impl Print + AllocGlobal),
+    file: &[u8],
+    l: Line,
+    flipped: bool,
+) -> io::Result<bool> {
     let n = read_numbers(file, l, 8);
     let v = n.values;
     let behind_numbers = n.rest;
@@ -57,7 +62,12 @@ pub fn stretch(rt: &(impl Print + AllocGlobal), file: &[u8], l: Line) -> io::Res
     if !(ended(rest) & (v[0] == 2)) {
         return Ok(false);
     }
-    vectors_calls::run_case(rt, exact(2, shape_behind(v), part(v[7], v[8], v[9])), x, NONE)?;
+    vectors_calls::run_case(
+        rt,
+        exact(2, shape_behind(v), part(v[7], v[8], v[9])),
+        x,
+        NONE,
+    )?;
     Ok(true)
 }
 
@@ -80,7 +90,12 @@ pub fn list(rt: &impl Print, file: &[u8], l: Line, decoded: bool) -> io::Result<
 }
 
 // VERSION TAU K W T LEVEL KIND ROWBITS ROOT IV CHALLENGE, with the version of the record: 1, or that in which the shape is written.
-pub fn record(rt: &(impl Print + AllocGlobal), file: &[u8], l: Line, form: usize) -> io::Result<bool> {
+pub fn record(
+    rt: &(impl Print + AllocGlobal),
+    file: &[u8],
+    l: Line,
+    form: usize,
+) -> io::Result<bool> {
     let n = read_numbers(file, l, 8);
     let v = n.values;
     let behind_numbers = n.rest;

@@ -34,7 +34,12 @@ fn run_line(rt: &(impl Print + AllocGlobal), file: &[u8], l: Line) -> io::Result
 }
 
 // The same of records and probes.
-fn run_other(rt: &(impl Print + AllocGlobal), file: &[u8], l: Line, rest: Line) -> io::Result<bool> {
+fn run_other(
+    rt: &(impl Print + AllocGlobal),
+    file: &[u8],
+    l: Line,
+    rest: Line,
+) -> io::Result<bool> {
     if case_text::is_word(file, l, b"record") {
         return forms::record(rt, file, rest, record_cases::WHOLE);
     }

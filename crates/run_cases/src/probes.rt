@@ -45,7 +45,11 @@ fn on_commit(rt: &impl Print, file: &[u8], l: Line, of_stretch: bool) -> io::Res
         )?;
     } else {
         let rows = whole(v[7]);
-        probe_commit(rt, exact(v[0], shape_behind(v), rows), probe(0, v[8], v[9], 0))?;
+        probe_commit(
+            rt,
+            exact(v[0], shape_behind(v), rows),
+            probe(0, v[8], v[9], 0),
+        )?;
     }
     Ok(true)
 }

@@ -109,7 +109,10 @@ pub fn probe_commit(rt: &impl Print, c: Call, p: Probe) -> io::Result<()> {
     );
     print_answer(rt, r)?;
     let front_kept = is_kept(&commitment) & is_kept(&tree) & is_kept(&leaf_commitments);
-    kept(rt, front_kept & is_kept(&u) & is_kept(&v) & is_kept(&corrections))
+    kept(
+        rt,
+        front_kept & is_kept(&u) & is_kept(&v) & is_kept(&corrections),
+    )
 }
 
 // Open.
