@@ -2,7 +2,7 @@
 // standard error.
 #![tactic(auto)]
 
-ghost use Rattle.std.specs.Prelude.{◌≤◌, length, IfOk};
+ghost use Rattle.std.specs.Prelude.{◌≡◌, ◌≤◌, length, take, IfOk, IfSome};
 
 use std::env::FillError;
 use std::io::Read;
@@ -32,17 +32,19 @@ pub fn has_arguments(rt: &impl Env) -> bool {
     !matches!(rt.arg(1, &mut argument), Err(FillError::NotPresent))
 }
 
-// Reads until the buffer is full or the input ends, and answers how many bytes of the buffer were read.
-pub fn read_start(input: &mut impl Read, buffer: &mut [u8]) -> Result<usize, Failure>
-    ensures { IfOk result (λ n. n ≤ length buffer.new) }
+// Reads until the buffer is full or the input ends, and answers how many bytes of the buffer were read: the first bytes of the input, all that it has or as many as the
+// buffer has room for.
+pub fn read_start<R: Read>(input: &mut R, buffer: &mut [u8]) -> Result<usize, Failure>
+    ensures within { IfOk result (λ n. n ≤ length buffer.new) }
+    ensures bytes { IfOk result (λ n. IfSome (R.remaining input.old) (λ xs. take n buffer.new ≡ take (length buffer.old) xs)) }
 {
     let mut n = 0;
     while n < buffer.len() {
-        let more = input.read(&mut buffer[n..]).map_err(Failure::Input)?;
-        if more == 0 {
-            break;
+        match input.read(&mut buffer[n..]) {
+            Ok(0) => break,
+            Ok(more) => n += more,
+            Err(e) => return Err(Failure::Input(e)),
         }
-        n += more;
     }
     Ok(n)
 }
