@@ -66,12 +66,10 @@ pub fn is_comment(text: &[u8], l: Line) -> bool {
 fn word_end(text: &[u8], l: Line) -> usize
     ensures { result ≤ l.end }
 {
-    let mut i = l.at;
-    while i < l.end {
+    for i in l.at..l.end {
         if byte(text, i) == 32 {
             return i;
         }
-        i += 1;
     }
     l.end
 }
@@ -138,12 +136,10 @@ pub fn read_number(text: &[u8], l: Line) -> Number {
     let to = word_end(text, l);
     let mut ok = l.at < to;
     let mut value = 0;
-    let mut i = l.at;
-    while i < to {
+    for i in l.at..to {
         let g = with_digit(value, digit(byte(text, i)));
         value = g.value;
         ok = ok & g.ok;
-        i += 1;
     }
     Number {
         value,
@@ -157,8 +153,7 @@ pub fn read_bytes(text: &[u8], l: Line) -> Bytes {
     let mut ok = true;
     let mut out = [0u8; 32];
     let mut digits = 0;
-    let mut i = l.at;
-    while i < to {
+    for i in l.at..to {
         let d = digit(byte(text, i));
         ok = ok & (d < 16);
         let at = digits / 2;
@@ -168,7 +163,6 @@ pub fn read_bytes(text: &[u8], l: Line) -> Bytes {
             ok = false;
         }
         digits += 1;
-        i += 1;
     }
     let whole = (0 < digits) & (digits % 2 == 0);
     Bytes {
@@ -227,5 +221,5 @@ pub fn first_bytes(bytes: &[u8; 32], n: usize) -> &[u8] {
 
 // Whether the next word is this one.
 pub fn is_word(text: &[u8], l: Line, name: &[u8]) -> bool {
-    check::same(part(text, l.at, word_end(text, l)), name)
+    part(text, l.at, word_end(text, l)) == name
 }

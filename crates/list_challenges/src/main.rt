@@ -5,43 +5,34 @@
 ghost use Rattle.enumeration.specs.Pieces.{Readable};
 
 use enumeration::Reading;
-use libc::{STDERR_FILENO, STDIN_FILENO, STDOUT_FILENO};
+use program_streams::{Failure, ended, has_arguments, read_start, used_otherwise, write};
+use std::process::ExitCode;
 
-// Writes every piece, or stops at the first that cannot be written and answers false.
-fn write_pieces(r: Reading) -> bool
+// Writes every piece, or stops at the first that cannot be written.
+fn write_pieces(rt: &impl Print, r: Reading) -> Result<(), Failure>
     requires { Readable r }
 {
-    let n = enumeration::piece_count(r);
-    let mut out = io::large_buffer();
-    let mut i = 0;
-    while i < n {
+    let mut out = [0u8; 65536];
+    for i in 0..enumeration::piece_count(r) {
         let m = enumeration::put_piece(r, i, &mut out);
-        if !io::write_all(STDOUT_FILENO, &out[..m]) {
-            return false;
-        }
-        i += 1;
+        write(rt, &out[..m])?;
     }
-    true
+    Ok(())
 }
 
-fn main() {
-    // with arguments it does not wait for input: a line of usage, and nothing on standard output
-    if os::arg_count() > 1 {
-        io::write_all(
-            STDERR_FILENO,
-            b"usage: list_challenges < LINE, which has tau, k, w and T; it takes no arguments\n",
-        );
-        return;
-    }
+fn list(rt: &(impl Input + Print)) -> Result<(), Failure> {
     let mut input = [0u8; 64];
-    let n = io::read_full(STDIN_FILENO, &mut input);
-    // errno is 0 when a program starts; of the calls up to here only a read that failed can have set it
-    if os::errno() != 0 {
-        os::fail(b"list_challenges: standard input");
-        return;
+    let n = read_start(&mut rt.reader(), &mut input)?;
+    write_pieces(rt, enumeration::read_start(input, n))
+}
+
+fn main(rt: HostRuntime) -> ExitCode {
+    // with arguments it does not wait for input: a line of usage, and nothing on standard output
+    if has_arguments(&rt) {
+        return used_otherwise(
+            &rt,
+            "usage: list_challenges < LINE, which has tau, k, w and T; it takes no arguments",
+        );
     }
-    let r = enumeration::read_start(input, n);
-    if !write_pieces(r) {
-        os::fail(b"list_challenges: standard output");
-    }
+    ended(&rt, "list_challenges", list(&rt))
 }

@@ -1,84 +1,79 @@
 // A small record that is changed and checked. The check is printed in a few characters: number, slash, count, and a plus where a byte of a work buffer was written,
 // otherwise a minus.
-ghost use Rattle.std.specs.Prelude.{◌≤◌, ◌<◌};
+ghost use Rattle.std.specs.Prelude.{◌≤◌, ◌<◌, length};
 
 use crate::whole::call_check;
 use record::Lengths;
+use std::io;
 use test_support::lengths::at_most;
 use test_support::parts::front;
 use test_support::print::{decimal, text};
 use vectors_probes::is_kept;
 
 // Checks a record, lent work buffers of these lengths with 0xa5 in each byte.
-fn verdict(record: &[u8], l: Lengths) {
+fn verdict(rt: &impl Print, record: &[u8], l: Lengths) -> io::Result<()> {
     let mut tree = [0xa5u8; 512];
     let mut leaf_commitments = [0xa5u8; 512];
     let mut q = [0xa5u8; 512];
     let r = call_check(record, l, &mut tree, &mut leaf_commitments, &mut q);
-    text(b" ");
-    decimal(r.number);
-    text(b"/");
-    decimal(r.count);
+    text(rt, b" ")?;
+    decimal(rt, r.number)?;
+    text(rt, b"/")?;
+    decimal(rt, r.count)?;
     if is_kept(&tree) & is_kept(&leaf_commitments) & is_kept(&q) {
-        text(b"-");
+        text(rt, b"-")
     } else {
-        text(b"+");
+        text(rt, b"+")
     }
 }
 
 // The first 512 bytes of a buffer.
-pub fn small(bytes: &[u8; 273600]) -> [u8; 512] {
+pub fn small(bytes: &[u8]) -> [u8; 512]
+    requires { 512 ≤ length bytes.now }
+{
     let mut out = [0u8; 512];
-    let mut i = 0;
-    while i < 512 {
-        out[i] = bytes[i];
-        i += 1;
-    }
+    out.copy_from_slice(&bytes[..512]);
     out
 }
 
 // Every prefix of the first n bytes.
-pub fn prefixes(bytes: &[u8; 512], n: usize)
+pub fn prefixes(rt: &impl Print, bytes: &[u8; 512], n: usize) -> io::Result<()>
     requires { n < 512 }
 {
     let l = broker::work_lengths(front(bytes, n));
-    let mut i = 0;
-    while i < n {
-        text(b"prefix ");
-        decimal(i);
-        verdict(front(bytes, i), l);
-        text(b"\n");
-        i += 1;
+    for i in 0..n {
+        text(rt, b"prefix ")?;
+        decimal(rt, i)?;
+        verdict(rt, front(bytes, i), l)?;
+        text(rt, b"\n")?;
     }
+    Ok(())
 }
 
 // Byte i with each of its bits flipped.
-fn flip(bytes: &mut [u8; 512], n: usize, i: usize, l: Lengths)
+fn flip(rt: &impl Print, bytes: &mut [u8; 512], n: usize, i: usize, l: Lengths) -> io::Result<()>
     requires { i < 512 }
 {
-    let bits = [1u8, 2, 4, 8, 16, 32, 64, 128];
-    let mut j = 0;
-    while j < 8 {
-        bytes[i] = bytes[i] ^ bits[j];
-        verdict(front(bytes, n), l);
-        bytes[i] = bytes[i] ^ bits[j];
-        j += 1;
+    for bit in [1u8, 2, 4, 8, 16, 32, 64, 128] {
+        bytes[i] ^= bit;
+        verdict(rt, front(bytes, n), l)?;
+        bytes[i] ^= bit;
     }
+    Ok(())
 }
 
 // Each bit of the first n bytes flipped.
-pub fn flips(bytes: &mut [u8; 512], n: usize)
+pub fn flips(rt: &impl Print, bytes: &mut [u8; 512], n: usize) -> io::Result<()>
     requires { n < 512 }
 {
     let l = broker::work_lengths(front(bytes, n));
-    let mut i = 0;
-    while i < n {
-        text(b"byte ");
-        decimal(i);
-        flip(bytes, n, i, l);
-        text(b"\n");
-        i += 1;
+    for i in 0..n {
+        text(rt, b"byte ")?;
+        decimal(rt, i)?;
+        flip(rt, bytes, n, i, l)?;
+        text(rt, b"\n")?;
     }
+    Ok(())
 }
 
 // ---- edits: 0 of the version, 1 of the length of the first field, 2 of tau, 3 of the row length, 4 of the length of the IV, 5 a byte left over, 6, 7, 8 of the lengths
@@ -157,7 +152,14 @@ fn length(n: usize, first: usize, second: usize, less: usize, more: usize) -> us
 const NONE: usize = 99;
 
 // The record with two edits, or one where both are the same.
-fn edited(bytes: &mut [u8; 512], n: usize, first: usize, second: usize, l: Lengths) {
+fn edited(
+    rt: &impl Print,
+    bytes: &mut [u8; 512],
+    n: usize,
+    first: usize,
+    second: usize,
+    l: Lengths,
+) -> io::Result<()> {
     let other = if first == second { NONE } else { second };
     let head = wide(bytes[4]);
     make(first, head, n, bytes);
@@ -168,33 +170,36 @@ fn edited(bytes: &mut [u8; 512], n: usize, first: usize, second: usize, l: Lengt
         leaf_commitments: length(l.leaf_commitments, first, other, NONE + 1, 7),
         q: length(l.q, first, other, 8, NONE + 1),
     };
-    verdict(front(bytes, length(n, first, other, NONE + 1, 5)), changed);
+    verdict(
+        rt,
+        front(bytes, length(n, first, other, NONE + 1, 5)),
+        changed,
+    )?;
     make(other, head, n, bytes);
     make(first, head, n, bytes);
+    Ok(())
 }
 
 // An edit with each from it on.
-fn row(bytes: &mut [u8; 512], n: usize, first: usize, l: Lengths)
+fn row(rt: &impl Print, bytes: &mut [u8; 512], n: usize, first: usize, l: Lengths) -> io::Result<()>
     requires { first ≤ 12 }
 {
-    let mut second = first;
-    while second < 12 {
-        edited(bytes, n, first, second, l);
-        second += 1;
+    for second in first..12 {
+        edited(rt, bytes, n, first, second, l)?;
     }
+    Ok(())
 }
 
 // Each edit, and every two of them.
-pub fn pairs(bytes: &mut [u8; 512], n: usize)
+pub fn pairs(rt: &impl Print, bytes: &mut [u8; 512], n: usize) -> io::Result<()>
     requires { n < 512 }
 {
     let l = broker::work_lengths(front(bytes, n));
-    let mut first = 0;
-    while first < 12 {
-        text(b"edit ");
-        decimal(first);
-        row(bytes, n, first, l);
-        text(b"\n");
-        first += 1;
+    for first in 0..12 {
+        text(rt, b"edit ")?;
+        decimal(rt, first)?;
+        row(rt, bytes, n, first, l)?;
+        text(rt, b"\n")?;
     }
+    Ok(())
 }

@@ -2,12 +2,13 @@
 // prints.
 #![tactic(auto)]
 
-ghost use Rattle.std.specs.Prelude.{◌<◌};
+ghost use Rattle.std.specs.Prelude.{◌<◌, ◌≤◌, length};
 
 mod edits;
 mod made;
 mod whole;
 
+use std::io;
 use test_support::lengths::at_most;
 use vectors_calls::{Call, Inputs, print_answer};
 
@@ -24,28 +25,26 @@ pub const PAIRS: usize = 3;
 pub const NAMED: usize = 4;
 
 // The record in one of the forms that change it.
-fn change(record: [u8; 512], n: usize, form: usize)
+fn change(rt: &impl Print, record: [u8; 512], n: usize, form: usize) -> io::Result<()>
     requires { n < 512 }
 {
     let mut bytes = record;
     if form == PREFIXES {
-        edits::prefixes(&bytes, n);
+        edits::prefixes(rt, &bytes, n)
     } else if form == FLIPS {
-        edits::flips(&mut bytes, n);
+        edits::flips(rt, &mut bytes, n)
     } else {
-        edits::pairs(&mut bytes, n);
+        edits::pairs(rt, &mut bytes, n)
     }
 }
 
 // The bytes of a version 1 record in the place of those of version 2: the first field has no level, and what is behind it stands a byte before.
-fn to_version_1(bytes: &mut [u8; 273600]) {
+fn to_version_1(bytes: &mut [u8])
+    requires { 15 ≤ length bytes.old }
+{
     bytes[0] = 1;
     bytes[4] = 9;
-    let mut i = 14;
-    while i + 1 < 273600 {
-        bytes[i] = bytes[i + 1];
-        i += 1;
-    }
+    bytes.copy_within(15.., 14);
 }
 
 // The length of a record that is written, or of the same in version 1.
@@ -58,13 +57,31 @@ fn length_of(n: usize, first: bool) -> usize {
     n
 }
 
+// The bytes of a buffer that a record is written to.
+const RECORD: usize = 273600;
+
 // A case of a record, of version 1 where `first` is true. Where a call before the check is refused, and the record is meant as it is, its answer is printed.
-pub fn run_record(c: Call, x: Inputs, form: usize, first: bool) {
-    let mut tree = [0xa5u8; 1310704];
-    let mut leaf_commitments = [0xa5u8; 1966080];
-    let mut v = [0xa5u8; 1048576];
-    let mut bytes = [0u8; 273600];
-    let r = made::make(c, x, &mut tree, &mut leaf_commitments, &mut v, &mut bytes);
+pub fn run_record(
+    rt: &(impl Print + AllocGlobal),
+    c: Call,
+    x: Inputs,
+    form: usize,
+    first: bool,
+) -> io::Result<()> {
+    let alloc = rt.alloc();
+    let mut tree = vec![in alloc; 0xa5u8; 1310704]?;
+    let mut leaf_commitments = vec![in alloc; 0xa5u8; 1966080]?;
+    let mut v = vec![in alloc; 0xa5u8; 1048576]?;
+    let mut bytes = vec![in alloc; 0u8; RECORD]?;
+    let r = made::make(
+        alloc,
+        c,
+        x,
+        &mut tree,
+        &mut leaf_commitments,
+        &mut v,
+        &mut bytes,
+    )?;
     let n = length_of(
         record_writer::record_length(c.shape, c.rows.bits).bytes,
         first,
@@ -73,16 +90,13 @@ pub fn run_record(c: Call, x: Inputs, form: usize, first: bool) {
         to_version_1(&mut bytes);
     }
     if (form != WHOLE) & (form != NAMED) {
-        change(edits::small(&bytes), at_most(n, 511), form);
-        return;
+        return change(rt, edits::small(&bytes), at_most(n, 511), form);
     }
     if r.number != 0 {
-        print_answer(r);
-        return;
+        return print_answer(rt, r);
     }
     if form == NAMED {
-        whole::check_named(&bytes, n, &mut tree, &mut leaf_commitments, &mut v);
-        return;
+        return whole::check_named(rt, &bytes, n, &mut tree, &mut leaf_commitments, &mut v);
     }
-    whole::check(&bytes, n, &mut tree, &mut leaf_commitments, &mut v);
+    whole::check(rt, &bytes, n, &mut tree, &mut leaf_commitments, &mut v)
 }

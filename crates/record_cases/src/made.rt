@@ -1,15 +1,16 @@
 // The record of a case: commit and open, and what they wrote written as a record.
 use case_text::first_bytes;
 use spec::Answer;
+use std::alloc::{AllocError, Global};
 use test_support::parts::{front, front_mut};
 use vectors_calls::{Call, Inputs};
 
 fn write_made(
     c: Call,
     x: Inputs,
-    corrections: &[u8; 253952],
-    opening: &[u8; 19456],
-    commitment: &[u8; 64],
+    corrections: &[u8],
+    opening: &[u8],
+    commitment: &[u8],
     out: &mut [u8],
 ) -> Answer {
     let n = record_writer::record_length(c.shape, c.rows.bits);
@@ -31,19 +32,20 @@ fn write_made(
 // Writes the record to the front of the buffer, and lends the tree, the leaf commitments and V of commit. The answer is that of the first call that is refused, or of the
 // last. Where open is refused, the record is written with zeros for an opening.
 pub fn make(
+    alloc: Global,
     c: Call,
     x: Inputs,
-    tree: &mut [u8; 1310704],
-    leaf_commitments: &mut [u8; 1966080],
-    v: &mut [u8; 1048576],
-    out: &mut [u8; 273600],
-) -> Answer {
+    tree: &mut [u8],
+    leaf_commitments: &mut [u8],
+    v: &mut [u8],
+    out: &mut [u8],
+) -> Result<Answer, AllocError> {
     let root = x.root.bytes;
     let iv = x.iv.bytes;
     let challenge = x.challenge.bytes;
     let mut commitment = [0u8; 64];
     let mut u = [0u8; 8192];
-    let mut corrections = [0u8; 253952];
+    let mut corrections = vec![in alloc; 0u8; 253952]?;
     let mut opening = [0u8; 19456];
     let made = vectors_calls::call_commit(
         c,
@@ -57,7 +59,7 @@ pub fn make(
         &mut corrections,
     );
     if made.number != 0 {
-        return made;
+        return Ok(made);
     }
     let opened = vectors_calls::call_open(
         c,
@@ -68,7 +70,7 @@ pub fn make(
     );
     let wrote = write_made(c, x, &corrections, &opening, &commitment, out);
     if opened.number != 0 {
-        return opened;
+        return Ok(opened);
     }
-    wrote
+    Ok(wrote)
 }

@@ -1,6 +1,7 @@
 // The check of a whole record, and the check for named sets alone.
 use record::Lengths;
 use spec::Answer;
+use std::io;
 use test_support::parts::{front, front_mut};
 use vectors_calls::{print_answer, print_buffer};
 
@@ -38,31 +39,42 @@ fn call_named(
 
 // Checks the first n bytes, and prints them with the work buffers where they are accepted.
 pub fn check(
-    bytes: &[u8; 273600],
+    rt: &impl Print,
+    bytes: &[u8],
     n: usize,
-    tree: &mut [u8; 1310704],
-    leaf_commitments: &mut [u8; 1966080],
-    q: &mut [u8; 1048576],
-) {
+    tree: &mut [u8],
+    leaf_commitments: &mut [u8],
+    q: &mut [u8],
+) -> io::Result<()> {
     let l = broker::work_lengths(front(bytes, n));
     let r = call_check(front(bytes, n), l, tree, leaf_commitments, q);
-    print_answer(r);
+    print_answer(rt, r)?;
     if r.number == 0 {
-        print_buffer(b"record ", bytes, n);
-        print_buffer(b"tree ", tree, l.tree);
-        print_buffer(b"leaf_commitments ", leaf_commitments, l.leaf_commitments);
-        print_buffer(b"q ", q, l.q);
+        print_buffer(rt, b"record ", bytes, n)?;
+        print_buffer(rt, b"tree ", tree, l.tree)?;
+        print_buffer(
+            rt,
+            b"leaf_commitments ",
+            leaf_commitments,
+            l.leaf_commitments,
+        )?;
+        print_buffer(rt, b"q ", q, l.q)?;
     }
+    Ok(())
 }
 
 // Checks the first n bytes for named sets alone, and prints the answer.
 pub fn check_named(
-    bytes: &[u8; 273600],
+    rt: &impl Print,
+    bytes: &[u8],
     n: usize,
-    tree: &mut [u8; 1310704],
-    leaf_commitments: &mut [u8; 1966080],
-    q: &mut [u8; 1048576],
-) {
+    tree: &mut [u8],
+    leaf_commitments: &mut [u8],
+    q: &mut [u8],
+) -> io::Result<()> {
     let l = broker::work_lengths(front(bytes, n));
-    print_answer(call_named(front(bytes, n), l, tree, leaf_commitments, q));
+    print_answer(
+        rt,
+        call_named(front(bytes, n), l, tree, leaf_commitments, q),
+    )
 }

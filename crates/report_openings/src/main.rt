@@ -2,27 +2,24 @@
 // on standard error, and nothing is reported: a report of half an input would look whole.
 #![tactic(auto)]
 
-use libc::{STDERR_FILENO, STDIN_FILENO, STDOUT_FILENO};
+use program_streams::{Failure, ended, has_arguments, read_start, used_otherwise, write};
+use std::process::ExitCode;
 
-fn main() {
-    // with arguments it does not wait for input: a line of usage, and nothing on standard output
-    if os::arg_count() > 1 {
-        io::write_all(
-            STDERR_FILENO,
-            b"usage: report_openings < RECORDS; it takes no arguments\n",
-        );
-        return;
-    }
+fn report(rt: &(impl Input + Print)) -> Result<(), Failure> {
     let mut input = [0u8; 65537];
-    let n = io::read_full(STDIN_FILENO, &mut input);
-    // errno is 0 when a program starts; of the calls up to here only a read that failed can have set it
-    if os::errno() != 0 {
-        os::fail(b"report_openings: standard input");
-        return;
-    }
+    let n = read_start(&mut rt.reader(), &mut input)?;
     let mut out = [0u8; 65600];
     let m = report::report(&input[..n], &mut out);
-    if !io::write_all(STDOUT_FILENO, &out[..m]) {
-        os::fail(b"report_openings: standard output");
+    write(rt, &out[..m])
+}
+
+fn main(rt: HostRuntime) -> ExitCode {
+    // with arguments it does not wait for input: a line of usage, and nothing on standard output
+    if has_arguments(&rt) {
+        return used_otherwise(
+            &rt,
+            "usage: report_openings < RECORDS; it takes no arguments",
+        );
     }
+    ended(&rt, "report_openings", report(&rt))
 }

@@ -3,12 +3,23 @@
 #![tactic(auto)]
 
 use spec::Shape;
+use std::io;
 use test_support::lengths::{part, whole};
 use test_support::parts::words;
 
 // The round trip of a shape, a row length and a challenge, of which the first word has the first eight bytes, the least byte first.
-fn run(tau: usize, k: usize, w: usize, t: usize, row_bits: usize, c0: u64, c1: u64) {
+fn run(
+    rt: &(impl Print + AllocGlobal),
+    tau: usize,
+    k: usize,
+    w: usize,
+    t: usize,
+    row_bits: usize,
+    c0: u64,
+    c1: u64,
+) -> io::Result<()> {
     round_trip_report::run(
+        rt,
         Shape {
             tau,
             k,
@@ -19,11 +30,12 @@ fn run(tau: usize, k: usize, w: usize, t: usize, row_bits: usize, c0: u64, c1: u
         },
         whole(row_bits),
         words(c0, c1),
-    );
+    )
 }
 
 // The same with `width` bytes of every row, from byte `first` on.
 fn run_stretch(
+    rt: &(impl Print + AllocGlobal),
     tau: usize,
     k: usize,
     w: usize,
@@ -33,9 +45,10 @@ fn run_stretch(
     width: usize,
     c0: u64,
     c1: u64,
-) {
+) -> io::Result<()> {
     let rows = part(row_bits, first, width);
     round_trip_report::run(
+        rt,
         Shape {
             tau,
             k,
@@ -46,14 +59,24 @@ fn run_stretch(
         },
         rows,
         words(c0, c1),
-    );
+    )
 }
 
-fn main() {
-    run(11, 11, 7, 102, 1680, 0xabc98c4e324be3ef, 0x38d01bfe407925);
-    run(2, 2, 124, 4, 8, 0xc, 0);
-    run(3, 3, 119, 8, 136, 0x16a, 0);
+fn main(rt: HostRuntime) -> io::Result<()> {
+    run(
+        &rt,
+        11,
+        11,
+        7,
+        102,
+        1680,
+        0xabc98c4e324be3ef,
+        0x38d01bfe407925,
+    )?;
+    run(&rt, 2, 2, 124, 4, 8, 0xc, 0)?;
+    run(&rt, 3, 3, 119, 8, 136, 0x16a, 0)?;
     run_stretch(
+        &rt,
         11,
         11,
         7,
@@ -63,5 +86,5 @@ fn main() {
         37,
         0xabc98c4e324be3ef,
         0x38d01bfe407925,
-    );
+    )
 }

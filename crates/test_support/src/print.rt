@@ -1,23 +1,18 @@
-// Text, numbers and bytes on standard output.
-use libc::STDOUT_FILENO;
+// Text, numbers and bytes on standard output, or on what a runtime puts in its place. A write that fails is answered.
+use std::io;
 
-fn wide(b: u8) -> u64 {
-    b as u64
+pub fn text(to: &impl Print, t: &[u8]) -> io::Result<()> {
+    to.write_all(t)
 }
 
-pub fn text(t: &[u8]) {
-    io::write_all(STDOUT_FILENO, t);
-}
-
-pub fn decimal(n: usize) {
-    io::print_decimal(STDOUT_FILENO, n as u64);
+pub fn decimal(to: &impl Print, n: usize) -> io::Result<()> {
+    to.print(n)
 }
 
 // The bytes in hexadecimal, the first byte first.
-pub fn hex(a: &[u8]) {
-    let mut i = 0;
-    while i < a.len() {
-        io::print_hex(STDOUT_FILENO, wide(a[i]), 2);
-        i += 1;
+pub fn hex(to: &impl Print, a: &[u8]) -> io::Result<()> {
+    for byte in a {
+        print!(to; "{byte:02x}")?;
     }
+    Ok(())
 }

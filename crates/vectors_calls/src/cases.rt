@@ -3,138 +3,126 @@ use crate::calls::{call_commit, call_open, call_reconstruct};
 use crate::inputs::{Call, Inputs};
 use crate::print::{print_answer, print_buffer};
 use case_text::first_bytes;
+use std::alloc::{AllocError, Global};
+use std::io;
+
+// What the calls of a case are lent. Q is written in the place of V.
+#[derive(Drop)]
+struct Buffers {
+    commitment: Vec<u8>,
+    tree: Vec<u8>,
+    leaf_commitments: Vec<u8>,
+    u: Vec<u8>,
+    v: Vec<u8>,
+    corrections: Vec<u8>,
+    opening: Vec<u8>,
+}
+
+impl Buffers {
+    // They hold 0xa5 at first, so that a byte that is not written shows. The trees of 192s and 256s do not fit: hosts/c/cases.c runs those sets.
+    fn new(alloc: Global) -> Result<Buffers, AllocError> {
+        Ok(Buffers {
+            commitment: vec![in alloc; 0xa5; 64]?,
+            tree: vec![in alloc; 0xa5; 1310704]?,
+            leaf_commitments: vec![in alloc; 0xa5; 1966080]?,
+            u: vec![in alloc; 0xa5; 8192]?,
+            v: vec![in alloc; 0xa5; 1048576]?,
+            corrections: vec![in alloc; 0xa5; 253952]?,
+            opening: vec![in alloc; 0xa5; 19456]?,
+        })
+    }
+}
 
 // What both halves write of the tree.
-fn print_leaves(c: Call, commitment: &[u8], tree: &[u8], leaf_commitments: &[u8]) {
+fn print_leaves(rt: &impl Print, c: Call, b: &Buffers) -> io::Result<()> {
     let l = c.lengths;
-    print_buffer(b"commitment ", commitment, l.commitment);
+    print_buffer(rt, b"commitment ", &b.commitment, l.commitment)?;
     if c.version == 1 {
-        print_buffer(b"trees ", tree, l.tree);
+        print_buffer(rt, b"trees ", &b.tree, l.tree)?;
     } else {
-        print_buffer(b"tree ", tree, l.tree);
+        print_buffer(rt, b"tree ", &b.tree, l.tree)?;
     }
-    print_buffer(b"leaf_commitments ", leaf_commitments, l.leaf_commitments);
+    print_buffer(
+        rt,
+        b"leaf_commitments ",
+        &b.leaf_commitments,
+        l.leaf_commitments,
+    )
 }
 
 // Commit, and what `reference commit` prints.
-fn commit_case(
-    c: Call,
-    x: Inputs,
-    commitment: &mut [u8; 64],
-    tree: &mut [u8; 1310704],
-    leaf_commitments: &mut [u8; 1966080],
-    u: &mut [u8; 8192],
-    v: &mut [u8; 1048576],
-    corrections: &mut [u8; 253952],
-) {
+fn commit_case(rt: &impl Print, c: Call, x: Inputs, b: &mut Buffers) -> io::Result<()> {
     let root = x.root.bytes;
     let iv = x.iv.bytes;
     let r = call_commit(
         c,
         first_bytes(&root, x.root.length),
         first_bytes(&iv, x.iv.length),
-        commitment,
-        tree,
-        leaf_commitments,
-        u,
-        v,
-        corrections,
+        &mut b.commitment,
+        &mut b.tree,
+        &mut b.leaf_commitments,
+        &mut b.u,
+        &mut b.v,
+        &mut b.corrections,
     );
-    print_answer(r);
+    print_answer(rt, r)?;
     if r.number == 0 {
-        print_leaves(c, commitment, tree, leaf_commitments);
-        print_buffer(b"u ", u, c.lengths.u);
-        print_buffer(b"v ", v, c.lengths.v);
-        print_buffer(b"corrections ", corrections, c.lengths.corrections);
+        print_leaves(rt, c, b)?;
+        print_buffer(rt, b"u ", &b.u, c.lengths.u)?;
+        print_buffer(rt, b"v ", &b.v, c.lengths.v)?;
+        print_buffer(rt, b"corrections ", &b.corrections, c.lengths.corrections)?;
     }
+    Ok(())
 }
 
 // Open, and what `reference open` prints; then the byte `at` of the opening is flipped, where there is one.
-fn open_case(
-    c: Call,
-    x: Inputs,
-    tree: &[u8; 1310704],
-    leaf_commitments: &[u8; 1966080],
-    opening: &mut [u8; 19456],
-    at: usize,
-) {
+fn open_case(rt: &impl Print, c: Call, x: Inputs, b: &mut Buffers, at: usize) -> io::Result<()> {
     let challenge = x.challenge.bytes;
     let r = call_open(
         c,
         first_bytes(&challenge, x.challenge.length),
-        tree,
-        leaf_commitments,
-        opening,
+        &b.tree,
+        &b.leaf_commitments,
+        &mut b.opening,
     );
-    print_answer(r);
+    print_answer(rt, r)?;
     if r.number == 0 {
-        print_buffer(b"opening ", opening, c.lengths.opening);
+        print_buffer(rt, b"opening ", &b.opening, c.lengths.opening)?;
     }
-    if at < 19456 {
-        opening[at] = opening[at] ^ 1;
+    if let Some(byte) = b.opening.get_mut(at) {
+        *byte ^= 1;
     }
+    Ok(())
 }
 
 // Reconstruct, and what `reference reconstruct` prints. It is lent the buffers that commit wrote, with these bytes in them.
-fn reconstruct_case(
-    c: Call,
-    x: Inputs,
-    corrections: &[u8; 253952],
-    opening: &[u8; 19456],
-    commitment: &mut [u8; 64],
-    tree: &mut [u8; 1310704],
-    leaf_commitments: &mut [u8; 1966080],
-    q: &mut [u8; 1048576],
-) {
+fn reconstruct_case(rt: &impl Print, c: Call, x: Inputs, b: &mut Buffers) -> io::Result<()> {
     let iv = x.iv.bytes;
     let challenge = x.challenge.bytes;
     let r = call_reconstruct(
         c,
         first_bytes(&iv, x.iv.length),
         first_bytes(&challenge, x.challenge.length),
-        corrections,
-        opening,
-        commitment,
-        tree,
-        leaf_commitments,
-        q,
+        &b.corrections,
+        &b.opening,
+        &mut b.commitment,
+        &mut b.tree,
+        &mut b.leaf_commitments,
+        &mut b.v,
     );
-    print_answer(r);
+    print_answer(rt, r)?;
     if r.number == 0 {
-        print_leaves(c, commitment, tree, leaf_commitments);
-        print_buffer(b"q ", q, c.lengths.v);
+        print_leaves(rt, c, b)?;
+        print_buffer(rt, b"q ", &b.v, c.lengths.v)?;
     }
+    Ok(())
 }
 
 // The three calls, with the byte `at` of the opening flipped before reconstruct. Each is made, also behind one that is refused: it is lent what the buffers hold
-// then. They hold 0xa5 at first, so that a byte that is not written shows. The trees of 192s and 256s do not fit: hosts/c/cases.c runs those sets.
-pub fn run_case(c: Call, x: Inputs, at: usize) {
-    let mut commitment = [0xa5u8; 64];
-    let mut tree = [0xa5u8; 1310704];
-    let mut leaf_commitments = [0xa5u8; 1966080];
-    let mut u = [0xa5u8; 8192];
-    let mut v = [0xa5u8; 1048576];
-    let mut corrections = [0xa5u8; 253952];
-    let mut opening = [0xa5u8; 19456];
-    commit_case(
-        c,
-        x,
-        &mut commitment,
-        &mut tree,
-        &mut leaf_commitments,
-        &mut u,
-        &mut v,
-        &mut corrections,
-    );
-    open_case(c, x, &tree, &leaf_commitments, &mut opening, at);
-    reconstruct_case(
-        c,
-        x,
-        &corrections,
-        &opening,
-        &mut commitment,
-        &mut tree,
-        &mut leaf_commitments,
-        &mut v,
-    );
+// then.
+pub fn run_case(rt: &(impl Print + AllocGlobal), c: Call, x: Inputs, at: usize) -> io::Result<()> {
+    let mut b = Buffers::new(rt.alloc())?;
+    commit_case(rt, c, x, &mut b)?;
+    open_case(rt, c, x, &mut b, at)?;
+    reconstruct_case(rt, c, x, &mut b)
 }

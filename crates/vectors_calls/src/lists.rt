@@ -2,6 +2,7 @@
 use crate::print::{print_answer, print_list};
 use case_text::{Bytes, first_bytes};
 use spec::{Answer, Shape};
+use std::io;
 use test_support::lengths::at_most;
 
 // How many numbers decode writes. Of a shape that is refused any number will do.
@@ -35,25 +36,27 @@ pub fn call_plan(s: Shape, challenge: &[u8], list: &mut [u32], n: usize) -> Answ
 }
 
 // Decode, and what `reference decode` prints.
-pub fn decode_case(s: Shape, challenge: Bytes) {
+pub fn decode_case(rt: &impl Print, s: Shape, challenge: Bytes) -> io::Result<()> {
     let bytes = challenge.bytes;
     let n = index_count(s);
     let mut list = [0u32; 512];
     let r = call_decode(s, first_bytes(&bytes, challenge.length), &mut list, n);
-    print_answer(r);
+    print_answer(rt, r)?;
     if r.number == 0 {
-        print_list(b"indices ", front(&list, n));
+        print_list(rt, b"indices ", front(&list, n))?;
     }
+    Ok(())
 }
 
 // Plan, and what `reference plan` prints.
-pub fn plan_case(s: Shape, challenge: Bytes) {
+pub fn plan_case(rt: &impl Print, s: Shape, challenge: Bytes) -> io::Result<()> {
     let bytes = challenge.bytes;
     let n = node_limit(s);
     let mut list = [0u32; 512];
     let r = call_plan(s, first_bytes(&bytes, challenge.length), &mut list, n);
-    print_answer(r);
+    print_answer(rt, r)?;
     if r.number == 0 {
-        print_list(b"nodes ", front(&list, r.count));
+        print_list(rt, b"nodes ", front(&list, r.count))?;
     }
+    Ok(())
 }

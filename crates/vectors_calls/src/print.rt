@@ -1,5 +1,6 @@
 // The output in the format of the command line of reference/.
 use spec::Answer;
+use std::io;
 use test_support::parts::front;
 use test_support::print::{decimal, hex, text};
 
@@ -14,43 +15,36 @@ fn digest(a: &[u8]) -> [u8; 32] {
 }
 
 // The number and the node count of an answer.
-pub fn print_answer(r: Answer) {
-    text(b"number ");
-    decimal(r.number);
-    text(b"\ncount ");
-    decimal(r.count);
-    text(b"\n");
+pub fn print_answer(rt: &impl Print, r: Answer) -> io::Result<()> {
+    text(rt, b"number ")?;
+    decimal(rt, r.number)?;
+    text(rt, b"\ncount ")?;
+    decimal(rt, r.count)?;
+    text(rt, b"\n")
 }
 
 // Name and length of the first n bytes of a buffer, and these bytes, or the digest of more than 64.
-pub fn print_buffer(name: &[u8], whole: &[u8], n: usize) {
+pub fn print_buffer(rt: &impl Print, name: &[u8], whole: &[u8], n: usize) -> io::Result<()> {
     let a = front(whole, n);
-    text(name);
-    decimal(a.len());
+    text(rt, name)?;
+    decimal(rt, a.len())?;
     if 64 < a.len() {
-        text(b" shake128 ");
-        let d = digest(a);
-        hex(&d);
+        text(rt, b" shake128 ")?;
+        hex(rt, &digest(a))?;
     } else if 0 < a.len() {
-        text(b" ");
-        hex(a);
+        text(rt, b" ")?;
+        hex(rt, a)?;
     }
-    text(b"\n");
-}
-
-fn wide(x: u32) -> usize {
-    x as usize
+    text(rt, b"\n")
 }
 
 // Name and length of a list, and its numbers.
-pub fn print_list(name: &[u8], list: &[u32]) {
-    text(name);
-    decimal(list.len());
-    let mut i = 0;
-    while i < list.len() {
-        text(b" ");
-        decimal(wide(list[i]));
-        i += 1;
+pub fn print_list(rt: &impl Print, name: &[u8], list: &[u32]) -> io::Result<()> {
+    text(rt, name)?;
+    decimal(rt, list.len())?;
+    for x in list {
+        text(rt, b" ")?;
+        decimal(rt, *x as usize)?;
     }
-    text(b"\n");
+    text(rt, b"\n")
 }

@@ -4,6 +4,7 @@
 #![tactic(auto)]
 
 use spec::Shape;
+use std::io;
 use test_support::lengths::{Lengths, at_most, challenge};
 use test_support::parts::front;
 use test_support::print::text;
@@ -60,22 +61,15 @@ fn probed(c: Call, places: Lengths, p: Probe) -> Call {
 
 // Whether each byte is 0xa5.
 pub fn is_kept(a: &[u8]) -> bool {
-    let mut i = 0;
-    while i < a.len() {
-        if a[i] != 0xa5 {
-            return false;
-        }
-        i += 1;
-    }
-    true
+    a.iter().all(|byte| *byte == 0xa5)
 }
 
 // Whether the outputs of a call are as they were.
-fn kept(yes: bool) {
+fn kept(rt: &impl Print, yes: bool) -> io::Result<()> {
     if yes {
-        text(b"outputs kept\n");
+        text(rt, b"outputs kept\n")
     } else {
-        text(b"outputs written\n");
+        text(rt, b"outputs written\n")
     }
 }
 
@@ -85,7 +79,7 @@ fn first(a: &[u8; 16400], n: usize) -> &[u8] {
 }
 
 // Commit, on a call of the exact lengths; the place is 8 where each buffer has its length.
-pub fn probe_commit(c: Call, p: Probe) {
+pub fn probe_commit(rt: &impl Print, c: Call, p: Probe) -> io::Result<()> {
     let places = Lengths {
         commitment: 2,
         tree: 3,
@@ -113,13 +107,16 @@ pub fn probe_commit(c: Call, p: Probe) {
         &mut v,
         &mut corrections,
     );
-    print_answer(r);
+    print_answer(rt, r)?;
     let front_kept = is_kept(&commitment) & is_kept(&tree) & is_kept(&leaf_commitments);
-    kept(front_kept & is_kept(&u) & is_kept(&v) & is_kept(&corrections));
+    kept(
+        rt,
+        front_kept & is_kept(&u) & is_kept(&v) & is_kept(&corrections),
+    )
 }
 
 // Open.
-pub fn probe_open(c: Call, p: Probe) {
+pub fn probe_open(rt: &impl Print, c: Call, p: Probe) -> io::Result<()> {
     let places = Lengths {
         commitment: NONE,
         tree: 1,
@@ -140,12 +137,12 @@ pub fn probe_open(c: Call, p: Probe) {
         &zeros,
         &mut opening,
     );
-    print_answer(r);
-    kept(is_kept(&opening));
+    print_answer(rt, r)?;
+    kept(rt, is_kept(&opening))
 }
 
 // Reconstruct.
-pub fn probe_reconstruct(c: Call, p: Probe) {
+pub fn probe_reconstruct(rt: &impl Print, c: Call, p: Probe) -> io::Result<()> {
     let places = Lengths {
         commitment: 4,
         tree: 5,
@@ -177,25 +174,18 @@ pub fn probe_reconstruct(c: Call, p: Probe) {
         &mut leaf_commitments,
         &mut q,
     );
-    print_answer(r);
+    print_answer(rt, r)?;
     let front_kept = is_kept(&commitment) & is_kept(&tree);
-    kept(front_kept & is_kept(&leaf_commitments) & is_kept(&q));
+    kept(rt, front_kept & is_kept(&leaf_commitments) & is_kept(&q))
 }
 
 // Whether each number is 0xa5a5a5a5.
 fn is_list_kept(a: &[u32; 512]) -> bool {
-    let mut i = 0;
-    while i < 512 {
-        if a[i] != 0xa5a5a5a5 {
-            return false;
-        }
-        i += 1;
-    }
-    true
+    a.iter().all(|number| *number == 0xa5a5a5a5)
 }
 
 // Decode; the place is 2 where the challenge and the list have their lengths.
-pub fn probe_decode(s: Shape, p: Probe) {
+pub fn probe_decode(rt: &impl Print, s: Shape, p: Probe) -> io::Result<()> {
     let mut chosen = [0u8; 512];
     chosen[0] = p.byte;
     let mut list = [0xa5a5a5a5u32; 512];
@@ -205,12 +195,12 @@ pub fn probe_decode(s: Shape, p: Probe) {
         &mut list,
         length(index_count(s), 1, p),
     );
-    print_answer(r);
-    kept(is_list_kept(&list));
+    print_answer(rt, r)?;
+    kept(rt, is_list_kept(&list))
 }
 
 // Plan, in the same way.
-pub fn probe_plan(s: Shape, p: Probe) {
+pub fn probe_plan(rt: &impl Print, s: Shape, p: Probe) -> io::Result<()> {
     let mut chosen = [0u8; 512];
     chosen[0] = p.byte;
     let mut list = [0xa5a5a5a5u32; 512];
@@ -220,6 +210,6 @@ pub fn probe_plan(s: Shape, p: Probe) {
         &mut list,
         length(node_limit(s), 1, p),
     );
-    print_answer(r);
-    kept(is_list_kept(&list));
+    print_answer(rt, r)?;
+    kept(rt, is_list_kept(&list))
 }
