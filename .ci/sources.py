@@ -23,9 +23,9 @@ class Refused(Exception):
 # ---- crates.txt
 
 def crate_lines(text):
-    """What each crate depends on."""
+    """What each crate depends on. Behind the name of a static library stands `staticlib`."""
     lines = (line.split('#')[0].split(':') for line in text.splitlines())
-    return {line[0].strip(): line[1].split() for line in lines if len(line) == 2}
+    return {re.sub(r' staticlib$', '', line[0].strip()): line[1].split() for line in lines if len(line) == 2}
 
 
 def closure(needs, roots):
