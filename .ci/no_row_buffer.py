@@ -435,6 +435,7 @@ EDITS = [
     ('keys of signer_commit::write_commitment, [u8; 3072], holds bytes of rows', ('signer_commit', 'fn write_all', 'buffers::copy(u, keys);')),
     ('keys of signer_commit::write_commitment, [u8; 3072], holds bytes of rows',
      ('signer_commit', 'fn write_all', 'for j in 0..u.len() { let one = u[j]; keys[j] ^= one; }')),
+    ('keys of signer_commit::write_commitment, [u8; 3072], holds bytes of rows', ('signer_commit', 'fn write_all', 'keys[..16].copy_from_slice(&u[..16]);')),
     ('keys of reconstruction::write_reconstruction, [u8; 3072], holds bytes of rows', ('reconstruction', 'fn write_all', 'buffers::copy(corrections, keys);')),
     ('seed of vector::add_entry, [u8; 32], holds bytes of rows', ('vector', 'fn add_leaf', 'buffers::copy_part(sum, 0, 32, seed, 0);')),
     # the same in version 1: u and the corrections where zeros or hashes are, a row in the place of the roots, and a seed for the key of a leaf or a node
