@@ -3,12 +3,13 @@
 
 A file of crates/*/{src,specs,proofs} mentions the kind if one of the names or words of it stands in the file or in its path: `kind` and what is made with it
 (`.kind`, `kind_fits`, `kind-max`), `ordinary` (`is_ordinary`, `ordinary-seed`), Even-Mansour, `em_leaf`, `em-seed`, FAEST-EM. A file also mentions it that
-unfolds a definition of spec that looks at it, as `leaf_commitment_bytes`. The module planning_laws/proofs/LeafKindFacts.antt has what others cite instead, and
-its name alone is no mention: a proof may cite a fact from it whose name does not mention the kind.
+unfolds a definition of spec that looks at it, as `leaf_commitment_bytes`, on a line of a proof or in the attribute of a function. The module
+planning_laws/proofs/LeafKindFacts.antt has what others cite instead, and its name alone is no mention: a proof may cite a fact from it whose name does not
+mention the kind.
 
 Version 1 has leaves of its own. Inside, its shapes have the kind whose leaf commitments are as long and take no hash key; that the kind fits the version is a
-fact, `KindFits`, which the proofs of the vectors hand on and do not look into. HANDED has the files that may do that, and in what words; these alone are no
-mention there.
+fact, `KindFits`, which the proofs of the vectors hand on and do not look into. HANDED has the files, or the folder of a function's proof, that may do that, and
+in what words; these alone are no mention there.
 
 MAY has the files that may mention it, each with the reason; any other that does fails, and so does an entry of either table for nothing. Then the script tests
 itself: each of MORE, added to the files in memory, must fail, and each of FINE must not.
@@ -68,17 +69,16 @@ MAY = {
     'case_text/src/': 'the six numbers of a shape of a case',
     'run_cases/src/': 'the same, and the version in which a record of the kind is written',
     'report_runs/src/': 'the same',
-    'listing_text/proofs/+put_decimal/': 'another word: the kit\'s `Kinds` of parameters',
 }
 
-# a file that hands on the fact that the kind fits the version, and the words in which it does
+# a file, or the folder of a function's proof, that hands on the fact that the kind fits the version, and the words in which it does
 HANDED = {
-    'signer_commit/proofs/write_all/Proof.antt': 'kind = two-fits',
-    'reconstruction/proofs/write_all/Proof.antt': 'kind = two-fits',
-    'vector/proofs/add_leaf/Proof.antt': '.job .kind',
-    'vector/proofs/add_half/Proof.antt': '.job .kind',
-    'verifier_vector/proofs/convert/Proof.antt': '.job .kind',
-    'verifier_vectors/proofs/hidden_from/Proof.antt': '(ready .kind)',
+    'signer_commit/proofs/write_all/': 'kind = two_fits',
+    'reconstruction/proofs/write_all/': 'kind = two_fits',
+    'vector/proofs/add_leaf/': '.job.kind',
+    'vector/proofs/add_half/': '.job.kind',
+    'verifier_vector/proofs/convert/': '.job.kind',
+    'verifier_vectors/proofs/hidden_from/': 'ready.kind',
     'verifier_vectors/proofs/HiddenPlaces.antt': 'KindFits',
 }
 
@@ -90,22 +90,26 @@ def looking(texts):
 
 
 def mentions(path, text, names):
-    text = f'{path}\n{text}'.replace(CITED, '').replace(HANDED.get(path, CITED), '')
-    unfolded = [name for line in re.findall(r'(?m)^ *unfolding (.*)$', text) for name in line.split() if name in names]
-    return MENTION.findall(text) + unfolded
+    text = f'{path}\n{text}'.replace(CITED, '')
+    handed = entry_of(path, HANDED)
+    text = text.replace(HANDED[handed], '') if handed else text
+    opened = re.findall(r'(?m)^ *unfolding (.*)$', text) + re.findall(r'\bunfolding\(([^)]*)\)', text)
+    return MENTION.findall(text) + [name for line in opened for name in re.findall(r"[\w'-]+", line) if name in names]
 
 
-def entry_of(path):
-    return next((entry for entry in MAY if path == entry or entry.endswith('/') and path.startswith(entry)), None)
+def entry_of(path, table):
+    return next((entry for entry in table if path == entry or entry.endswith('/') and path.startswith(entry)), None)
 
 
 def check(texts):
     names = looking(texts)
     found = {path: mentions(path, text, names) for path, text in texts.items()}
     found = {path: words for path, words in found.items() if words}
-    faults = [f'{path} mentions the leaf kind: {words[0]}' for path, words in sorted(found.items()) if entry_of(path) is None]
-    faults += [f'{path} hands nothing on: {words}' for path, words in HANDED.items() if words not in texts.get(path, '')]
-    faults += [f'{entry} is in the table and does not mention the leaf kind' for entry in MAY if entry not in map(entry_of, found)]
+    faults = [f'{path} mentions the leaf kind: {words[0]}' for path, words in sorted(found.items()) if entry_of(path, MAY) is None]
+    handing = {entry_of(path, HANDED) for path, text in texts.items() if HANDED.get(entry_of(path, HANDED), '\0') in text}
+    faults += [f'{entry} hands nothing on: {words}' for entry, words in HANDED.items() if entry not in handing]
+    mentioning = {entry_of(path, MAY) for path in found}
+    faults += [f'{entry} is in the table and does not mention the leaf kind' for entry in MAY if entry not in mentioning]
     if faults:
         raise Refused('\n'.join(faults))
     return f'{len(found)} of {len(texts)} files mention it, each by the table; {len(names)} definitions look at it: ' + ', '.join(sorted(names))
@@ -113,23 +117,24 @@ def check(texts):
 
 # a file, what is added to it, and what is named as the mention
 MORE = [
-    ('tree/proofs/expand_node/Proof.antt', 'by-leaf : (s : Shape) → ordinary s ≡ true → leaves s ≡ leaves s', 'ordinary'),
+    ('tree/proofs/expand_node/Answers.antt', 'by-leaf : (s : Shape) → ordinary s ≡ true → leaves s ≡ leaves s', 'ordinary'),
     ('planning_laws/proofs/Covered.antt', '-- the same for Even-Mansour leaves', 'Even-Mansour'),
-    ('planning_laws/proofs/ShapeFacts.antt', '  pub most : s .kind ≤ 1', '.kind'),
-    ('planning/proofs/walk/Proof.antt', 'use Rattle·planning_laws.proofs.LeafKindFacts.{kind-max}', 'kind-max'),
+    ('planning_laws/proofs/ShapeFacts.antt', '  pub most : s.kind ≤ 1', 's.kind'),
+    ('planning/proofs/walk/Answers.antt', 'use Rattle.planning_laws.proofs.LeafKindFacts.{kind-max}', 'kind-max'),
     ('verifier_tree/src/lib.rt', '    if rules::is_ordinary(s) {', 'is_ordinary'),
+    ('verifier_tree/src/lib.rt', '#[tactic(auto, unfolding(spec::specs::Shapes::leaf_commitment_bytes))]', 'leaf_commitment_bytes'),
     ('columns/proofs/ByKind.antt', '', 'ByKind'),
-    ('signer_vectors/proofs/Steps.antt', 'unfolding leaf_commitment_bytes\n', 'leafCommitmentBytes'),
-    ('vector/proofs/add_half/Proof.antt', '    unfolding level shape_ok\n', 'shapeOk'),
-    ('vector/proofs/add_leaf/Proof.antt', 'is-one = start .args .g .shape .kind', '.kind'),
-    ('verifier_vectors/proofs/HiddenPlaces.antt', 'unfolding shape1_ok\n', 'shape1Ok'),
-    ('verifier_vectors/proofs/Steps.antt', 'use Rattle·job.specs.Versions.{KindFits}', 'KindFits'),
+    ('signer_vectors/proofs/Steps.antt', 'unfolding leaf_commitment_bytes\n', 'leaf_commitment_bytes'),
+    ('vector/proofs/add_half/Answers.antt', '    unfolding level shape_ok\n', 'shape_ok'),
+    ('vector/proofs/add_leaf/Answers.antt', 'is-one = start.args.g.shape.kind', 'start.args.g.shape.kind'),
+    ('verifier_vectors/proofs/HiddenPlaces.antt', 'unfolding shape1_ok\n', 'shape1_ok'),
+    ('verifier_vectors/proofs/Steps.antt', 'use Rattle.job.specs.Versions.{KindFits}', 'KindFits'),
     ('theorems/proofs/Reconstruction.antt', 'cited = em-seed faest s', 'em-seed'),
     ('verifier_vectors/specs/Vectors.antt', '-- as in FAEST-EM', '-EM'),
 ]
 FINE = [
-    ('vector/proofs/add_half/Proof.antt', 'use Rattle·planning_laws.proofs.LeafKindFacts.{commitment-length}'),
-    ('rows/proofs/add_row/Proof.antt', 'nearer b at from el em ee = omega arith'),
+    ('vector/proofs/add_half/Answers.antt', 'use Rattle.planning_laws.proofs.LeafKindFacts.{commitment-length}'),
+    ('rows/proofs/add_row/Answers.antt', 'nearer b at from el em ee = omega arith'),
     ('signer_vectors/proofs/Steps.antt', 'unfolding entries_of\n'),
 ]
 
@@ -147,7 +152,7 @@ def main():
         else:
             sys.exit(f'leaf kind: {path} with {added} is not refused')
     for path, added in FINE:
-        check({**texts, path: texts[path] + added})
+        check({**texts, path: texts.get(path, '') + added})
     print(f'leaf kind: {len(MORE)} additions refused, as they must be, and {len(FINE)} allowed')
 
 

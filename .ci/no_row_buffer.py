@@ -36,7 +36,7 @@ SEEDS = 'leaf::commit_leaf', 'seed'
 GENERATOR, CIPHER, SUB_BYTES = 'generator', 'aes', 'aes_steps::sub_bytes'
 
 # the kit's functions that are called: the number of the argument to which they write the bytes of the others, or None where they return them
-KIT = {'bytes::copy': 1, 'std::num::wrapping_add_u32': None}
+KIT = {'slice::copy_from_slice': 0, 'std::num::wrapping_add_u32': None}
 
 # each array above 16 bytes: its type, what it holds, and the crates that have it by value; others have it lent
 TABLE = {
@@ -432,17 +432,18 @@ EDITS = [
                           ARMS % '0x80000000')),
     ('a pattern of leaf::commit_leaf that cannot be read: y', ('leaf', 'fn commit_leaf', 'let two = match x.tweak { y => y, };')),
     # u, a sum of rows and the corrections in arrays that are there for something else
-    ('keys of signer_commit::write_commitment, [u8; 3072], holds bytes of rows', ('signer_commit', 'fn write_all', 'bytes::copy(u, keys);')),
+    ('keys of signer_commit::write_commitment, [u8; 3072], holds bytes of rows', ('signer_commit', 'fn write_all', 'buffers::copy(u, keys);')),
     ('keys of signer_commit::write_commitment, [u8; 3072], holds bytes of rows',
      ('signer_commit', 'fn write_all', 'for j in 0..u.len() { let one = u[j]; keys[j] ^= one; }')),
-    ('keys of reconstruction::write_reconstruction, [u8; 3072], holds bytes of rows', ('reconstruction', 'fn write_all', 'bytes::copy(corrections, keys);')),
+    ('keys of signer_commit::write_commitment, [u8; 3072], holds bytes of rows', ('signer_commit', 'fn write_all', 'keys[..16].copy_from_slice(&u[..16]);')),
+    ('keys of reconstruction::write_reconstruction, [u8; 3072], holds bytes of rows', ('reconstruction', 'fn write_all', 'buffers::copy(corrections, keys);')),
     ('seed of vector::add_entry, [u8; 32], holds bytes of rows', ('vector', 'fn add_leaf', 'buffers::copy_part(sum, 0, 32, seed, 0);')),
     # the same in version 1: u and the corrections where zeros or hashes are, a row in the place of the roots, and a seed for the key of a leaf or a node
     ('keys of v1_signer::write_commitment, [u8; 2048], holds bytes of rows',
      ('v1_signer', 'keys: &[u8],', 'keys: &mut [u8],'), ('v1_signer', 'let keys =', 'let mut keys ='), ('v1_signer', '&keys[0..n]', '&mut keys[0..n]'),
-     ('v1_signer', 'fn write_all', 'bytes::copy(u, keys);')),
-    ('hashes of v1_signer::write_commitment, [u8; 2048], holds bytes of rows', ('v1_signer', 'fn write_all', 'bytes::copy(u, hashes);')),
-    ('hashes of v1_verifier::write_reconstruction, [u8; 2048], holds bytes of rows', ('v1_verifier', 'fn write_all', 'bytes::copy(corrections, hashes);')),
+     ('v1_signer', 'fn write_all', 'buffers::copy(u, keys);')),
+    ('hashes of v1_signer::write_commitment, [u8; 2048], holds bytes of rows', ('v1_signer', 'fn write_all', 'buffers::copy(u, hashes);')),
+    ('hashes of v1_verifier::write_reconstruction, [u8; 2048], holds bytes of rows', ('v1_verifier', 'fn write_all', 'buffers::copy(corrections, hashes);')),
     ('roots of signer_forest::grow_trees, [u8; 1024], holds bytes of rows', ('signer_forest', 'tweak: 0,', 'tweak: 2147483648,')),
     ('row of leaf::commit_leaf, [u8; 128], holds bytes of rows',
      ('leaf', 'fn commit_leaf', 'let mut row = [0u8; 128]; generator::fill(t, seed, x, 0, &mut row);')),

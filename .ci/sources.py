@@ -23,9 +23,9 @@ class Refused(Exception):
 # ---- crates.txt
 
 def crate_lines(text):
-    """What each crate depends on."""
+    """What each crate depends on. Behind the name of a static library stands `staticlib`."""
     lines = (line.split('#')[0].split(':') for line in text.splitlines())
-    return {line[0].strip(): line[1].split() for line in lines if len(line) == 2}
+    return {re.sub(r' staticlib$', '', line[0].strip()): line[1].split() for line in lines if len(line) == 2}
 
 
 def closure(needs, roots):
@@ -192,6 +192,9 @@ class Reader:
             elif name == 'len':
                 self.next(')')
                 e = Node('len', None, [e])
+            elif name == 'copy_from_slice':
+                # a call of the kit, which is lent the place that it writes to
+                e = Node('call', ('slice', name), [Node('lent', True, [e]), *self.list(')', self.expression)])
             else:
                 raise Refused(f'a method of {self.of} that is not known: {name}')
         return e
@@ -297,7 +300,10 @@ class Program:
 
     def item(self, crate, r):
         while r.skip('#'):
+            of_crate = r.skip('!')
             r.skip_group()
+            if of_crate:
+                return
         public = r.skip('pub')
         word = r.next()
         kinds = {'use': self.use, 'const': self.const, 'struct': self.struct, 'enum': self.enum, 'fn': self.function}
@@ -305,15 +311,18 @@ class Program:
             raise Refused(f'an item of {crate} that cannot be read: {word} {r.peek()}')
         name = kinds[word](crate, r)
         if public:
-            self.public[crate].append(name)
+            self.public[crate] += name if word == 'use' else [name]
 
     def use(self, crate, r):
-        path = r.path()
+        """A name of another crate, or several: `use a::b;`, `use a::{b, c};`."""
+        of = r.word()
+        r.next('::')
+        names = r.list('}', r.word) if r.skip('{') else [r.word()]
+        if r.peek() != ';':
+            raise Refused(f'a use of {crate} that cannot be read: {of}::{names[-1]} {r.peek()}')
         r.next(';')
-        if len(path) != 2:
-            raise Refused(f'a use of {crate} that cannot be read: ' + '::'.join(path))
-        self.names[crate][path[1]] = '::'.join(path)
-        return '::'.join(path)
+        self.names[crate].update({name: f'{of}::{name}' for name in names})
+        return [f'{of}::{name}' for name in names]
 
     def const(self, crate, r):
         name = crate + '::' + r.word()
@@ -345,6 +354,8 @@ class Program:
         result = r.type() if r.skip('->') else None
         while r.peek() in ('requires', 'ensures'):
             r.next()
+            if r.peek() != '{':
+                r.word()
             r.skip_group()
         name = r.of
         self.functions[name] = Function(crate, name, params, result, r.block())

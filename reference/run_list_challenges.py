@@ -1,5 +1,6 @@
 #!/usr/bin/env python3
-"""Runs the built program that lists all challenges, target/bin/list_challenges, and compares what it writes with what the second implementation lists.
+"""Runs the built program that lists all challenges, crates/list_challenges/out/list_challenges, and compares what it writes with what the second
+implementation lists.
 
     run_list_challenges.py [PROGRAM]      exit status 1 at the first input where the two differ
 
@@ -19,7 +20,7 @@ from odd_streams import failed_reads, failed_writes, in_parts
 
 HERE = Path(__file__).resolve().parent
 REFERENCE = HERE / 'target' / 'release' / 'reference'
-PROGRAM = sys.argv[1] if sys.argv[1:] else HERE.parent / 'target' / 'bin' / 'list_challenges'
+PROGRAM = sys.argv[1] if sys.argv[1:] else HERE.parent / 'crates' / 'list_challenges' / 'out' / 'list_challenges'
 
 SHORT = b'2 2 124 3'                        # 9 bytes
 LONG = b'00002 00002 00124 00003'           # 23 bytes, the longest line without its line feed

@@ -1,5 +1,6 @@
 #!/usr/bin/env python3
-"""Runs the built listing program, target/bin/list_nodes, on inputs of many lengths and compares what it writes with what the second implementation lists.
+"""Runs the built listing program, crates/list_nodes/out/list_nodes, on inputs of many lengths and compares what it writes with what the second
+implementation lists.
 
     run_list_nodes.py [PROGRAM]      exit status 1 at the first input where the two differ
 
@@ -15,7 +16,7 @@ from odd_streams import failed_reads, failed_writes
 
 HERE = Path(__file__).resolve().parent
 REFERENCE = HERE / 'target' / 'release' / 'reference'
-PROGRAM = sys.argv[1] if sys.argv[1:] else HERE.parent / 'target' / 'bin' / 'list_nodes'
+PROGRAM = sys.argv[1] if sys.argv[1:] else HERE.parent / 'crates' / 'list_nodes' / 'out' / 'list_nodes'
 
 DIGITS = b'0c' + b'0' * 30
 SHORT = b'2 2 124 4 ' + DIGITS                      # 42 bytes

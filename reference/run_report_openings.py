@@ -1,5 +1,6 @@
 #!/usr/bin/env python3
-"""Runs the built program of the opening report, target/bin/report_openings, and compares what it writes with what the second implementation reports.
+"""Runs the built program of the opening report, crates/report_openings/out/report_openings, and compares what it writes with what the second
+implementation reports.
 
     run_report_openings.py [PROGRAM]      exit status 1 at the first input where the two differ
 
@@ -17,7 +18,7 @@ from odd_streams import failed_reads, failed_writes, in_parts
 
 HERE = Path(__file__).resolve().parent
 REFERENCE = HERE / 'target' / 'release' / 'reference'
-PROGRAM = sys.argv[1] if sys.argv[1:] else HERE.parent / 'target' / 'bin' / 'report_openings'
+PROGRAM = sys.argv[1] if sys.argv[1:] else HERE.parent / 'crates' / 'report_openings' / 'out' / 'report_openings'
 
 SMALL = record(1, 1, 1, 127, 2, 8, 16, 0, 80)              # 178 bytes
 EXACT = record(1, 2, 1, 126, 2, 240, 16, 30, 128)          # 256 bytes

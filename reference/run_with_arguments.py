@@ -2,19 +2,24 @@
 """Runs the built programs list_nodes, list_challenges and report_openings with arguments: one line of usage on standard error, nothing on standard output, and
 no waiting for input, which stays open here.
 
-    run_with_arguments.py [FOLDER]      FOLDER has the programs, target/bin where it is not given
+    run_with_arguments.py [FOLDER]      FOLDER has the programs; where it is not given, each is in out/ of its crate
 """
 import subprocess
 import sys
 from pathlib import Path
 
-FOLDER = Path(sys.argv[1] if sys.argv[1:] else Path(__file__).resolve().parent.parent / 'target' / 'bin')
+FOLDER = Path(sys.argv[1]) if sys.argv[1:] else None
+CRATES = Path(__file__).resolve().parent.parent / 'crates'
+
+
+def program_of(name):
+    return FOLDER / name if FOLDER else CRATES / name / 'out' / name
 
 
 def main():
     for name in 'list_nodes', 'list_challenges', 'report_openings':
         for arguments in ['--help'], ['policy.rec'], [''], ['2', '2', '124', '4']:
-            program = subprocess.Popen([FOLDER / name, *arguments], stdin=subprocess.PIPE, stdout=subprocess.PIPE, stderr=subprocess.PIPE)
+            program = subprocess.Popen([program_of(name), *arguments], stdin=subprocess.PIPE, stdout=subprocess.PIPE, stderr=subprocess.PIPE)
             try:
                 program.wait(30)
             except subprocess.TimeoutExpired:

@@ -123,6 +123,6 @@ fn hidden_indices_of_faest_128s() {
     let challenge = bytes(file, "\nvaried =");
     assert_eq!(
         shape::decode_all_chall(&shape::FAEST_128S, &challenge),
-        numbers(file, "hiddenIndices faest128s varied\n    ≡ ")
+        numbers(file, "hidden_indices faest128s varied\n    ≡ ")
     );
 }
