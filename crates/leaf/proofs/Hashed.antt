@@ -8,7 +8,6 @@ use native.Mathlib.Omega.{arith}
 use lib.ListN.{length, take, drop, length-append, length-drop}
 use lib.Seq.{take_all, take_at, drop-length}
 use Rattle.spec.specs.declared.Shape.{Shape}
-use Rattle.spec.specs.Bytes.{part}
 use Rattle.spec.specs.Shapes.{ordinary, node_bytes, leaf_commitment_bytes, rate}
 use Rattle.spec.specs.Hashes.{hash0}
 use Rattle.spec.specs.Sponge.{sponge, shake}

@@ -1,5 +1,4 @@
 -- What `fill` and `copy_part` ensure, with the definitions of the seed and the commitment for this kind.
-use borrow.Author.Rules.{rules}
 use mathlib.Core.Path.{◌≡◌, sym, ap, ap₂, ◌∙◌}
 use mathlib.Core.Bool.{false}
 use mathlib.Core.List.{List, ◌++◌, append-nil}
@@ -48,7 +47,7 @@ fill-requires c =
     let start = c in
     let p = start.requires.s_value in
     let w = widths start.args.s (shape-facts start.args.s p.0) in
-    (start.requires.sbox_table, (omega (arith, w.node-min), omega (arith, w.node-max), ap (λ (n : ℕ). n % 8) p.3 ∙ w.node-eight, omega (arith, w.node-max, w.commitment-max)))
+    record { sbox_table = start.requires.sbox_table; in_bounds = (omega (arith, w.node-min), omega (arith, w.node-max), ap (λ (n : ℕ). n % 8) p.3 ∙ w.node-eight, omega (arith, w.node-max, w.commitment-max)) }
 
 pub returns : goal.returns
 returns c = λ i tweak.

@@ -1,6 +1,5 @@
 -- H0 where the leaves are ordinary, nothing where they are not.
 use mathlib.Core.Path.{sym, ◌∙◌}
-use borrow.Author.Rules.{rules}
 use Rattle.leaf.proofs.Keys.{keys-made, keys_none}
 use Rattle.leaf.proofs.hash_keys.Goals as goal
 

@@ -6,7 +6,6 @@ use mathlib.Core.List.{List}
 use native.Mathlib.Nat.{le-add_right}
 use native.Mathlib.Omega.{arith}
 use lib.ListN.{length}
-use borrow.Author.Rules.{rules}
 use Rattle.spec.specs.declared.Shape.{Shape}
 use Rattle.spec.specs.Bytes.{number, part}
 use Rattle.spec.specs.Shapes.{leaf_commitment_bytes, shape_ok, field_width, field_polynomial}
@@ -21,6 +20,13 @@ use Rattle.leaf.proofs.hash_multiples.Goals as goal
 -- where the key of vector i begins
 start_small : (s : Shape) → shape_ok s ≡ true → (w i : ℕ) → w ≤ 96 → i < s.tau → w * i ≤ 3072
 start_small s ok w i h k = (let f = shape-facts s ok in mul-limit w i 96 32 h (omega arith))
+
+-- and ends, within the keys
+key-end : (s : Shape) (w i n : ℕ) → w ≡ leaf_commitment_bytes s → i < s.tau → n ≡ leaf_commitment_bytes s * s.tau → w * i + w ≤ n
+key-end s w i n e h k =
+    let all : w * s.tau ≡ leaf_commitment_bytes s * s.tau = ap (λ (n : ℕ). n * s.tau) e in
+    let m = mul-within w i s.tau h in
+    omega arith
 
 pub overflow_mul-w : goal.overflow_mul-w
 overflow_mul-w c =
@@ -47,14 +53,8 @@ slice_bounds-multiples-count c = le-add_right _ _
 pub slice_bounds-multiples-start : goal.slice_bounds-multiples-start
 slice_bounds-multiples-start c = le-add_right _ _
 
--- and ends, within the keys
 pub slice_bounds-multiples-end : goal.slice_bounds-multiples-end
-slice_bounds-multiples-end c =
-    let start = c in
-    let w = c.commitment_bytes-w in
-    let all : w.result * start.args.s.tau ≡ leaf_commitment_bytes start.args.s * start.args.s.tau = ap (λ (n : ℕ). n * start.args.s.tau) w.ensures.0 in
-    let m = mul-within w.result start.args.i start.args.s.tau start.requires.1 in
-    omega arith
+slice_bounds-multiples-end c = key-end c.args.s c.commitment_bytes-w.result c.args.i _ c.commitment_bytes-w.ensures.0 c.requires.1 c.requires.2
 
 pub multiples-requires : goal.multiples-requires
 multiples-requires c =
@@ -64,7 +64,7 @@ multiples-requires c =
     let one : at + w.result - at ≡ w.result = omega arith in (
       start.requires.0,
       sym c.is_ordinary.ensures ∙ c.if-is_ordinary.true,
-      ap (λ (n : ℕ). length (part start.args.keys.now at n)) one ∙ length_part start.args.keys.now at w.result (key-end c.before) ∙ w.ensures.0,
+      ap (λ (n : ℕ). length (part start.args.keys.now at n)) one ∙ length_part start.args.keys.now at w.result (key-end start.args.s w.result start.args.i _ w.ensures.0 start.requires.1 start.requires.2) ∙ w.ensures.0,
     )
 
 pub returns-then-is_ordinary : goal.returns-then-is_ordinary

@@ -1,16 +1,10 @@
 -- `rows::add_row` meets its contract. The loop's invariant: the row's bytes from byte `first` on have been added to the sum's bytes below `at`. The measure is the
 -- number of bytes left.
-use borrow.Author.Rules.{rules}
-use mathlib.Core.Path.{◌≡◌, refl, ap, ◌∙◌, subst}
-use mathlib.Core.List.{List}
-use Prim.Native.Nat.{ℕ, ◌+◌, ◌*◌, ◌-◌, ◌/◌, ◌≤◌, ◌<◌, min}
-use native.Mathlib.Omega.{arith}
-use lib.ListN.{length, get_or}
-use Rattle.job.specs.declared.Nonce.{Nonce}
-use Rattle.job.specs.Versions.{block_of, byte_of}
-use Rattle.generator.proofs.Blocks.{block-byte}
+use mathlib.Core.Path.{◌≡◌}
+use Prim.Native.Nat.{◌+◌, ◌-◌, ◌/◌, ◌≤◌}
+use lib.ListN.{length}
+use Rattle.job.specs.Versions.{byte_of}
 use Rattle.columns.specs.Columns.{Xored}
-use Rattle.columns.proofs.Adding.{xored-none, xored-same, xored-then}
 use Rattle.rows.proofs.add_row.Given as goal
 
 abbrev pub invariant-loop-at : goal.invariant-loop-at

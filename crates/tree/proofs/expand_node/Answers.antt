@@ -1,6 +1,5 @@
 -- What `key_schedule` and `fill_keyed` ensure of the parts they are lent.
-use borrow.Author.Rules.{rules}
-use mathlib.Core.Path.{◌≡◌, refl, sym, ap, ap₂, subst, ◌∙◌}
+use mathlib.Core.Path.{◌≡◌, sym, ap, ap₂, subst, ◌∙◌}
 use mathlib.Core.List.{List, ◌++◌}
 use Prim.Native.Nat.{ℕ, ◌+◌, ◌-◌, ◌*◌, ◌/◌, ◌%◌, ◌^◌, ◌≤◌, ◌<◌}
 use native.Mathlib.Nat.{le-add_right}
@@ -27,52 +26,45 @@ record Places (n a d : ℕ) : Type 0 where
   pub last : n * (2 * a + 1) + 2 * n ≡ n * (2 * a + 3)
   pub room : n * (2 * a + 1) + 2 * n ≤ d
 
-places : (n a d : ℕ) → 16 ≤ n → n * (2 * a + 3) ≤ d → d < 2 ^ 32 → Places n a d
-places n a d h r l =
+places : (n a d : ℕ) → (16 ≤ n) × (n ≤ 32) × (n % 8 ≡ 0) × (n * (2 * a + 3) ≤ d) × (d < 2 ^ 32) → Places n a d
+places n a d h =
     let one = node-place n a 1 in
     let three = node-place n a 3 in
-    let m = mul-limit 16 a n a h (let z : a ≤ a = omega arith in z) in
+    let m = mul-limit 16 a n a h.0 (let z : a ≤ a = omega arith in z) in
+    let r = h.3 in
+    let l = h.4 in
     record { small = omega arith; node = omega arith; last = omega arith; room = omega arith }
 
-module _ (c : goal.After-slice-known) where
-  abbrev At : Type 0
-  At = Places c.before.args.n c.before.args.a (length c.before.args.tree.now)
-
-  at : At
-  at = (let p = c.before.requires.le_n in places c.before.args.n c.before.args.a _ p.0 p.3 p.4)
-
 -- the key has a node's length
-key-size : (c : goal.After-tree-1) → length (part c.args.tree.now (c.args.n * c.args.a) (c.args.n * c.args.a + c.args.n - c.args.n * c.args.a)) ≡ c.args.n
-key-size c =
-    let g = c.args in
-    let one : g.n * g.a + g.n - g.n * g.a ≡ g.n = omega arith in
-    ap (λ (m : ℕ). length (part g.tree.now (g.n * g.a) m)) one ∙ length_part g.tree.now (g.n * g.a) g.n (key-end c)
+key-size : (n a : ℕ) (x : List ℕ) → Places n a (length x) → length (part x (n * a) (n * a + n - n * a)) ≡ n
+key-size n a x p =
+    let one : n * a + n - n * a ≡ n = omega arith in
+    ap (λ (m : ℕ). length (part x (n * a) m)) one ∙ length_part x (n * a) n (omega arith)
 
 -- the children have the length of two nodes
-two_size : (c : goal.After-keys-1) → length (part c.args.tree.now (c.args.n * (2 * c.args.a + 1)) (c.args.n * (2 * c.args.a + 1) + 2 * c.args.n - c.args.n * (2 * c.args.a + 1))) ≡ 2 * c.args.n
-two_size c =
-    let g = c.args in
-    let from = g.n * (2 * g.a + 1) in
-    let two : from + 2 * g.n - from ≡ 2 * g.n = omega arith in
-    ap (λ (m : ℕ). length (part g.tree.now from m)) two ∙ length_part g.tree.now from (2 * g.n) (to_end c)
+two_size : (n a : ℕ) (x : List ℕ) → Places n a (length x) → length (part x (n * (2 * a + 1)) (n * (2 * a + 1) + 2 * n - n * (2 * a + 1))) ≡ 2 * n
+two_size n a x p =
+    let from = n * (2 * a + 1) in
+    let two : from + 2 * n - from ≡ 2 * n = omega arith in
+    ap (λ (m : ℕ). length (part x from m)) two ∙ length_part x from (2 * n) p.room
 
 pub overflow_mul-from : goal.overflow_mul-from
-overflow_mul-from c = (let p = at c in omega arith)
+overflow_mul-from c = (let p = places c.args.n c.args.a (length c.args.tree.now) c.requires.le_n in omega arith)
 
 pub overflow_add-from : goal.overflow_add-from
-overflow_add-from c = (let p = at c in omega arith)
+overflow_add-from c = (let p = places c.args.n c.args.a (length c.args.tree.now) c.requires.le_n in omega arith)
 
 pub overflow_mul-from-2 : goal.overflow_mul-from-2
-overflow_mul-from-2 c = (let p = at c in omega (arith, c.requires.le_n.4))
+overflow_mul-from-2 c = (let p = places c.args.n c.args.a (length c.args.tree.now) c.requires.le_n in omega (arith, c.requires.le_n.4))
 
 pub overflow_mul-n : goal.overflow_mul-n
-overflow_mul-n c = (let p = at c in omega (arith, c.requires.le_n.4))
+overflow_mul-n c = (let p = places c.args.n c.args.a (length c.args.tree.now) c.requires.le_n in omega (arith, c.requires.le_n.4))
 
 pub overflow_mul-n-2 : goal.overflow_mul-n-2
-overflow_mul-n-2 c = (let p = at c in omega (arith, c.requires.le_n.4))
+overflow_mul-n-2 c = (let p = places c.args.n c.args.a (length c.args.tree.now) c.requires.le_n in omega (arith, c.requires.le_n.4))
 
 pub overflow_add-n : goal.overflow_add-n
-overflow_add-n c = (let p = at c in omega (arith, c.requires.le_n.4))
+overflow_add-n c = (let p = places c.args.n c.args.a (length c.args.tree.now) c.requires.le_n in omega (arith, c.requires.le_n.4))
 
 pub slice_bounds-key_schedule-count : goal.slice_bounds-key_schedule-count
 slice_bounds-key_schedule-count c = le-add_right _ _
@@ -81,20 +73,20 @@ pub slice_bounds-key_schedule-start : goal.slice_bounds-key_schedule-start
 slice_bounds-key_schedule-start c = le-add_right _ _
 
 pub slice_bounds-key_schedule-end : goal.slice_bounds-key_schedule-end
-slice_bounds-key_schedule-end c = (let p = at c.before in omega arith)
+slice_bounds-key_schedule-end c = (let p = places c.args.n c.args.a (length c.args.tree.now) c.requires.le_n in omega arith)
 
 pub key_schedule-keys-requires : goal.key_schedule-keys-requires
 key_schedule-keys-requires c =
     let start = c in
     let p = start.requires.le_n in
-    let e = key-size c.before in
-    (start.requires.sbox_table, (omega (arith, p.0), omega (arith, p.1), ap (λ (m : ℕ). m % 8) e ∙ p.2))
+    let e = key-size c.args.n c.args.a c.args.tree.now (places c.args.n c.args.a (length c.args.tree.now) c.requires.le_n) in
+    record { sbox_table = start.requires.sbox_table; in_bounds = (omega (arith, p.0), omega (arith, p.1), ap (λ (m : ℕ). m % 8) e ∙ p.2) }
 
 pub overflow_cast-x : goal.overflow_cast-x
-overflow_cast-x c = (let p = at c.before.before.before in omega arith)
+overflow_cast-x c = (let p = places c.args.n c.args.a (length c.args.tree.now) c.requires.le_n in omega arith)
 
 pub overflow_add-from-2 : goal.overflow_add-from-2
-overflow_add-from-2 c = (let p = at c.before.before.before.before in omega (arith, c.requires.le_n.4))
+overflow_add-from-2 c = (let p = places c.args.n c.args.a (length c.args.tree.now) c.requires.le_n in omega (arith, c.requires.le_n.4))
 
 pub slice_bounds-fill_keyed-count : goal.slice_bounds-fill_keyed-count
 slice_bounds-fill_keyed-count c = le-add_right _ _
@@ -103,15 +95,15 @@ pub slice_bounds-fill_keyed-start : goal.slice_bounds-fill_keyed-start
 slice_bounds-fill_keyed-start c = le-add_right _ _
 
 pub slice_bounds-fill_keyed-end : goal.slice_bounds-fill_keyed-end
-slice_bounds-fill_keyed-end c = (let p = at c.before.before.before.before in omega arith)
+slice_bounds-fill_keyed-end c = (let p = places c.args.n c.args.a (length c.args.tree.now) c.requires.le_n in omega arith)
 
 pub fill_keyed-requires : goal.fill_keyed-requires
 fill_keyed-requires c =
     let start = c in
     let p = start.requires.le_n in
-    let e = two_size c.before in
+    let e = two_size c.args.n c.args.a c.args.tree.now (places c.args.n c.args.a (length c.args.tree.now) c.requires.le_n) in
     let n = start.args.n in
-    (start.requires.sbox_table, (omega (arith, p.0), omega (arith, p.1), omega (arith, p.2), omega (arith, p.1)))
+    record { sbox_table = start.requires.sbox_table; le_rounds = (omega (arith, p.0), omega (arith, p.1), omega (arith, p.2), omega (arith, p.1)) }
 
 pub returns : goal.returns
 unfolding prg children
@@ -122,19 +114,19 @@ returns c = λ s ok e.
     let n = g.n in
     let a = g.a in
     let from = n * (2 * a + 1) in
-    let p = at c.before.before.before.before.before.before.before.before in
+    let p = places c.args.n c.args.a (length c.args.tree.now) c.requires.le_n in
     let w = widths s (shape-facts s ok) in
     let words : n ≡ 4 * key_words s = e ∙ w.node-words in
     let one : n * a + n - n * a ≡ n = omega arith in
     let key : part x (n * a) (n * a + n - n * a) ≡ part x (n * a) n = ap (part x (n * a)) one in
     let schedule = c.key_schedule-keys in
-    let quarter : length (part x (n * a) (n * a + n - n * a)) / 4 ≡ key_words s = (let k = key-size c.before.before.before.before.before.before.before in omega arith) in
+    let quarter : length (part x (n * a) (n * a + n - n * a)) / 4 ≡ key_words s = (let k = key-size c.args.n c.args.a c.args.tree.now (places c.args.n c.args.a (length c.args.tree.now) c.requires.le_n) in omega arith) in
     let keyed = subst (λ (m : ℕ). Keyed m (part x (n * a) (n * a + n - n * a)) schedule.result) quarter schedule.ensures in
     let rounds : n / 4 + 6 ≡ key_words s + 6 = omega arith in
     let f : List ℕ → ℕ → ℕ = λ k. byte_of (key_words s) k (record { iv = g.iv; tweak = a; version = g.version }) in
     let made =
     c.fill_keyed.ensures (key_words s) _ rounds keyed
-    ∙ ap₂ (λ (m : ℕ) (k : List ℕ). tabulate m (λ q. f k (0 + q))) (two_size c.before.before.before.before ∙ ap (λ (m : ℕ). 2 * m) e) key
+    ∙ ap₂ (λ (m : ℕ) (k : List ℕ). tabulate m (λ q. f k (0 + q))) (two_size c.args.n c.args.a c.args.tree.now (places c.args.n c.args.a (length c.args.tree.now) c.requires.le_n) ∙ ap (λ (m : ℕ). 2 * m) e) key
     ∙ tabulate-from-0 (2 * node_bytes s) (f (part x (n * a) n))
     ∙ ap (tabulate (2 * node_bytes s)) (sym (prg-byte g.version s (part x (n * a) n) g.iv a)) in
     let rest : drop (from + 2 * n - from) (drop from x) ≡ drop (n * (2 * a + 3)) x = behind from (2 * n) x ∙ ap (λ (m : ℕ). drop m x) p.last in

@@ -1,5 +1,4 @@
 -- The shift does not leave the word, and both summands are numbers of one level.
-use borrow.Author.Rules.{rules}
 use Prim.Native.Nat.{◌+◌, ◌^◌, ◌≤◌}
 use native.Mathlib.Omega.{arith}
 use lib.Pow.{pow_pos, pow_mono}

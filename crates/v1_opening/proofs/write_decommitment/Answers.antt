@@ -1,4 +1,3 @@
-use borrow.Author.Rules.{rules}
 use mathlib.Core.Path.{◌≡◌, sym, ap, ap₂, ◌∙◌}
 use mathlib.Core.List.{List, [], ◌++◌, append-nil}
 use Prim.Native.Nat.{ℕ, ◌+◌, ◌-◌, ◌*◌, ◌^◌, ◌≤◌, ◌<◌}
@@ -7,12 +6,12 @@ use native.Mathlib.Omega.{arith}
 use lib.ListN.{length, take, drop, drop_of_length-le}
 use lib.Pow.{pow_mono}
 use Rattle.spec.specs.Bytes.{part, concat}
-use Rattle.spec.specs.Version1.{sibling_at}
 use Rattle.laws.proofs.Concat.{part-whole, mul_next, mul-within, mul-limit}
 use Rattle.laws.proofs.Lists.{length_part}
 use Rattle.laws.proofs.Putting.{put_next}
 use Rattle.v1_opening.proofs.write_decommitment.Invariants.{shown}
 use Rattle.v1_opening.proofs.write_decommitment.Goals as goal
+use Rattle.v1_opening.proofs.write_decommitment.Goals.{After-sibling-node}
 
 -- the sibling of the turn in its tree, and its place in the decommitment
 record Placed (n d a l t : ℕ) : Type 0 where
@@ -27,15 +26,8 @@ placed n d a l t hn hd e h k =
     let q = mul-limit n (2 * 2 ^ d - 1) 32 8192 hn (omega arith) in
     record { node = omega arith; small = omega arith; place = p }
 
-module _ (c : goal.After-sibling-node) where
-  abbrev At : Type 0
-  At = Placed c.before.before.before.before.before.before.args.n c.before.before.before.before.before.before.args.d c.sibling.result c.before.before.loop.l (length c.before.before.before.before.before.before.args.tree.now)
-
-  at : At
-  at =
-      let start = c.before.before.before.before.before.before in
-      let g = start.args in
-      placed g.n g.d _ _ _ start.requires.0 (pow_mono {i = g.d} {j = 12} start.requires.1) start.requires.3 c.sibling.ensures.1 (omega arith)
+at : (c : After-sibling-node) → Placed c.args.n c.args.d c.sibling-node.result c.loop-l.l (length c.args.tree.now)
+at c = (let g = c.args in placed g.n g.d _ _ _ c.requires.0 (pow_mono {i = g.d} {j = 12} c.requires.1) c.requires.3 c.sibling-node.ensures.1 (omega arith))
 
 -- a product of two small numbers
 small : (n d : ℕ) → n ≤ 32 → d ≤ 12 → n * d ≤ 384
@@ -48,15 +40,15 @@ loop-l-init c =
     (omega arith, start.requires.5, ap (λ (m : ℕ). take m start.args.out.now) (mul-zero start.args.n))
 
 pub overflow_mul-n : goal.overflow_mul-n
-overflow_mul-n c = let p = at c in omega arith
+overflow_mul-n c = let p = at (goal.at.overflow_mul-n c).After-sibling-node in omega arith
 
 pub overflow_mul-n-in-loop-l : goal.overflow_mul-n-in-loop-l
-overflow_mul-n-in-loop-l c = let p = at c.before in let l = c.loop-l.invariant.1 in omega arith
+overflow_mul-n-in-loop-l c = let p = at (goal.at.overflow_mul-n-in-loop-l c).After-sibling-node in let l = c.loop-l.invariant.1 in omega arith
 
 pub copy_part-requires : goal.copy_part-requires
 copy_part-requires c =
     let l = c.loop-l.invariant.1 in
-    let p = at c.before in
+    let p = at (goal.at.copy_part-requires c).After-sibling-node in
     (p.node, omega arith)
 
 pub loop-l-preserved : goal.loop-l-preserved
@@ -65,7 +57,7 @@ loop-l-preserved c =
     let g = start.args in
     let l = c.loop-l in
     let a = c.sibling-node in
-    let p = at c.before.before.before.before in
+    let p = at (goal.at.loop-l-preserved c).After-sibling-node in
     let long = l.invariant.1 in
     let copy = c.copy_part in
     let out = copy.new.dst in

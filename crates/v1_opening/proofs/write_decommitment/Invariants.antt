@@ -1,17 +1,10 @@
 -- After l turns the first l siblings stand; the leaf commitment fills the rest.
-use borrow.Author.Rules.{rules}
-use mathlib.Core.Path.{◌≡◌, sym, ap, ap₂, ◌∙◌}
-use mathlib.Core.List.{List, [], ◌++◌, append-nil}
-use Prim.Native.Nat.{ℕ, ◌+◌, ◌-◌, ◌*◌, ◌^◌, ◌≤◌, ◌<◌}
-use native.Mathlib.Nat.{mul-zero}
-use native.Mathlib.Omega.{arith}
-use lib.ListN.{length, take, drop, drop_of_length-le}
-use lib.Pow.{pow_mono}
+use mathlib.Core.Path.{◌≡◌}
+use mathlib.Core.List.{List}
+use Prim.Native.Nat.{ℕ, ◌+◌, ◌-◌, ◌*◌, ◌≤◌}
+use lib.ListN.{length, take}
 use Rattle.spec.specs.Bytes.{part, concat}
 use Rattle.spec.specs.Version1.{sibling_at}
-use Rattle.laws.proofs.Concat.{part-whole, mul_next, mul-within, mul-limit}
-use Rattle.laws.proofs.Lists.{length_part}
-use Rattle.laws.proofs.Putting.{put_next}
 use Rattle.v1_opening.proofs.write_decommitment.Given as goal
 
 abbrev pub shown : ℕ → ℕ → ℕ → List ℕ → ℕ → List ℕ

@@ -1,6 +1,5 @@
-use borrow.Author.Rules.{rules}
 use mathlib.Core.Path.{◌≡◌, sym, ap, ◌∙◌}
-use Prim.Native.Nat.{ℕ, ◌+◌, ◌-◌, ◌*◌, ◌≤◌}
+use Prim.Native.Nat.{ℕ, ◌+◌, ◌*◌}
 use native.Mathlib.Nat.{mul-zero}
 use native.Mathlib.Omega.{arith}
 use lib.ListN.{length, take}
@@ -23,7 +22,7 @@ loop-i-init c =
 pub write_vector-requires : goal.write_vector-requires
 write_vector-requires c =
     let p = c.requires in
-    ((p.s_value.0, p.s_value.1, p.s_value.2, omega arith), (p.trees_len.0, p.trees_len.1, c.loop-i.invariant.1))
+    record { s_value = (p.s_value.0, p.s_value.1, p.s_value.2, omega arith); trees_len = (p.trees_len.0, p.trees_len.1, c.loop-i.invariant.1) }
 
 pub loop-i-preserved : goal.loop-i-preserved
 loop-i-preserved c =

@@ -1,16 +1,9 @@
 -- After i turns the decommitments of the first i vectors stand, one behind another.
-use borrow.Author.Rules.{rules}
-use mathlib.Core.Path.{◌≡◌, sym, ap, ◌∙◌}
-use Prim.Native.Nat.{ℕ, ◌+◌, ◌-◌, ◌*◌, ◌≤◌}
-use native.Mathlib.Nat.{mul-zero}
-use native.Mathlib.Omega.{arith}
+use mathlib.Core.Path.{◌≡◌}
+use Prim.Native.Nat.{◌-◌, ◌≤◌}
 use lib.ListN.{length, take}
-use lib.Seq.{take_all}
 use Rattle.spec.specs.Bytes.{concat}
-use Rattle.spec.specs.Shapes.{level, node_bytes, first_bit}
-use Rattle.spec.specs.Version1.{decommitment, opening1_of, decommitment_from, opening1_bytes}
-use Rattle.planning_laws.proofs.Depths.{bit-none}
-use Rattle.planning_laws.proofs.ShapeFacts.{shape-facts, bit-all}
+use Rattle.spec.specs.Version1.{decommitment, decommitment_from, opening1_bytes}
 use Rattle.v1_opening.proofs.write_opening.Given as goal
 
 abbrev pub invariant-loop-i : goal.invariant-loop-i

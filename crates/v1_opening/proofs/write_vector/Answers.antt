@@ -1,6 +1,5 @@
 -- Each part lent ends where the next vector's begins, and what is written is the decommitment of the vector.
 -- ---- where each part ends, and what is between its start and its end
-use borrow.Author.Rules.{rules}
 use mathlib.Core.Path.{◌≡◌, refl, sym, ap, ◌∙◌}
 use Prim.Native.Nat.{ℕ, ◌+◌, ◌-◌, ◌*◌, ◌^◌, ◌≤◌}
 use native.Mathlib.Omega.{arith}
@@ -10,33 +9,26 @@ use Rattle.spec.specs.Version1.{decommitment}
 use Rattle.laws.proofs.Concat.{mul-limit}
 use Rattle.v1_opening.proofs.Parts.{lent, put-behind, tree-part, opening-part, leaf-part, is-decommitment}
 use Rattle.v1_opening.proofs.write_vector.Goals as goal
+use Rattle.v1_opening.proofs.write_vector.Goals.{After-decommitment_from-end, After-entry_of, After-first_node-2}
 
-module _ (c : goal.After-first-node2) where
-  abbrev Tree : Type 0
-  Tree =
-      (c.before.before.before.before.node-bytes.result * c.first-node2.result ≡ c.before.before.before.before.node-bytes.result * c.before.first-node.result + c.before.before.before.before.node-bytes.result * (2 * 2 ^ c.before.before.before.depth-of.result - 1))
-      × (c.before.before.before.before.node-bytes.result * c.first-node2.result ≤ length c.before.before.before.before.before.before.before.before.before.args.trees.now)
+tree : (c : After-first_node-2) →
+    (c.node_bytes-n.result * c.first_node-2.result ≡ c.node_bytes-n.result * c.first_node.result + c.node_bytes-n.result * (2 * 2 ^ c.depth_of-d.result - 1))
+    × (c.node_bytes-n.result * c.first_node-2.result ≤ length c.args.trees.now)
+tree c =
+    let start = c in
+    tree-part start.args.s start.requires.s_value.0 start.args.i start.requires.s_value.3 _ _ _ _ _ c.node_bytes-n.ensures.0 c.depth_of-d.ensures.0 c.first_node.ensures.0 c.first_node-2.ensures.0 start.requires.trees_len.0
 
-  tree : Tree
-  tree =
-      let start = c.before.before.before.before.before.before.before.before.before in
-      tree-part start.args.s start.requires.s_value.0 start.args.i start.requires.s_value.3 _ _ _ _ _ c.before.before.before.before.node-bytes.ensures.0 c.before.before.before.depth-of.ensures.0 c.before.first-node.ensures.0 c.first-node2.ensures.0 start.requires.trees_len.0
-
-leaf : (c : goal.After-entry-of) → 2 * c.before.before.before.before.before.node-bytes.result * c.entry_of.result + 2 * c.before.before.before.before.before.node-bytes.result ≤ length c.before.before.before.before.before.before.before.before.before.before.args.lcs.now
+leaf : (c : After-entry_of) → 2 * c.node_bytes-n.result * c.entry_of.result + 2 * c.node_bytes-n.result ≤ length c.args.lcs.now
 leaf c =
-    let start = c.before.before.before.before.before.before.before.before.before.before in
-    leaf-part start.args.s _ _ _ c.before.before.before.before.before.node-bytes.ensures.0 c.entry_of.ensures.1 start.requires.trees_len.1
+    let start = c in
+    leaf-part start.args.s _ _ _ c.node_bytes-n.ensures.0 c.entry_of.ensures.1 start.requires.trees_len.1
 
-module _ (c : goal.After-decommitment-from2) where
-  abbrev Place : Type 0
-  Place =
-      (c.before.decommitment-from.result + (c.before.before.before.before.before.before.before.node-bytes.result * c.before.before.before.before.before.before.depth-of.result + 2 * c.before.before.before.before.before.before.before.node-bytes.result) ≡ c.decommitment-from2.result)
-      × (c.decommitment-from2.result ≤ length c.before.before.before.before.before.before.before.before.before.before.before.before.args.opening.now)
-
-  place : Place
-  place =
-      let start = c.before.before.before.before.before.before.before.before.before.before.before.before in
-      opening-part start.args.s start.requires.s_value.0 start.args.i start.requires.s_value.3 _ _ _ _ _ start.requires.s_value.1 c.before.before.before.before.before.before.before.node-bytes.ensures.0 c.before.before.before.before.before.before.depth-of.ensures.0 c.before.decommitment-from.ensures.0 c.decommitment-from2.ensures.0 start.requires.trees_len.2
+place : (c : After-decommitment_from-end) →
+    (c.decommitment_from-at.result + (c.node_bytes-n.result * c.depth_of-d.result + 2 * c.node_bytes-n.result) ≡ c.decommitment_from-end.result)
+    × (c.decommitment_from-end.result ≤ length c.args.opening.now)
+place c =
+    let start = c in
+    opening-part start.args.s start.requires.s_value.0 start.args.i start.requires.s_value.3 _ _ _ _ _ start.requires.s_value.1 c.node_bytes-n.ensures.0 c.depth_of-d.ensures.0 c.decommitment_from-at.ensures.0 c.decommitment_from-end.ensures.0 start.requires.trees_len.2
 
 pub overflow_mul-from : goal.overflow_mul-from
 overflow_mul-from c =
@@ -45,34 +37,34 @@ overflow_mul-from c =
     omega arith
 
 pub overflow_mul-to : goal.overflow_mul-to
-overflow_mul-to c = let t = (tree c).1 in omega arith
+overflow_mul-to c = let t = (tree (goal.at.overflow_mul-to c).After-first_node-2).1 in omega arith
 
 pub overflow_mul-lc-2 : goal.overflow_mul-lc-2
-overflow_mul-lc-2 c = let l = leaf c in omega arith
+overflow_mul-lc-2 c = let l = leaf (goal.at.overflow_mul-lc-2 c).After-entry_of in omega arith
 
 pub overflow_add-hidden : goal.overflow_add-hidden
-overflow_add-hidden c = let l = leaf c.before.before in omega arith
+overflow_add-hidden c = let l = leaf (goal.at.overflow_add-hidden c).After-entry_of in omega arith
 
 pub slice_bounds-hidden-end : goal.slice_bounds-hidden-end
-slice_bounds-hidden-end c = leaf c.before.before
+slice_bounds-hidden-end c = leaf (goal.at.slice_bounds-hidden-end c).After-entry_of
 
 pub slice_bounds-write_decommitment-count : goal.slice_bounds-write_decommitment-count
-slice_bounds-write_decommitment-count c = let t = (tree c.before.before.before.before).0 in omega arith
+slice_bounds-write_decommitment-count c = let t = (tree (goal.at.slice_bounds-write_decommitment-count c).After-first_node-2).0 in omega arith
 
 pub slice_bounds-write_decommitment-start : goal.slice_bounds-write_decommitment-start
-slice_bounds-write_decommitment-start c = let t = (tree c.before.before.before.before).0 in omega arith
+slice_bounds-write_decommitment-start c = let t = (tree (goal.at.slice_bounds-write_decommitment-start c).After-first_node-2).0 in omega arith
 
 pub slice_bounds-write_decommitment-end : goal.slice_bounds-write_decommitment-end
-slice_bounds-write_decommitment-end c = (tree c.before.before.before.before).1
+slice_bounds-write_decommitment-end c = (tree (goal.at.slice_bounds-write_decommitment-end c).After-first_node-2).1
 
 pub slice_bounds-write_decommitment-count-2 : goal.slice_bounds-write_decommitment-count-2
-slice_bounds-write_decommitment-count-2 c = let p = (place c.before.before).0 in omega arith
+slice_bounds-write_decommitment-count-2 c = let p = (place (goal.at.slice_bounds-write_decommitment-count-2 c).After-decommitment_from-end).0 in omega arith
 
 pub slice_bounds-write_decommitment-start-2 : goal.slice_bounds-write_decommitment-start-2
-slice_bounds-write_decommitment-start-2 c = let p = (place c.before.before).0 in omega arith
+slice_bounds-write_decommitment-start-2 c = let p = (place (goal.at.slice_bounds-write_decommitment-start-2 c).After-decommitment_from-end).0 in omega arith
 
 pub slice_bounds-write_decommitment-end-2 : goal.slice_bounds-write_decommitment-end-2
-slice_bounds-write_decommitment-end-2 c = (place c.before.before).1
+slice_bounds-write_decommitment-end-2 c = (place (goal.at.slice_bounds-write_decommitment-end-2 c).After-decommitment_from-end).1
 
 pub write_decommitment-requires : goal.write_decommitment-requires
 unfolding entries_of
@@ -82,11 +74,11 @@ write_decommitment-requires c =
     let n = c.node_bytes-n in
     let d = c.depth_of-d in
     let j = c.hidden_index-j in
-    let t = tree c.before.before.before.before.before.before in
-    let p = place c.before.before.before in
+    let t = tree (goal.at.write_decommitment-requires c).After-first_node-2 in
+    let p = place (goal.at.write_decommitment-requires c).After-decommitment_from-end in
     let pow : 2 ^ d.result ≡ 2 ^ depth_of g.s g.i = ap (λ (m : ℕ). 2 ^ m) d.ensures.0 in
     let low = j.ensures.1 in
-    (n.ensures.2, d.ensures.1, omega arith, lent _ _ _ g.trees.now t.0 t.1, lent _ _ _ g.lcs.now refl (leaf c.before.before.before.before.before), lent _ _ _ g.opening.now (sym p.0) p.1)
+    (n.ensures.2, d.ensures.1, omega arith, lent _ _ _ g.trees.now t.0 t.1, lent _ _ _ g.lcs.now refl (leaf (goal.at.write_decommitment-requires c).After-entry_of), lent _ _ _ g.opening.now (sym p.0) p.1)
 
 pub returns : goal.returns
 returns c = λ front.
@@ -100,7 +92,7 @@ returns c = λ front.
     let e = c.entry_of in
     let at = c.decommitment_from-at in
     let end = c.decommitment_from-end in
-    let p = place c.before.before.before.before.before.before in
+    let p = place (goal.at.returns c).After-decommitment_from-end in
     let made = c.write_decommitment in
     let y = made.new.out in
     let size = n.result * d.result + 2 * n.result in

@@ -1,5 +1,4 @@
 -- Each vector before vector i has an entry at least, so nothing is taken from less.
-use borrow.Author.Rules.{rules}
 use native.Mathlib.Omega.{arith}
 use Rattle.spec.specs.Version1.{first_node}
 use Rattle.planning_laws.proofs.ShapeFacts.{shape-facts}

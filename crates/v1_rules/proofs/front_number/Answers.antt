@@ -1,5 +1,4 @@
 -- The tests in their order.
-use borrow.Author.Rules.{rules}
 use Rattle.v1_rules.proofs.front_number.Goals as goal
 
 pub returns : goal.returns

@@ -1,5 +1,4 @@
 -- What the two tests of version 2 ensure, in their places.
-use borrow.Author.Rules.{rules}
 use mathlib.Core.Path.{ap₂}
 use mathlib.Core.Bool.{Bool, ◌&&◌}
 use lib.Dec.{eqb}

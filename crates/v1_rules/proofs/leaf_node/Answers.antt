@@ -1,7 +1,6 @@
 -- An entry's leaf lies in the trees, so no sum overflows.
 use native.Mathlib.Omega.{arith}
-use borrow.Author.Rules.{rules}
-use Rattle.spec.specs.Version1.{first_node, leaf_in}
+use Rattle.spec.specs.Version1.{leaf_in}
 use Rattle.planning_laws.proofs.ShapeFacts.{shape-facts}
 use Rattle.planning_laws.proofs.Forest.{forest-leaf}
 use Rattle.v1_rules.proofs.leaf_node.Goals as goal

@@ -31,7 +31,7 @@ returns-in-One c =
     let start = c in
     let ready = start.requires.0 in
     let s = start.args.g.shape in
-    within-one _ s (shape-facts s ready.shape) ready.kind start.args.i _ start.requires.1 c.enum_told-1.given.1
+    within-one _ s (shape-facts s ready.shape) ready.kind start.args.i _ start.requires.1 c.in-One.is
     (ap₂ ◌+◌ c.decommitment_from.ensures.0 (ap₂ ◌*◌ c.node_bytes.ensures.0 c.depth_of.ensures.0))
 
 pub returns-in-Two : goal.returns-in-Two
@@ -39,4 +39,4 @@ returns-in-Two c =
     let start = c in
     let ready = start.requires.0 in
     let s = start.args.g.shape in
-    within-two _ s (shape-facts s ready.shape) ready.kind start.args.i _ start.requires.1 c.enum_told-in-Two-1.given.1 (ap (λ (w : ℕ). w * start.args.i) c.commitment_bytes.ensures.0)
+    within-two _ s (shape-facts s ready.shape) ready.kind start.args.i _ start.requires.1 c.in-Two.is (ap (λ (w : ℕ). w * start.args.i) c.commitment_bytes.ensures.0)
