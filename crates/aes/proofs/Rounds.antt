@@ -6,14 +6,14 @@ use native.Mathlib.Omega.{arith}
 use lib.ListN.{get_or}
 use lib.Seq.{get_or-take}
 use Rattle.spec.specs.Aes.{sub_bytes, shift_rows, mix_columns, add_round_key, round_of, last_round, round_key, rounds, cipher, key_expansion}
-use Rattle.laws.proofs.Lists.{get_d_tabulate}
+use Rattle.laws.proofs.Lists.{get_or-tabulate}
 use Rattle.aes_keys.specs.RoundKeys.{round_keys, Keyed}
 use Rattle.aes.specs.Rounded.{Rounded}
 
 round-key-at : (nk : ℕ) (key : List ℕ) (keys : List (List (List ℕ))) (i : ℕ) → Keyed nk key keys → i < nk + 7 → get_or keys i [] ≡ round_key (key_expansion nk key) i
 unfolding round_keys
 round-key-at nk key keys i e h =
-    sym (get_or-take (nk + 7) keys i [] h) ∙ ap (λ (l : List (List (List ℕ))). get_or l i []) e ∙ get_d_tabulate (nk + 7) (round_key (key_expansion nk key)) i [] h
+    sym (get_or-take (nk + 7) keys i [] h) ∙ ap (λ (l : List (List (List ℕ))). get_or l i []) e ∙ get_or-tabulate (nk + 7) (round_key (key_expansion nk key)) i [] h
 
 -- one more round
 rounds-more : (w s x k y : List (List ℕ)) (i : ℕ) → 0 < i → x ≡ rounds w s (i - 1) → k ≡ round_key w i → y ≡ round_of x k → y ≡ rounds w s (i + 1 - 1)

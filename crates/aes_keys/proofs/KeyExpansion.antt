@@ -11,7 +11,7 @@ use lib.Seq.{get_or_at}
 use Rattle.spec.specs.Bytes.{tabulate}
 use Rattle.spec.specs.Aes.{column, state, word_at, xor_word, sub_word, rot_word, round_key, power2, rcon, schedule_core, next_word, schedule, key_expansion}
 use Rattle.aes_keys.specs.RoundKeys.{next_round_key, odd_round_key, six_of, six_words, lower_four, next_six}
-use Rattle.laws.proofs.Lists.{length-tabulate, get_d_tabulate}
+use Rattle.laws.proofs.Lists.{length-tabulate, get_or-tabulate}
 
 -- word i as it follows from the words before it
 abbrev following : ℕ → List (List ℕ) → ℕ → List ℕ
@@ -58,7 +58,7 @@ pub key-words : (nk : ℕ) (key : List ℕ) (i : ℕ) → i < nk → column (key
 unfolding key_expansion
 key-words nk key i h =
     first-words nk (tabulate nk (word_at key)) (length-tabulate nk (word_at key)) (omega arith) (3 * nk + 28) i h
-    ∙ get_d_tabulate nk (word_at key) i [] h
+    ∙ get_or-tabulate nk (word_at key) i [] h
 
 pub word-follows : (nk : ℕ) (key : List ℕ) (i : ℕ) → 0 < nk → nk ≤ i → i < 4 * nk + 28 → column (key_expansion nk key) i ≡ following nk (key_expansion nk key) i
 unfolding key_expansion

@@ -9,7 +9,7 @@ use lib.Bits.{bit_xor, xor_zero_r}
 use lib.ListN.{length, get_or, set, length-set}
 use lib.Seq.{get_or-set_same, get_or-set_other}
 use Rattle.spec.specs.Bytes.{part}
-use Rattle.laws.proofs.Lists.{length_part, get_d_part}
+use Rattle.laws.proofs.Lists.{length_part, get_or-part}
 use Rattle.laws.proofs.Putting.{put, put-size, put_byte, put-other-byte}
 use Rattle.laws.proofs.Concat.{mul-within}
 use Rattle.columns.specs.Columns.{Xored, Added, Done}
@@ -73,7 +73,7 @@ xored-lent at w f l y h r =
           put_byte l y at w h long p a b
           ∙ r.inside (p - at) (omega arith) (omega (arith, size))
           ∙ ap (λ (x : ℕ). bit_xor x (f (p - at)))
-          (get_d_part l at (at + w - at) (p - at) (omega arith) ∙ ap (λ (n : ℕ). get_or l n 0) (let z : at + (p - at) ≡ p = omega arith in z));
+          (get_or-part l at (at + w - at) (p - at) (omega arith) ∙ ap (λ (n : ℕ). get_or l n 0) (let z : at + (p - at) ≡ p = omega arith in z));
       outside = λ p q. put-other-byte l y at w h long p q;
     }
   where

@@ -11,7 +11,7 @@ use lib.Bits.{bit_xor, xor_self, xor_zero_r}
 use lib.ListN.{length, get_or}
 use Rattle.spec.specs.Bytes.{bit, part, tabulate, concat, xor_below}
 use Rattle.laws.proofs.Xor.{xor_assoc, xor-cancel}
-use Rattle.laws.proofs.Lists.{get_d_part}
+use Rattle.laws.proofs.Lists.{get_or-part}
 use Rattle.laws.proofs.Concat.{mul-within, is-concat}
 use Rattle.laws.proofs.Running.{bit-zero, bit-power, marked, marked_next, marked-highest}
 use Rattle.columns.specs.Columns.{Xored, Done, Running, Marked}

@@ -17,7 +17,7 @@ use Rattle.spec.specs.declared.Shape.{Shape}
 use Rattle.spec.specs.Bytes.{tabulate, number, digits, all_zero}
 use Rattle.spec.specs.Challenge.{bit_at, bits_at, index_at, clear_at}
 use Rattle.spec.specs.Shapes.{challenge_bytes, shape_ok, depth_of, entries_of, first_bit, hidden_index, grinding_ok}
-use Rattle.laws.proofs.Lists.{length-tabulate, get_d_tabulate}
+use Rattle.laws.proofs.Lists.{length-tabulate, get_or-tabulate}
 use Rattle.laws.proofs.Numbers.{Digits}
 use Rattle.laws.proofs.Digits.{digits_number, number_digits}
 use Rattle.laws.proofs.Limbs.{number-below, number-part}
@@ -70,7 +70,7 @@ digits-small n x i = go (dec_lt i n)
     f j = x / 2 ^ (8 * j) % 2 ^ 8
 
     go : Dec (i < n) → get_or (tabulate n f) i 0 < 2 ^ 8
-    go (yes h) = rw (get_d_tabulate n f i 0 h) (mod-lt (x / 2 ^ (8 * i)) (omega arith))
+    go (yes h) = rw (get_or-tabulate n f i 0 h) (mod-lt (x / 2 ^ (8 * i)) (omega arith))
     go (no h) = rw (get_or-eq_default (tabulate n f) 0 (let l : length (tabulate n f) ≤ i = omega (arith, length-tabulate n f) in l)) (omega arith)
 
 module _ (s : Shape) (ok : shape_ok s ≡ true) where

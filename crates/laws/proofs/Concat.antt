@@ -10,7 +10,7 @@ use lib.ListN.{length, get_or, take, drop, length-append, length-drop}
 use lib.Seq.{take-append-le, drop-append-le, drop-append-add, take-add, take_all, ext_get_or}
 use Rattle.spec.specs.Bytes.{part, tabulate, concat}
 use Rattle.laws.proofs.Segments.{segment-before}
-use Rattle.laws.proofs.Lists.{length-tabulate, get_d_tabulate, get_d_part}
+use Rattle.laws.proofs.Lists.{length-tabulate, get_or-tabulate, get_or-part}
 
 -- ---- a part of two strings
 
@@ -74,9 +74,9 @@ module _ (f : ℕ → List ℕ) (w : ℕ) where
 -- byte p of string j of strings given by a rule
 pub concat-byte : (b k : ℕ) (f : ℕ → ℕ → ℕ) (j p : ℕ) → j < k → p < b → get_or (concat k (λ j. tabulate b (f j))) (b * j + p) 0 ≡ f j p
 concat-byte b k f j p h l =
-    sym (get_d_part (concat k (λ j. tabulate b (f j))) (b * j) b p l)
+    sym (get_or-part (concat k (λ j. tabulate b (f j))) (b * j) b p l)
     ∙ ap (λ (x : List ℕ). get_or x p 0) (even-part (λ j. tabulate b (f j)) b k j (λ j h. length-tabulate b (f j)) h)
-    ∙ get_d_tabulate b (f j) p 0 l
+    ∙ get_or-tabulate b (f j) p 0 l
 
 pub concat-same : (f g : ℕ → List ℕ) (n : ℕ) → ((i : ℕ) → i < n → f i ≡ g i) → concat n f ≡ concat n g
 unfolding concat

@@ -15,11 +15,11 @@ module _ {A : Type 0} where
   length-tabulate zero f = refl
   length-tabulate (suc n) f = ap suc (length-tabulate n (λ i. f (suc i)))
 
-  pub get_d_tabulate : (n : ℕ) (f : ℕ → A) (i : ℕ) (d : A) → i < n → get_or (tabulate n f) i d ≡ f i
+  pub get_or-tabulate : (n : ℕ) (f : ℕ → A) (i : ℕ) (d : A) → i < n → get_or (tabulate n f) i d ≡ f i
   unfolding tabulate
-  get_d_tabulate zero f i d h = absurd (omega arith)
-  get_d_tabulate (suc n) f zero d h = refl
-  get_d_tabulate (suc n) f (suc i) d h = get_d_tabulate n (λ i. f (suc i)) i d (omega arith)
+  get_or-tabulate zero f i d h = absurd (omega arith)
+  get_or-tabulate (suc n) f zero d h = refl
+  get_or-tabulate (suc n) f (suc i) d h = get_or-tabulate n (λ i. f (suc i)) i d (omega arith)
 
   pub tabulate-same : (n : ℕ) (f g : ℕ → A) → ((i : ℕ) → i < n → f i ≡ g i) → tabulate n f ≡ tabulate n g
   unfolding tabulate
@@ -36,7 +36,7 @@ module _ {A : Type 0} where
   pub is-tabulate : (n : ℕ) (f : ℕ → A) (d : A) (l : List A) → length l ≡ n → ((i : ℕ) → i < n → get_or l i d ≡ f i) → l ≡ tabulate n f
   is-tabulate n f d l e h =
       ext_get_or d l (tabulate n f) (e ∙ sym (length-tabulate n f))
-      (λ i lt. let lt' : i < n = rw e at lt in h i lt' ∙ sym (get_d_tabulate n f i d lt'))
+      (λ i lt. let lt' : i < n = rw e at lt in h i lt' ∙ sym (get_or-tabulate n f i d lt'))
 
   -- one element more at the end
   pub tabulate-more : (n : ℕ) (f : ℕ → A) → tabulate (suc n) f ≡ tabulate n f ++ (f n ∷ [])
@@ -58,8 +58,8 @@ module _ {A : Type 0} where
 pub length_part : (xs : List ℕ) (at n : ℕ) → at + n ≤ length xs → length (part xs at n) ≡ n
 length_part xs at n h = length-take-le n (drop at xs) (simp length-drop (omega arith))
 
-pub get_d_part : (xs : List ℕ) (at n p : ℕ) → p < n → get_or (part xs at n) p 0 ≡ get_or xs (at + p) 0
-get_d_part xs at n p h = get_or-take n (drop at xs) p 0 h ∙ get_or-drop at xs p 0
+pub get_or-part : (xs : List ℕ) (at n p : ℕ) → p < n → get_or (part xs at n) p 0 ≡ get_or xs (at + p) 0
+get_or-part xs at n p h = get_or-take n (drop at xs) p 0 h ∙ get_or-drop at xs p 0
 
 -- a part of a part
 pub part-part : (xs : List ℕ) (at n m l : ℕ) → at + n ≤ length xs → m + l ≤ n → part (part xs at n) m l ≡ part xs (at + m) l
@@ -69,14 +69,14 @@ part-part xs at n m l k h =
     ext_get_or 0 (part (part xs at n) m l) (part xs (at + m) l) (long ∙ sym (length_part xs (at + m) l (omega arith)))
     (λ i e.
     let lt : i < l = rw long at e in
-    get_d_part (part xs at n) m l i lt ∙ get_d_part xs at n (m + i) (omega arith)
-    ∙ ap (λ (p : ℕ). get_or xs p 0) (let z : at + (m + i) ≡ at + m + i = omega arith in z) ∙ sym (get_d_part xs (at + m) l i lt))
+    get_or-part (part xs at n) m l i lt ∙ get_or-part xs at n (m + i) (omega arith)
+    ∙ ap (λ (p : ℕ). get_or xs p 0) (let z : at + (m + i) ≡ at + m + i = omega arith in z) ∙ sym (get_or-part xs (at + m) l i lt))
 
 -- a part of a list that is given by a rule
 pub part-tabulate : (n : ℕ) (f : ℕ → ℕ) (at l : ℕ) → at + l ≤ n → part (tabulate n f) at l ≡ tabulate l (λ p. f (at + p))
 part-tabulate n f at l h =
     is-tabulate l (λ p. f (at + p)) 0 (part (tabulate n f) at l) (length_part (tabulate n f) at l (simp length-tabulate (omega arith)))
-    (λ p k. get_d_part (tabulate n f) at l p k ∙ get_d_tabulate n f (at + p) 0 (omega arith))
+    (λ p k. get_or-part (tabulate n f) at l p k ∙ get_or-tabulate n f (at + p) 0 (omega arith))
 
 pub length-zeros : (n : ℕ) → length (zeros n) ≡ n
 unfolding zeros

@@ -9,7 +9,7 @@ use native.Mathlib.Decide.{dec_lt}
 use lib.ListN.{length, get_or, take, drop, length-append, length-drop, take-append-drop}
 use lib.Seq.{take_at, length-take-le, drop-drop}
 use Rattle.spec.specs.Bytes.{part, concat}
-use Rattle.laws.proofs.Lists.{get_d_part}
+use Rattle.laws.proofs.Lists.{get_or-part}
 use Rattle.laws.proofs.Concat.{part-front, part-after}
 
 -- what stands behind the part at .. at + n
@@ -67,14 +67,14 @@ module _ (l y : List ℕ) (at w : ℕ) (fits : at + w ≤ length l) (long : leng
   pub put_byte : (p : ℕ) → at ≤ p → p < at + w → get_or (put l at w y) p 0 ≡ get_or y (p - at) 0
   put_byte p a b =
       ap (λ (n : ℕ). get_or (put l at w y) n 0) (let z : p ≡ at + (p - at) = omega arith in z)
-      ∙ sym (get_d_part (put l at w y) at w (p - at) (omega arith))
+      ∙ sym (get_or-part (put l at w y) at w (p - at) (omega arith))
       ∙ ap (λ (x : List ℕ). get_or x (p - at) 0) put-here
 
   pub put-other-byte : (p : ℕ) → (at ≤ p → p < at + w → ⊥) → get_or (put l at w y) p 0 ≡ get_or l p 0
   put-other-byte p q = byte (put l at w y) ∙ ap (λ (x : List ℕ). get_or x 0 0) (go (dec_lt p at) (dec_lt p (at + w))) ∙ sym (byte l)
     where
       byte : (x : List ℕ) → get_or x p 0 ≡ get_or (part x p 1) 0 0
-      byte x = sym (get_d_part x p 1 0 (omega arith) ∙ ap (λ (n : ℕ). get_or x n 0) (add-zero p))
+      byte x = sym (get_or-part x p 1 0 (omega arith) ∙ ap (λ (n : ℕ). get_or x n 0) (add-zero p))
 
       go : Dec (p < at) → Dec (p < at + w) → part (put l at w y) p 1 ≡ part l p 1
       go (yes c) d = put-before p 1 (omega arith)

@@ -11,7 +11,7 @@ use lib.ListN.{length, get_or, set, take, drop, length-take, get_or-eq_default}
 use lib.Pow.{pow_pos}
 use lib.Seq.{take-nil, drop-nil}
 use Rattle.spec.specs.Bytes.{part, tabulate, zeros, xor_bytes, number}
-use Rattle.laws.proofs.Lists.{get_d_part}
+use Rattle.laws.proofs.Lists.{get_or-part}
 use Rattle.laws.proofs.Numbers.{Digits}
 
 -- strings of zeros
@@ -59,7 +59,7 @@ pub digits-part : (k : ℕ) (xs : List ℕ) (at n : ℕ) → Digits k xs → Dig
 digits-part k xs at n h i = go (dec_lt i n)
   where
     go : Dec (i < n) → get_or (part xs at n) i 0 < 2 ^ k
-    go (yes l) = rw (get_d_part xs at n i l) (h (at + i))
+    go (yes l) = rw (get_or-part xs at n i l) (h (at + i))
     go (no l) = rw (get_or-eq_default (part xs at n) 0 {n = i} (omega (arith, length-take n (drop at xs)))) (pow_pos k)
 
 pub digits-reverse : (k : ℕ) (xs : List ℕ) → Digits k xs → Digits k (reverse xs)

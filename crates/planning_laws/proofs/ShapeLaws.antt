@@ -15,7 +15,7 @@ use Rattle.spec.specs.Challenge.{bit_at, bits_at, index_at, clear_at}
 use Rattle.spec.specs.Shapes.{shape_ok, level, depth_of, entries_of, first_bit, first_entry, leaves, leaf_of, hidden_index, hidden_leaf, hidden_leaves, grinding_ok}
 use Rattle.laws.proofs.Conjunctions.{both_true}
 use Rattle.laws.proofs.Segments.{segment-before}
-use Rattle.laws.proofs.Lists.{length-tabulate, get_d_tabulate}
+use Rattle.laws.proofs.Lists.{length-tabulate, get_or-tabulate}
 use Rattle.planning_laws.proofs.Bits.{bit-lt, index-more}
 use Rattle.planning_laws.proofs.Depths.{bit-none, bit-next, entry-none, entry_next, entry-all, leaf-of-entry, leaf-one}
 use Rattle.planning_laws.proofs.ShapeFacts.{shape-facts, bit-all, leaves-pos}
@@ -95,13 +95,13 @@ pub grinding-bit : (s : Shape) (ch : List ℕ) (j : ℕ) → grinding_ok s ch �
 unfolding grinding_ok clear_at bits_at
 grinding-bit s ch j e h =
     let f : ℕ → ℕ = λ i. bit_at ch (first_bit s s.tau + i) in
-    sym (get_d_tabulate s.w f j 0 h) ∙ all-zero (tabulate s.w f) j e (let l = length-tabulate s.w f in omega arith)
+    sym (get_or-tabulate s.w f j 0 h) ∙ all-zero (tabulate s.w f) j e (let l = length-tabulate s.w f in omega arith)
 
 -- ---- the hidden leaves
 
 pub hidden_at : (s : Shape) (ch : List ℕ) (i : ℕ) → i < s.tau → get_or (hidden_leaves s ch) i 0 ≡ leaf_of s i (hidden_index s ch i)
 unfolding hidden_leaves hidden_leaf
-hidden_at s ch i h = get_d_tabulate s.tau (λ i. leaf_of s i (hidden_index s ch i)) i 0 h
+hidden_at s ch i h = get_or-tabulate s.tau (λ i. leaf_of s i (hidden_index s ch i)) i 0 h
 
 -- the entry after those of the vectors before i, and j more, is an entry
 pub entry_in : (s : Shape) → ShapeLaws s → (i j : ℕ) → i < s.tau → j < entries_of s i → first_entry s i + j < leaves s

@@ -5,7 +5,7 @@ use Prim.Native.Nat.{ℕ, ◌*◌, ◌≤◌}
 use native.Mathlib.Omega.{arith}
 use lib.Bits.{bit_xor, xor_zero_r}
 use lib.ListN.{length, get_or, drop_of_length-le}
-use Rattle.laws.proofs.Lists.{get_d_tabulate, tabulate-same, is-tabulate}
+use Rattle.laws.proofs.Lists.{get_or-tabulate, tabulate-same, is-tabulate}
 use Rattle.laws.proofs.Numbers.{Digits}
 use Rattle.laws.proofs.Strings.{digits-zeros, digits_append, number-xor, append-xor}
 use Rattle.laws.proofs.Xor.{xor_assoc}
@@ -40,6 +40,6 @@ module _ (s t p : List ℕ) (n : ℕ) (ht : Digits 8 t) (hp : Digits 8 p) where
   xor_in-more =
       tabulate-same 25 (λ j. bit_xor (get_or (xor_in s t) j 0) (lane_of later j)) (λ j. bit_xor (get_or s j 0) (lane_of (t ++ p) j))
       (λ j lt.
-      ap (λ (x : ℕ). bit_xor x (lane_of later j)) (get_d_tabulate 25 (λ j. bit_xor (get_or s j 0) (lane_of t j)) j 0 lt)
+      ap (λ (x : ℕ). bit_xor x (lane_of later j)) (get_or-tabulate 25 (λ j. bit_xor (get_or s j 0) (lane_of t j)) j 0 lt)
       ∙ xor_assoc (get_or s j 0) (lane_of t j) (lane_of later j)
       ∙ ap (bit_xor (get_or s j 0)) (sym (lane-more j)))

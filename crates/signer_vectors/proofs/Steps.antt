@@ -16,7 +16,7 @@ use Rattle.spec.specs.Leaves.{vector_commitments, vector_hash}
 use Rattle.spec.specs.Rows.{u_byte, column_byte}
 use Rattle.spec.specs.Signer.{signer_u, signer_column, correction}
 use Rattle.laws.proofs.Xor.{xor_assoc}
-use Rattle.laws.proofs.Lists.{length-tabulate, get_d_tabulate, tabulate-same, is-tabulate}
+use Rattle.laws.proofs.Lists.{length-tabulate, get_or-tabulate, tabulate-same, is-tabulate}
 use Rattle.laws.proofs.Sums.{xor_same}
 use Rattle.laws.proofs.Concat.{concat-same}
 use Rattle.laws.proofs.Putting.{put-size, put-here}
@@ -84,7 +84,7 @@ module _ (s : Shape) (b : ℕ) (row : ℕ → ℕ → ℕ → ℕ) where
   unfolding signer_u correction
   correction-of i u sum eu e =
       e ∙ tabulate-same b (λ p. bit_xor (get_or u p 0) (u_byte s row i p)) (λ p. bit_xor (u_byte s row 0 p) (u_byte s row i p))
-      (λ p h. ap (λ (x : ℕ). bit_xor x (u_byte s row i p)) (ap (λ (l : List ℕ). get_or l p 0) eu ∙ get_d_tabulate b (u_byte s row 0) p 0 h))
+      (λ p h. ap (λ (x : ℕ). bit_xor x (u_byte s row i p)) (ap (λ (l : List ℕ). get_or l p 0) eu ∙ get_or-tabulate b (u_byte s row 0) p 0 h))
 
   -- correction j, put behind those before it: u was copied to its place in d, and the rows of vector j + 1 were added to it
   pub correction-more : (j : ℕ) (u d d' y z : List ℕ) → u ≡ signer_u s b row → b * j + b ≤ length d → length u ≡ b → d' ≡ take (b * j) d ++ (part u 0 b ++ drop (b * j + b) d)

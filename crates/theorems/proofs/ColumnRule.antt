@@ -17,7 +17,7 @@ use Rattle.spec.specs.Shapes.{level, depth_of, entries_of, first_bit, hidden_ind
 use Rattle.spec.specs.Rows.{u_byte, column_byte, matrix_of}
 use Rattle.spec.specs.Signer.{signer_u, signer_column, correction, corrections}
 use Rattle.spec.specs.Verifier.{correction_byte, verifier_column}
-use Rattle.laws.proofs.Lists.{length-tabulate, get_d_tabulate, tabulate-same, tabulate-xor, get_d_part}
+use Rattle.laws.proofs.Lists.{length-tabulate, get_or-tabulate, tabulate-same, tabulate-xor, get_or-part}
 use Rattle.laws.proofs.Concat.{even-length, even-part}
 use Rattle.planning_laws.proofs.ShapeLaws.{ShapeLaws, hidden-bit, grinding-bit}
 use Rattle.theorems.specs.Demands.{ColumnRule}
@@ -36,10 +36,10 @@ module _ (s : Shape) (f : ShapeLaws s) (ch : List ℕ) (b : ℕ) (row row' : ℕ
   unfolding corrections correction
   correction-at i p h l =
       let g : ℕ → List ℕ = λ i. tabulate b (λ p. bit_xor (u_byte s row 0 p) (u_byte s row (i + 1) p)) in
-      sym (get_d_part (concat (s.tau - 1) g) (b * i) b p l)
+      sym (get_or-part (concat (s.tau - 1) g) (b * i) b p l)
       ∙ ap (λ (l : List ℕ). get_or l p 0)
       (even-part g b (s.tau - 1) i (λ i h. length-tabulate b (λ p. bit_xor (u_byte s row 0 p) (u_byte s row (i + 1) p))) h)
-      ∙ get_d_tabulate b (λ p. bit_xor (u_byte s row 0 p) (u_byte s row (i + 1) p)) p 0 l
+      ∙ get_or-tabulate b (λ p. bit_xor (u_byte s row 0 p) (u_byte s row (i + 1) p)) p 0 l
       ∙ ap (λ (n : ℕ). bit_xor (u_byte s row 0 p) (u_byte s row n p)) (add-one i)
 
   abbrev VByte : ℕ → ℕ → ℕ → ℕ

@@ -19,7 +19,7 @@ use Rattle.spec.specs.Calls.{written, count_with, decode_number, Decode, plan_nu
 use Rattle.spec.specs.Version1Calls.{row1_number, open1_number, Commit1, Open1, Reconstruct1}
 use Rattle.spec.specs.Version1HostCalls.{HostCommit1, HostOpen1, HostReconstruct1}
 use Rattle.spec.specs.HostCalls.{word_bytes, count_slice, HostDecode, HostPlan, HostCommit, HostCommitStretch, HostOpen, HostReconstruct, HostReconstructStretch}
-use Rattle.laws.proofs.Lists.{length-tabulate, get_d_tabulate}
+use Rattle.laws.proofs.Lists.{length-tabulate, get_or-tabulate}
 use Rattle.laws.proofs.Digits.{digits_number, number_digits}
 use Rattle.laws.proofs.Words.{same_test, words-length, words_append, words-drop, words-part, count-slice}
 use Rattle.planning_laws.proofs.Revealed.{revealed-below}
@@ -164,7 +164,7 @@ every-readable s ch e =
     let f = shape-facts (resolved s) e in
     record {
       indices = λ i h.
-          let at = get_d_tabulate (resolved s).tau (hidden_index (resolved s) ch) i 0 h in
+          let at = get_or-tabulate (resolved s).tau (hidden_index (resolved s) ch) i 0 h in
           read (hidden_indices (resolved s) ch) i (rw length-tabulate h) (rw at (omega (arith, hidden-index-lt (resolved s) ch i, entries-small (resolved s) i f))) ∙ at;
       nodes = λ i h. read (planned (resolved s) ch) i h (revealed-below _ _ 172032 (omega (arith, leaves-max (resolved s) f)) i);
       count = number_digits 8 4 (planned_count (resolved s) ch) (omega (arith, revealed-few (covered (hidden_leaves (resolved s) ch)) (leaves (resolved s) - 1), leaves-max (resolved s) f));

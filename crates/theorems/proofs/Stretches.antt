@@ -20,7 +20,7 @@ use Rattle.spec.specs.Signer.{signer_tree, signer_u, signer_column, correction, 
 use Rattle.spec.specs.Verifier.{slots_ok, reconstructed_tree, correction_byte, verifier_column}
 use Rattle.spec.specs.Calls.{first_refusal, fits, row_ok, whole_row, stretch_ok, nodes_ok, Committed, committed, commit_lengths, commit_stretch_number, Reconstructed, reconstructed, reconstruct_lengths, reconstruct_stretch_number}
 use Rattle.laws.proofs.Calls.{written-zero, stretch-within}
-use Rattle.laws.proofs.Lists.{length-tabulate, tabulate-same, get_d_part, part-part, part-tabulate}
+use Rattle.laws.proofs.Lists.{length-tabulate, tabulate-same, get_or-part, part-part, part-tabulate}
 use Rattle.laws.proofs.Strings.{part-zeros}
 use Rattle.laws.proofs.Sums.{xor_same}
 use Rattle.laws.proofs.Concat.{part-whole, even-length, even-part, mul-within}
@@ -136,9 +136,9 @@ module _ (s : Shape) (b : ℕ) (z : Stretch) (row row' : ℕ → ℕ → ℕ →
     correction-further zero j p h k = refl
     correction-further (suc i) j p h k =
         ap (λ (x : ℕ). bit_at ch (first_bit s (suc i) + j) * x)
-        (sym (get_d_part cs' (z.width * i) z.width p k)
+        (sym (get_or-part cs' (z.width * i) z.width p k)
         ∙ ap (λ (l : List ℕ). get_or l p 0) (cut i (omega arith))
-        ∙ get_d_part cs (b * i + z.first) z.width p k
+        ∙ get_or-part cs (b * i + z.first) z.width p k
         ∙ ap (λ (n : ℕ). get_or cs n 0) (let e : b * i + z.first + p ≡ b * i + (z.first + p) = omega arith in e))
 
     verifier-column-cut : (i j : ℕ) → i < s.tau → verifier_column s z.width row' ch cs' i j ≡ part (verifier_column s b row ch cs i j) z.first z.width

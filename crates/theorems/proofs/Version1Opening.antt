@@ -13,7 +13,7 @@ use Rattle.spec.specs.Bytes.{part, tabulate, concat}
 use Rattle.spec.specs.Shapes.{level, node_bytes, depth_of, entries_of, first_bit, first_entry, leaves, hidden_index}
 use Rattle.spec.specs.Leaves.{node_at}
 use Rattle.spec.specs.Version1.{first_node, leaf_commitment_bytes1, sibling_at, siblings, leaf_commitment_at1, decommitment, opening1_of, decommitment_from, slot1, hidden_leaf_commitment1, trees1_bytes, leaf_commitments1_bytes, opening1_bytes}
-use Rattle.laws.proofs.Lists.{length_part, get_d_tabulate}
+use Rattle.laws.proofs.Lists.{length_part, get_or-tabulate}
 use Rattle.laws.proofs.Concat.{part-front, part-after, part-whole, laid-length, laid-part, even-length, even-part, mul-within}
 use Rattle.laws.proofs.Segments.{segment-before}
 use Rattle.planning_laws.proofs.Depths.{bit-none, bit-next, entry_next, entry-all}
@@ -60,7 +60,7 @@ module _ (s : Shape) (f : ShapeFacts s) (ch trees lcs : List ℕ) (tl : length t
   unfolding entries_of node_at siblings trees1_bytes
   shown-long i l h k =
       let c = get_or (siblings s ch i) l 0 in
-      let e = get_d_tabulate (depth_of s i) (λ l. sibling_at (depth_of s i) (hidden_index s ch i) (l + 1)) l 0 k in
+      let e = get_or-tabulate (depth_of s i) (λ l. sibling_at (depth_of s i) (hidden_index s ch i) (l + 1)) l 0 k in
       let b = sibling-in (depth_of s i) (hidden_index s ch i) l (hidden-index-lt s ch i) k in
       let a = segment-before (first_node s) (λ i. 2 * entries_of s i - 1) s.tau i (λ m q. node-next s f m) h in
       let t = node-all s f in

@@ -17,7 +17,7 @@ use Rattle.spec.specs.Shapes.{node_bytes, depth_of, entries_of, hidden_index}
 use Rattle.spec.specs.Primitives.{Primitives, prg}
 use Rattle.spec.specs.Leaves.{node_at}
 use Rattle.spec.specs.Version1.{prg1, vector_root, children1, vector_tree, signer_trees, first_node, leaf_in, sibling_at, siblings, opening1_of, slot1, on_path, given_node1, reconstructed_children1, reconstructed_vector_tree, reconstructed_trees, trees1_bytes, leaf_commitments1_bytes}
-use Rattle.laws.proofs.Lists.{length-tabulate, length_part, length-zeros, get_d_tabulate}
+use Rattle.laws.proofs.Lists.{length-tabulate, length_part, length-zeros, get_or-tabulate}
 use Rattle.laws.proofs.Concat.{mul-within}
 use Rattle.planning_laws.specs.Lists.{Leaves}
 use Rattle.planning_laws.proofs.Covered.{covered-inner, root-covered}
@@ -98,7 +98,7 @@ module _ (P : Primitives) (s : Shape) (f : ShapeFacts s) (root iv ch lcs : List 
     given-at l c k e =
         let sib : ℕ → ℕ = λ l. sibling_at d j (l + 1) in
         let at : index_of c (siblings s ch i) ≡ l = ap (λ (x : ℕ). index_of x (tabulate d sib)) e ∙ index-of d sib l k (λ m n q. (let a = sibling-high d j m small (omega arith) in let b = sibling-low d j l in let z = twice-le m l n in omega arith)) in
-        let there = get_d_tabulate d sib l 0 k in
+        let there = get_or-tabulate d sib l 0 k in
         let low : c < 2 * 2 ^ d - 1 = (let a = sibling-high d j l small k in let z = pow_mono {i = l + 1} {j = d} (omega arith) in omega arith) in
         ap (slot1 s Op i) at
         ∙ slot_is s f ch Trees lcs trees-long ll i l h k

@@ -14,7 +14,7 @@ use Rattle.spec.specs.Shapes.{level, node_bytes, depth_of, entries_of, first_bit
 use Rattle.spec.specs.Leaves.{node_at}
 use Rattle.spec.specs.Version1.{first_node, leaf_commitment_bytes1, sibling_at, siblings, leaf_commitment_at1, decommitment, decommitment_from, trees1_bytes, leaf_commitments1_bytes, opening1_bytes}
 use Rattle.laws.proofs.Concat.{concat-same, mul-within}
-use Rattle.laws.proofs.Lists.{length_part, part-part, get_d_tabulate}
+use Rattle.laws.proofs.Lists.{length_part, part-part, get_or-tabulate}
 use Rattle.laws.proofs.Putting.{put_next}
 use Rattle.laws.proofs.Segments.{segment-before}
 use Rattle.planning_laws.proofs.Depths.{bit-next}
@@ -95,7 +95,7 @@ module _ (s : Shape) (ok : shape_ok s ≡ true) (i : ℕ) (h : i < s.tau) (ch tr
       let t = tree-part s ok i h n d (first_node s i) (first_node s (i + 1)) (length trees) refl refl refl refl tl in
       let size : n * first_node s (i + 1) - n * first_node s i ≡ n * (2 * 2 ^ d - 1) = (let z = t.0 in omega arith) in
       let m = mul-within n a (2 * 2 ^ d - 1) (sibling-in d j l (hidden-index-lt s ch i) k) in
-      let g = get_d_tabulate d (λ l. sibling_at d j (l + 1)) l 0 k in
+      let g = get_or-tabulate d (λ l. sibling_at d j (l + 1)) l 0 k in
       ap (λ (x : ℕ). part (part trees (n * first_node s i) x) (n * a) n) size
       ∙ part-part trees (n * first_node s i) (n * (2 * 2 ^ d - 1)) (n * a) n (let y = t.0 in let z = t.1 in omega arith) m
       ∙ ap (λ (x : ℕ). part trees x n) (sym (mul-add n (first_node s i) a))

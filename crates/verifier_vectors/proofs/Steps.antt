@@ -14,7 +14,7 @@ use Rattle.spec.specs.Bytes.{bit, part, tabulate, concat, zeros}
 use Rattle.spec.specs.Shapes.{depth_of, first_bit, hidden_index, shape_ok, matrix_bytes}
 use Rattle.spec.specs.Rows.{column_byte, matrix_of}
 use Rattle.spec.specs.Verifier.{correction_byte, verifier_column}
-use Rattle.laws.proofs.Lists.{length-tabulate, get_d_part}
+use Rattle.laws.proofs.Lists.{length-tabulate, get_or-part}
 use Rattle.laws.proofs.Segments.{segment-before}
 use Rattle.laws.proofs.Concat.{part-front, part-whole, laid-length, laid-part, even-length, concat-byte, is-concat}
 use Rattle.planning_laws.proofs.Depths.{bit-none, bit-next}
@@ -37,7 +37,7 @@ module _ (s : Shape) (b : ℕ) (ch corrections : List ℕ) where
   correction-byte (suc i) d j p h hd hj hp =
       let e : suc i - 1 ≡ i = omega arith in
       ap₂ (λ (x y : ℕ). x * y) (ap (bit j) hd ∙ hidden-bit s ch (suc i) j hj)
-      (get_d_part corrections (b * (suc i - 1)) b p hp ∙ ap (λ (n : ℕ). get_or corrections (b * n + p) 0) e)
+      (get_or-part corrections (b * (suc i - 1)) b p hp ∙ ap (λ (n : ℕ). get_or corrections (b * n + p) 0) e)
 
   pub corrected : (i d : ℕ) (old new : List ℕ) → 1 ≤ i → d ≡ hidden_index s ch i
       → Added b (depth_of s i) (λ j p. bit j d * get_or (part corrections (b * (i - 1)) b) p 0) old new → Added b (depth_of s i) (correction_byte s b ch corrections i) old new

@@ -6,7 +6,7 @@ use native.Mathlib.Omega.{arith}
 use borrow.Author.Rules.{rules}
 use lib.ListN.{length, get_or}
 use Rattle.spec.specs.Bytes.{part}
-use Rattle.laws.proofs.Lists.{length_part, get_d_part}
+use Rattle.laws.proofs.Lists.{length_part, get_or-part}
 use Rattle.columns.proofs.Adding.{xored-same}
 use Rattle.columns.proofs.xor_block.Goals as goal
 
@@ -25,4 +25,4 @@ returns-else-n-eq16 c =
     let n : m ≡ g.n = omega arith in
     xored-same g.at (g.at + length (part l g.from m)) (g.at + g.n) (λ p. get_or l (g.from + (p - g.at)) 0) (λ p. 1 * get_or (part l g.from m) (p - g.at) 0)
     g.d.now _ (ap (λ (i : ℕ). g.at + i) (length_part l g.from m (omega arith) ∙ n))
-    (λ p a b. one-mul (get_or (part l g.from m) (p - g.at) 0) ∙ get_d_part l g.from m (p - g.at) (omega arith)) c.xor_bytes.ensures
+    (λ p a b. one-mul (get_or (part l g.from m) (p - g.at) 0) ∙ get_or-part l g.from m (p - g.at) (omega arith)) c.xor_bytes.ensures

@@ -3,7 +3,7 @@ use mathlib.Core.List.{List}
 use Prim.Native.Nat.{ℕ, ◌+◌, ◌-◌, ◌≤◌, ◌<◌}
 use native.Mathlib.Omega.{arith}
 use lib.ListN.{get_or}
-use Rattle.laws.proofs.Lists.{get_d_tabulate}
+use Rattle.laws.proofs.Lists.{get_or-tabulate}
 use Rattle.columns.specs.Columns.{Xored}
 use Rattle.columns.proofs.Adding.{behind-start, xored-none, xored-more, xored-same, xored-then}
 use Rattle.columns.proofs.xor_within.Invariants.{moved}
@@ -46,7 +46,7 @@ loop-at-preserved-then-n-at-ge16 c =
     let same : (p : ℕ) → at ≤ p → p < end → get_or block.result (p - at) 0 ≡ f p =
     λ p a b.
     ap (λ (x : List ℕ). get_or x (p - at) 0) block.ensures
-    ∙ get_d_tabulate 16 (λ i. get_or l.d (g.from + l.at + i) 0) (p - at) 0 (omega arith)
+    ∙ get_or-tabulate 16 (λ i. get_or l.d (g.from + l.at + i) 0) (p - at) 0 (omega arith)
     ∙ l.invariant.1.outside (g.from + l.at + (p - at)) (λ x y. omega arith)
     ∙ ap (λ (i : ℕ). get_or g.d.now i 0) (omega arith)
     in (

@@ -4,7 +4,7 @@ use mathlib.Core.List.{List}
 use Prim.Native.Nat.{ℕ, ◌+◌, ◌-◌, ◌≤◌, ◌<◌}
 use native.Mathlib.Omega.{arith}
 use lib.ListN.{get_or}
-use Rattle.laws.proofs.Lists.{get_d_tabulate}
+use Rattle.laws.proofs.Lists.{get_or-tabulate}
 use Rattle.columns.specs.Columns.{Xored}
 use Rattle.columns.proofs.Adding.{behind-start, xored-none, xored-more, xored-same, xored-then}
 use Rattle.columns.proofs.xor_within.Given as goal

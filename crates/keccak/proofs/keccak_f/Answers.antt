@@ -4,7 +4,7 @@ use native.Mathlib.Numerals.{add-one}
 use native.Mathlib.Omega.{arith}
 use borrow.Author.Rules.{rules}
 use lib.ListN.{get_or}
-use Rattle.laws.proofs.Lists.{get_d_tabulate}
+use Rattle.laws.proofs.Lists.{get_or-tabulate}
 use Rattle.spec.specs.Keccak.{round_constant, first_rounds, keccak_f}
 use Rattle.keccak.proofs.keccak_f.Goals as goal
 
@@ -17,7 +17,7 @@ unfolding first_rounds
 loop-i-preserved c =
     let i = c.loop-i.i in
     let constants = c.round_constants-constants in
-    let constant : get_or constants.result i 0 ≡ round_constant i = rw constants.ensures (get_d_tabulate 24 round_constant i 0 (omega arith)) in
+    let constant : get_or constants.result i 0 ≡ round_constant i = rw constants.ensures (get_or-tabulate 24 round_constant i 0 (omega arith)) in
     (omega arith, rw (add-one i) (cc))
 
 pub returns : goal.returns
