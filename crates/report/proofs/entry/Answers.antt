@@ -1,5 +1,6 @@
 -- A number of the front or of the fields stops; else the fields are there, and their entry is the record's.
 use borrow.Author.Rules.{rules}
+use borrow.Author.Tests.{not-true, not-false}
 use native.Mathlib.Omega.{arith}
 use Prim.Native.Nat.{ℕ}
 use mathlib.Core.Path.{◌≡◌, sym, ap, ◌∙◌}
@@ -21,9 +22,8 @@ number_by b = cond b 0 10
 
 pub returns-then-f-ne0 : goal.returns-then-f-ne0
 returns-then-f-ne0 c =
-    let f = c in
-    let xs = f.args.bytes.now in
-    let p = f.front_of-f.ensures in
+    let xs = c.args.bytes.now in
+    let p = c.front_of-f.ensures in
     let bad : head_number xs ≡ 0 → ⊥ = λ z. c.if-f-ne0.true (p.number ∙ z) in
     let e = front-decides-fields xs bad in
     c.refused.ensures ∙ ap (stopped (length xs)) (p.number ∙ sym e) ∙ sym (entry-stops xs (λ z. bad (sym e ∙ z)))
@@ -36,26 +36,18 @@ sizes_of-z-requires c =
 
 pub rest-r-requires : goal.rest-r-requires
 rest-r-requires c =
-    let el = c in
-    let p = el.front_of-f.ensures in
-    c.sizes_of-z.ensures _ (p.said (sym p.number ∙ el.if-f-ne0.false))
+    let p = c.front_of-f.ensures in
+    c.sizes_of-z.ensures _ (p.said (sym p.number ∙ c.if-f-ne0.false))
 
 pub returns-then-not-r : goal.returns-then-not-r
 returns-then-not-r c =
-    let r = c in
-    let el = r in
-    let f = el in
-    let xs = f.args.bytes.now in
-    let p = f.front_of-f.ensures in
-    let e : fields_number xs ≡ 10 = fields-decide xs (sym p.number ∙ el.if-f-ne0.false) ∙ ap number_by (failed r.rest-r.ensures.0 c.if-not-r.true) in
+    let xs = c.args.bytes.now in
+    let p = c.front_of-f.ensures in
+    let e : fields_number xs ≡ 10 = fields-decide xs (sym p.number ∙ c.if-f-ne0.false) ∙ ap number_by (failed c.rest-r.ensures.0 (not-true _ c.if-not-r.true)) in
     c.refused-then-not-r.ensures ∙ ap (stopped (length xs)) (sym e) ∙ sym (entry-stops xs (λ z. let k = sym e ∙ z in omega arith))
 
 pub open_fields-requires : goal.open_fields-requires
 open_fields-requires c =
-    let r = c in
-    let sz = r in
-    let el = sz in
-    let f = el in
-    let p = f.front_of-f.ensures in
-    let ok = sym p.number ∙ el.if-f-ne0.false in
-    (p.said ok, sz.sizes_of-z.ensures _ (p.said ok), fields-decide _ ok ∙ ap number_by (passed r.rest-r.ensures.0 c.if-not-r.false), r.rest-r.ensures.1)
+    let p = c.front_of-f.ensures in
+    let ok = sym p.number ∙ c.if-f-ne0.false in
+    (p.said ok, c.sizes_of-z.ensures _ (p.said ok), fields-decide _ ok ∙ ap number_by (passed c.rest-r.ensures.0 (not-false _ c.if-not-r.false)), c.rest-r.ensures.1)

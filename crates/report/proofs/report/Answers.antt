@@ -10,13 +10,9 @@ use Rattle.report.proofs.report.Goals as goal
 pub returns-then-input-gt65536 : goal.returns-then-input-gt65536
 unfolding report_text
 returns-then-input-gt65536 c =
-    let p = c in
-    let t = p in
-    rw (lt-leb (length t.args.input.now) 65536 t.if-input-gt65536.true) (put_front p.put_refused.ensures)
+    rw (lt-leb (length c.args.input.now) 65536 c.if-input-gt65536.true) (put_front c.put_refused.ensures)
 
 pub returns : goal.returns
 unfolding report_text
 returns c =
-    let p = c in
-    let t = p in
-    rw (le-leb (length t.args.input.now) 65536 t.if-input-gt65536.false) (put_front p.put_entries.ensures)
+    rw (le-leb (length c.args.input.now) 65536 c.if-input-gt65536.false) (put_front c.put_entries.ensures)
