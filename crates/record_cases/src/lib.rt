@@ -47,6 +47,15 @@ fn to_version_1(bytes: &mut [u8])
     bytes.copy_within(15.., 14);
 }
 
+// The same where `first` is true; else the bytes stay as they are.
+fn to_version(bytes: &mut [u8], first: bool)
+    requires { 15 ≤ length bytes.old }
+{
+    if first {
+        to_version_1(bytes);
+    }
+}
+
 // The length of a record that is written, or of the same in version 1.
 fn length_of(n: usize, first: bool) -> usize {
     if first {
@@ -86,9 +95,7 @@ pub fn run_record(
         record_writer::record_length(c.shape, c.rows.bits).bytes,
         first,
     );
-    if first {
-        to_version_1(&mut bytes);
-    }
+    to_version(&mut bytes, first);
     if (form != WHOLE) & (form != NAMED) {
         return change(rt, edits::small(&bytes), at_most(n, 511), form);
     }
