@@ -1,6 +1,7 @@
 #!/usr/bin/env python3
-"""What the second implementation lists for the input of crates/list_challenges, its file `stdin`, and for those of crates/list_challenges_runs, the texts of the
-lists `run_all(rt, &[".."])` and `run_digests(rt, &[".."])` of its main.rt, one after another; of the second kind the SHAKE128 digest, made by Python's hashlib.
+"""What the second implementation lists for the input of crates/list_challenges, its file `stdin`, and for those of crates/list_challenges_runs, the texts of
+the lists `run_all(rt, &[".."])` and `run_digests(rt, &[".."])` of its main.rt, one after another; of the second kind the SHAKE128 digest, made by Python's
+hashlib.
 
     derive_enumeration.py            compares it with the file `stdout` of each; exit status 1 where one differs
     derive_enumeration.py --write    writes these files
