@@ -29,7 +29,7 @@ GROUPS = {
     'records': 'record record_fields record_reader record_reading named_sets',
     'broker': 'record_check broker named_broker broker_host',
     'writer': 'record_writer writer_host',
-    'texts': 'listing_line listing_text',
+    'texts': 'listing_line listing_text program_streams',
     'listings': 'listing list_nodes enumeration_text enumeration list_challenges',
     'report': 'report_text report report_openings',
     'claims': 'standards standards_levels theorems record_theorems',

@@ -1,6 +1,7 @@
 #!/usr/bin/env python3
-"""What the second implementation lists for the input of crates/list_challenges, its file `stdin`, and for those of crates/list_challenges_runs, the lines
-`run(b"..")` and `run_digest(b"..")` of its main.rt, one after another; of the second kind the SHAKE128 digest, made by Python's hashlib.
+"""What the second implementation lists for the input of crates/list_challenges, its file `stdin`, and for those of crates/list_challenges_runs, the texts of
+the lists `run_all(rt, &[".."])` and `run_digests(rt, &[".."])` of its main.rt, one after another; of the second kind the SHAKE128 digest, made by Python's
+hashlib.
 
     derive_enumeration.py            compares it with the file `stdout` of each; exit status 1 where one differs
     derive_enumeration.py --write    writes these files
@@ -23,15 +24,17 @@ def listed(line):
 
 def run(name, line):
     text = listed(line)
-    return text if name == 'run' else f'shake128 {hashlib.shake_128(text).hexdigest(32)}\n'.encode()
+    return text if name == 'run_all' else f'shake128 {hashlib.shake_128(text).hexdigest(32)}\n'.encode()
 
 
-runs = re.findall(r'^ +(run|run_digest)\((b".*")\);$', (CRATES / 'list_challenges_runs' / 'src' / 'main.rt').read_text(), re.M)
+source = (CRATES / 'list_challenges_runs' / 'src' / 'main.rt').read_text()
+lists = re.findall(r'\b(run_all|run_digests)\(\s*rt,\s*&\[(.*?)\],?\s*\)', source, re.S)
+runs = [(name, ast.literal_eval('b' + text)) for name, found in lists for text in re.findall(r'"(?:[^"\\]|\\.)*"', found)]
 if len(runs) != 66:
     sys.exit(f'derive_enumeration: {len(runs)} inputs found, and not 66')
 derived = {
     'list_challenges': listed((CRATES / 'list_challenges' / 'stdin').read_bytes()),
-    'list_challenges_runs': b''.join(run(name, ast.literal_eval(text)) for name, text in runs),
+    'list_challenges_runs': b''.join(run(name, line) for name, line in runs),
 }
 for name, output in derived.items():
     stored = CRATES / name / 'stdout'

@@ -1,6 +1,6 @@
 #!/usr/bin/env python3
-"""What the second implementation prints for the input of crates/list_nodes, its file `stdin`, and for those of crates/list_nodes_runs, the lines
-`run(b"..")` of its main.rt, one after another.
+"""What the second implementation prints for the input of crates/list_nodes, its file `stdin`, and for those of crates/list_nodes_runs, the texts of the lists
+`run_all(rt, &[".."])` of its main.rt, one after another.
 
     derive_listing.py            compares it with the file `stdout` of each; exit status 1 where one differs
     derive_listing.py --write    writes these files
@@ -20,12 +20,13 @@ def listed(line):
     return subprocess.run([PROGRAM, 'list'], input=line, capture_output=True, check=True).stdout
 
 
-runs = re.findall(r'^ +run\((b".*")\);$', (CRATES / 'list_nodes_runs' / 'src' / 'main.rt').read_text(), re.M)
+lists = re.findall(r'\brun_all\(\s*rt,\s*&\[(.*?)\],?\s*\)', (CRATES / 'list_nodes_runs' / 'src' / 'main.rt').read_text(), re.S)
+runs = [ast.literal_eval('b' + text) for found in lists for text in re.findall(r'"(?:[^"\\]|\\.)*"', found)]
 if len(runs) != 60:
     sys.exit(f'derive_listing: {len(runs)} inputs found, and not 60')
 derived = {
     'list_nodes': listed((CRATES / 'list_nodes' / 'stdin').read_bytes()),
-    'list_nodes_runs': b''.join(listed(ast.literal_eval(text)) for text in runs),
+    'list_nodes_runs': b''.join(map(listed, runs)),
 }
 for name, output in derived.items():
     stored = CRATES / name / 'stdout'

@@ -70,7 +70,7 @@ class Runs:
 def runs():
     source = (CRATES / 'report_runs' / 'src' / 'main.rt').read_text()
     found = Runs()
-    for name, call, words in re.findall(r'^    (?:let (\w) = )?(\w+)\(input((?:, \w+)*)\);$', source[source.index('\nfn single('):], re.M):
+    for name, call, words in re.findall(r'^    (?:let (\w) = )?(\w+)\((?:rt, )?input((?:, \w+)*)\)(?:\??;)?$', source[source.index('\nfn single('):], re.M):
         found.step(name, call, words.split(', ')[1:])
     if len(found.outputs) != 47:
         sys.exit(f'derive_report: {len(found.outputs)} runs found, and not 47')
