@@ -1,5 +1,4 @@
 -- The single tree is what `grow_tree` writes: of L leaves, L - 1 nodes have children.
-use borrow.Author.Rules.{rules}
 use mathlib.Core.Path.{◌≡◌, sym, ap, ap₂, ◌∙◌}
 use Prim.Native.Nat.{ℕ, ◌+◌, ◌-◌, ◌*◌, ◌%◌}
 use native.Mathlib.Omega.{arith}
@@ -25,7 +24,7 @@ grow_tree-requires c =
     let size : 2 * leaves g.s - 1 ≡ 2 * (count.result - 1) + 1 = (let e = count.ensures.0 in let p = count.ensures.1 in omega arith) in
     let all : length g.tree.now ≡ n.result * (2 * (count.result - 1) + 1) = start.requires.s_value.2 ∙ ap₂ ◌*◌ (sym n.ensures.0) size in
     let most = mul-limit n.result (2 * (count.result - 1) + 1) 32 172031 n.ensures.2 (let m = count.ensures.2 in omega arith) in
-    (start.requires.sbox_table, (n.ensures.1, n.ensures.2, ap (λ (m : ℕ). m % 8) n.ensures.0 ∙ w.node-eight, start.requires.s_value.1 ∙ sym n.ensures.0, all, omega arith))
+    record { sbox_table = start.requires.sbox_table; le_n = (n.ensures.1, n.ensures.2, ap (λ (m : ℕ). m % 8) n.ensures.0 ∙ w.node-eight, start.requires.s_value.1 ∙ sym n.ensures.0, all, omega arith) }
 
 pub returns : goal.returns
 unfolding signer_tree primitives_of

@@ -1,15 +1,11 @@
-use borrow.Author.Rules.{rules}
 use mathlib.Core.Path.{◌≡◌, sym, ap, ◌∙◌}
-use mathlib.Core.Bool.{true}
-use Prim.Native.Nat.{ℕ, ◌+◌, ◌-◌, ◌*◌, ◌^◌, ◌≤◌, ◌<◌}
+use Prim.Native.Nat.{ℕ, ◌+◌, ◌*◌, ◌≤◌}
 use native.Mathlib.Nat.{mul-one, le_refl}
 use native.Mathlib.Omega.{arith}
 use lib.ListN.{length, take, drop}
 use lib.Seq.{take_all, take_at}
-use Rattle.spec.specs.declared.Shape.{Shape}
 use Rattle.spec.specs.Bytes.{part}
 use Rattle.spec.specs.Tree.{expand_tree}
-use Rattle.spec.specs.Shapes.{node_bytes, shape_ok}
 use Rattle.spec.specs.Leaves.{children}
 use Rattle.job.specs.Versions.{primitives_of}
 use Rattle.laws.proofs.Concat.{mul-limit}
@@ -55,7 +51,7 @@ expand_node-requires c =
     let p = start.requires.le_n in
     let l = c.loop-a in
     let i = inside g.n g.inner l.a 3 (length l.tree) l.invariant.1 (omega arith) in
-    (start.requires.sbox_table, (p.0, p.1, p.2, i, l.invariant.2))
+    record { sbox_table = start.requires.sbox_table; le_n = (p.0, p.1, p.2, i, l.invariant.2) }
 
 pub loop-a-preserved : goal.loop-a-preserved
 loop-a-preserved c =

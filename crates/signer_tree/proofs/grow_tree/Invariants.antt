@@ -1,20 +1,13 @@
 -- Once a nodes are expanded, the first 2 a + 1 nodes stand.
-use borrow.Author.Rules.{rules}
-use mathlib.Core.Path.{◌≡◌, sym, ap, ◌∙◌}
+use mathlib.Core.Path.{◌≡◌}
 use mathlib.Core.Bool.{true}
-use Prim.Native.Nat.{ℕ, ◌+◌, ◌-◌, ◌*◌, ◌^◌, ◌≤◌, ◌<◌}
-use native.Mathlib.Nat.{mul-one, le_refl}
-use native.Mathlib.Omega.{arith}
-use lib.ListN.{length, take, drop}
-use lib.Seq.{take_all, take_at}
+use Prim.Native.Nat.{◌+◌, ◌-◌, ◌*◌, ◌^◌, ◌≤◌, ◌<◌}
+use lib.ListN.{length, take}
 use Rattle.spec.specs.declared.Shape.{Shape}
-use Rattle.spec.specs.Bytes.{part}
 use Rattle.spec.specs.Tree.{expand_tree}
 use Rattle.spec.specs.Shapes.{node_bytes, shape_ok}
 use Rattle.spec.specs.Leaves.{children}
 use Rattle.job.specs.Versions.{primitives_of}
-use Rattle.laws.proofs.Concat.{mul-limit}
-use Rattle.tree.proofs.Growing.{length-children, grown-more}
 use Rattle.signer_tree.proofs.grow_tree.Given as goal
 
 abbrev pub invariant-loop-a : goal.invariant-loop-a

@@ -1,7 +1,6 @@
 -- What the two halves and the hash ensure, joined by the law `converted`; the last column after each half makes the xor of all rows.
-use borrow.Author.Rules.{rules}
 use Prim.Native.Nat.{ℕ, ◌+◌, ◌-◌, ◌*◌, ◌/◌, ◌≤◌}
-use mathlib.Core.Path.{◌≡◌, ap, ◌∙◌}
+use mathlib.Core.Path.{ap, ◌∙◌}
 use native.Mathlib.Nat.{mul-le-mul}
 use native.Mathlib.Omega.{arith}
 use lib.Bits.{bit_xor}
@@ -40,10 +39,7 @@ add_half-requires c =
     let ok = p.lent.0.job.shape in
     let n = c.entry_count-n in
     let clear = c.clear_from in
-    let m = some-entry g.g.shape g.i in (
-      (p.lent.0, c.hash_multiples-m.ensures g.g.iv p.lent.1, lower-inside g.g ok g.i 0 n.result n.ensures.0 m 0 (omega arith) p.lent.2),
-      (p.lcs_len.0, lower-marked g.g ok g.i 0 n.result n.ensures.0 m g.tree.now 0 _ g.cols.now clear.new.out (omega arith) p.lcs_len.1 clear.auto.out clear.ensures),
-    )
+    let m = some-entry g.g.shape g.i in record { lent = (p.lent.0, c.hash_multiples-m.ensures g.g.iv p.lent.1, lower-inside g.g ok g.i 0 n.result n.ensures.0 m 0 (omega arith) p.lent.2); commitments_len = (p.lcs_len.0, lower-marked g.g ok g.i 0 n.result n.ensures.0 m g.tree.now 0 _ g.cols.now clear.new.out (omega arith) p.lcs_len.1 clear.auto.out clear.ensures) }
 
 pub add_part-requires : goal.add_part-requires
 add_part-requires c =
@@ -62,10 +58,7 @@ add_half-requires-2 c =
     let ok = p.lent.0.job.shape in
     let n = c.entry_count-n in
     let made = c.add_half.ensures in
-    let m = some-entry g.g.shape g.i in (
-      (p.lent.0, c.hash_multiples-m.ensures g.g.iv p.lent.1, upper-inside g.g ok g.i 0 n.result n.ensures.0 m p.lent.2),
-      (made.written.size ∙ p.lcs_len.0, upper-marked g.g ok g.i 0 n.result n.ensures.0 m g.tree.now 0 _ made.running),
-    )
+    let m = some-entry g.g.shape g.i in record { lent = (p.lent.0, c.hash_multiples-m.ensures g.g.iv p.lent.1, upper-inside g.g ok g.i 0 n.result n.ensures.0 m p.lent.2); commitments_len = (made.written.size ∙ p.lcs_len.0, upper-marked g.g ok g.i 0 n.result n.ensures.0 m g.tree.now 0 _ made.running) }
 
 pub add_part-requires-2 : goal.add_part-requires-2
 add_part-requires-2 c =
@@ -99,12 +92,12 @@ returns c =
     let two = c.add_half-2 in
     let x = one.new.cols in
     let y = two.new.cols in
-    let at = ap (λ (d : ℕ). b * (d - 1)) d.ensures.0 in (
-      sum_of b (b * (d.result - 1)) (u_byte s (entry_byte g.g tree) i) x y g.total.now _ _ p.lent.3 c.add_part.ensures c.add_part-2.ensures
+    let at = ap (λ (d : ℕ). b * (d - 1)) d.ensures.0 in record {
+      total_after = sum_of b (b * (d.result - 1)) (u_byte s (entry_byte g.g tree) i) x y g.total.now _ _ p.lent.3 c.add_part.ensures c.add_part-2.ensures
           (λ q l. ap (λ (k : ℕ). bit_xor (get_or x (k + q) 0) (get_or y (k + q) 0)) at
           ∙ running-total b (depth_of s i - 1) (numbered g.g tree (upper g.g ok i 0 n.result n.ensures.0 m)) (n.result / 2) n.result q x y l one.ensures.running two.ensures.running
-          ∙ u-by-number s (entry_byte g.g tree) i 0 m n.result q n.ensures.0),
-      converted g.g tree i (n.result / 2) n.result g.lcs.now _ _ _ g.hash.now _ n.ensures.0 p.lcs_len.0 p.lcs_len.2 one.ensures.written two.ensures.written
+          ∙ u-by-number s (entry_byte g.g tree) i 0 m n.result q n.ensures.0);
+      converted = converted g.g tree i (n.result / 2) n.result g.lcs.now _ _ _ g.hash.now _ n.ensures.0 p.lcs_len.0 p.lcs_len.2 one.ensures.written two.ensures.written
           (columns_of g.g ok i 0 n.result n.ensures.0 m tree y two.ensures.running)
-          (c.h1.ensures ∙ ap (λ (r : ℕ). hash1 r two.new.commitments (length g.hash.now)) c.rate_bytes.ensures.0),
-    )
+          (c.h1.ensures ∙ ap (λ (r : ℕ). hash1 r two.new.commitments (length g.hash.now)) c.rate_bytes.ensures.0);
+    }

@@ -1,13 +1,11 @@
-use borrow.Author.Rules.{rules}
 use Prim.Native.Nat.{ℕ, ◌+◌, ◌-◌, ◌*◌, ◌≤◌, ◌<◌}
 use mathlib.Core.Path.{◌≡◌, refl, sym, ap, ◌∙◌, subst}
 use native.Mathlib.Nat.{mul-zero, le_refl}
 use native.Mathlib.Omega.{arith}
 use lib.ListN.{length, take}
 use Rattle.spec.specs.Bytes.{concat}
-use Rattle.spec.specs.Shapes.{hash_bytes, leaf_commitments_bytes, matrix_bytes, corrections_bytes}
-use Rattle.spec.specs.Primitives.{faest}
-use Rattle.spec.specs.Signer.{signer_u, signer_column, correction, corrections}
+use Rattle.spec.specs.Shapes.{corrections_bytes}
+use Rattle.spec.specs.Signer.{signer_column, correction, corrections}
 use Rattle.laws.proofs.Concat.{mul-limit}
 use Rattle.planning_laws.proofs.ShapeFacts.{shape-facts}
 use Rattle.job.specs.Jobs.{entry_commitment, entry_byte}
@@ -17,8 +15,9 @@ use Rattle.vector.proofs.Numbers.{width_small}
 use Rattle.vector.proofs.Fronts.{before-none, before-all}
 use Rattle.signer_vectors.proofs.Steps.{u-of, u-length, correction-more}
 use Rattle.signer_vectors.proofs.write_vectors.Goals as goal
+use Rattle.signer_vectors.proofs.write_vectors.Goals.{In-loop-j}
 
-correction-end : (c : goal.In-loop-j) → c.args.g.stretch.width * c.loop-j.j + c.args.g.stretch.width ≤ length c.loop-j.corrections
+correction-end : (c : In-loop-j) → c.args.g.stretch.width * c.loop-j.j + c.args.g.stretch.width ≤ length c.loop-j.corrections
 unfolding corrections_bytes
 correction-end c =
     let s = c.args.g.shape in
@@ -26,7 +25,7 @@ correction-end c =
     let l = c.loop-j.invariant.3 in
     block-end c.args.g.stretch.width c.loop-j.j (s.tau - 1) _ t (omega arith)
 
-correction-small : (c : goal.In-loop-j) → c.args.g.stretch.width * c.loop-j.j + c.args.g.stretch.width ≤ 8192 * 32 + 8192
+correction-small : (c : In-loop-j) → c.args.g.stretch.width * c.loop-j.j + c.args.g.stretch.width ≤ 8192 * 32 + 8192
 correction-small c =
     let start = c in
     let f = shape-facts start.args.g.shape start.requires.lent.0.job.shape in
@@ -42,7 +41,7 @@ pub next_vector-requires : goal.next_vector-requires
 next_vector-requires c =
     let p = c.requires in
     let f = shape-facts c.args.g.shape p.lent.0.job.shape in
-    ((p.lent.0, p.lent.1, f.tau-pos, c.clear_from.auto.out ∙ p.u_len.0), (p.lent.2, p.u_len.1, p.lent.3))
+    record { lent = (p.lent.0, p.lent.1, f.tau-pos, c.clear_from.auto.out ∙ p.u_len.0); lcs_len = (p.lent.2, p.u_len.1, p.lent.3) }
 
 pub loop-j-init : goal.loop-j-init
 unfolding concat
@@ -50,34 +49,33 @@ loop-j-init c =
     let start = c in
     let g = start.args.g in
     let p = start.requires in
-    let first = c.next_vector in
-    let kept = first.auto.1.1.1.1.1.1 in (
+    let first = c.next_vector in (
       omega arith,
-      kept.0 ∙ p.lent.2,
-      kept.1.0 ∙ p.u_len.1,
+      first.auto.lcs ∙ p.lent.2,
+      first.auto.v ∙ p.u_len.1,
       p.u_len.2,
-      kept.1.1.0 ∙ p.lent.3,
+      first.auto.hashes ∙ p.lent.3,
       u-of g.shape g.stretch.width (entry_byte g start.args.tree.now) _ _ _ c.clear_from.ensures first.ensures.total_after,
       ap (λ (m : ℕ). take m start.args.corrections.now) (mul-zero g.stretch.width),
       first.ensures.before (before-none _ _ _ _ _ _ _),
     )
 
 pub overflow_mul-at : goal.overflow_mul-at
-overflow_mul-at c = let m = correction-small c in omega arith
+overflow_mul-at c = let m = correction-small (goal.at.overflow_mul-at c).In-loop-j in omega arith
 
 pub copy_part-requires : goal.copy_part-requires
 copy_part-requires c =
     let l = c.loop-j in
-    (omega (arith, u-length _ _ _ _ l.invariant.5), correction-end c.before.before)
+    (omega (arith, u-length _ _ _ _ l.invariant.5), correction-end (goal.at.copy_part-requires c).In-loop-j)
 
 pub overflow_add-j : goal.overflow_add-j
 overflow_add-j c = let t = c.loop-j-test.true in omega arith
 
 pub overflow_add-at : goal.overflow_add-at
-overflow_add-at c = let m = correction-small c.before.before.before.before.before in omega arith
+overflow_add-at c = let m = correction-small (goal.at.overflow_add-at c).In-loop-j in omega arith
 
 pub slice_bounds-next_vector-end : goal.slice_bounds-next_vector-end
-slice_bounds-next_vector-end c = (let e = correction-end c.before.before.before.before.before in let k = c.copy_part.auto.dst in omega arith)
+slice_bounds-next_vector-end c = (let e = correction-end (goal.at.slice_bounds-next_vector-end c).In-loop-j in let k = c.copy_part.auto.dst in omega arith)
 
 pub next_vector-requires-in-loop-j : goal.next_vector-requires-in-loop-j
 next_vector-requires-in-loop-j c =
@@ -86,7 +84,7 @@ next_vector-requires-in-loop-j c =
     let l = c.loop-j in
     let b = start.args.g.stretch.width in
     let below : l.j + 1 < start.args.g.shape.tau = (let t = c.loop-j-test.true in omega arith) in
-    ((p.lent.0, p.lent.1, below, lent (b * l.j) (b * l.j + b) b _ refl (part_end c.before.before.before.before)), (l.invariant.1, l.invariant.2, l.invariant.4))
+    record { lent = (p.lent.0, p.lent.1, below, lent (b * l.j) (b * l.j + b) b _ refl (let e = correction-end (goal.at.next_vector-requires-in-loop-j c).In-loop-j in let k = c.copy_part.auto.dst in omega arith)); lcs_len = (l.invariant.1, l.invariant.2, l.invariant.4) }
 
 pub overflow_step-j : goal.overflow_step-j
 overflow_step-j c = let t = c.loop-j-test.true in let f = (shape-facts c.args.g.shape c.requires.lent.0.job.shape).tau-max in omega arith
@@ -101,15 +99,14 @@ loop-j-preserved c =
     let l = c.loop-j in
     let copy = c.copy_part in
     let made = c.next_vector-in-loop-j in
-    let kept = made.auto.1.1.1.1.1.1 in
     let t = c.loop-j-test.true in (
       omega arith,
-      kept.0 ∙ l.invariant.1,
-      kept.1.0 ∙ l.invariant.2,
-      c.corrections-in-loop-j-1.given.1 ∙ copy.auto.dst ∙ l.invariant.3,
-      kept.1.1.0 ∙ l.invariant.4,
+      made.auto.lcs ∙ l.invariant.1,
+      made.auto.v ∙ l.invariant.2,
+      omega (arith, copy.auto.dst, l.invariant.3),
+      made.auto.hashes ∙ l.invariant.4,
       l.invariant.5,
-      correction-more g.shape g.stretch.width (entry_byte g start.args.tree.now) l.j _ l.corrections copy.new.dst _ _ l.invariant.5 (correction-end c.before.before.before.before.before.before.before.before.before.before.before.before.before.before.before.before.before.before) (u-length _ _ _ _ l.invariant.5) copy.ensures made.ensures.total_after l.invariant.6,
+      correction-more g.shape g.stretch.width (entry_byte g start.args.tree.now) l.j _ l.corrections copy.new.dst _ _ l.invariant.5 (correction-end (goal.at.loop-j-preserved c).In-loop-j) (u-length _ _ _ _ l.invariant.5) copy.ensures made.ensures.total_after l.invariant.6,
       made.ensures.before l.invariant.7,
     )
 
@@ -154,7 +151,4 @@ returns c =
     let all : l.j + 1 ≡ s.tau = omega arith in
     let lc = entry_commitment g start.args.tree.now in
     let whole = before-all s b lc (signer_column s b row) start.requires.lent.0.job.shape _ l.lcs l.v _ l.hashes l.invariant.1 l.invariant.2 l.invariant.4 c.columns_from-used.ensures c.clear_from-2.ensures
-    (subst (λ (n : ℕ). Before s b lc (signer_column s b row) n l.lcs l.v l.hashes) all l.invariant.7) in (
-      whole.0,
-      (l.invariant.5, (whole.1, (put_all (λ i. correction s b row (i + 1)) (b * (s.tau - 1)) (s.tau - 1) l.corrections l.invariant.3 (subst (λ (n : ℕ). take (b * n) l.corrections ≡ concat n (λ i. correction s b row (i + 1))) rest l.invariant.6), whole.2))),
-    )
+    (subst (λ (n : ℕ). Before s b lc (signer_column s b row) n l.lcs l.v l.hashes) all l.invariant.7) in record { lcs_after = whole.0; u_after = l.invariant.5; v_after = whole.1; corrections_after = put_all (λ i. correction s b row (i + 1)) (b * (s.tau - 1)) (s.tau - 1) l.corrections l.invariant.3 (subst (λ (n : ℕ). take (b * n) l.corrections ≡ concat n (λ i. correction s b row (i + 1))) rest l.invariant.6); hashes_after = whole.2 }

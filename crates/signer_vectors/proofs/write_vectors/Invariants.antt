@@ -1,23 +1,13 @@
 -- After j turns vectors 0 to j stand at the front of the buffers, and j corrections. The measure is the number of vectors left.
 -- ---- correction j: its place
-use borrow.Author.Rules.{rules}
-use Prim.Native.Nat.{ℕ, ◌+◌, ◌-◌, ◌*◌, ◌≤◌, ◌<◌}
-use mathlib.Core.Path.{◌≡◌, refl, sym, ap, ◌∙◌, subst}
-use native.Mathlib.Nat.{mul-zero, le_refl}
-use native.Mathlib.Omega.{arith}
+use Prim.Native.Nat.{◌+◌, ◌-◌, ◌*◌, ◌≤◌}
+use mathlib.Core.Path.{◌≡◌}
 use lib.ListN.{length, take}
 use Rattle.spec.specs.Bytes.{concat}
 use Rattle.spec.specs.Shapes.{hash_bytes, leaf_commitments_bytes, matrix_bytes, corrections_bytes}
-use Rattle.spec.specs.Primitives.{faest}
-use Rattle.spec.specs.Signer.{signer_u, signer_column, correction, corrections}
-use Rattle.laws.proofs.Concat.{mul-limit}
-use Rattle.planning_laws.proofs.ShapeFacts.{shape-facts}
+use Rattle.spec.specs.Signer.{signer_u, signer_column, correction}
 use Rattle.job.specs.Jobs.{entry_commitment, entry_byte}
 use Rattle.vector.specs.Vectors.{Before}
-use Rattle.vector.proofs.Buffers.{lent, block-end, put_all, all-columns}
-use Rattle.vector.proofs.Numbers.{width_small}
-use Rattle.vector.proofs.Fronts.{before-none, before-all}
-use Rattle.signer_vectors.proofs.Steps.{u-of, u-length, correction-more}
 use Rattle.signer_vectors.proofs.write_vectors.Given as goal
 
 abbrev pub invariant-loop-j : goal.invariant-loop-j

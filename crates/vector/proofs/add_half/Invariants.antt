@@ -2,23 +2,10 @@
 -- The measure is the number of entries left.
 -- ---- the last column: its start, and its end before the loop
 -- ---- the parts lent
-use borrow.Author.Rules.{rules}
-use mathlib.Core.Path.{◌≡◌, refl, sym, ap, ◌∙◌, subst}
-use Prim.Native.Nat.{ℕ, ◌+◌, ◌-◌, ◌*◌, ◌≤◌, ◌<◌}
-use native.Mathlib.Nat.{mul-le-mul}
-use native.Mathlib.Omega.{arith}
-use lib.Bits.{bit_xor}
-use lib.ListN.{length}
-use Rattle.spec.specs.Shapes.{leaf_commitment_bytes, entries_of}
-use Rattle.columns.specs.Columns.{Marked, Running}
-use Rattle.columns.proofs.Adding.{xored-lent}
-use Rattle.columns.proofs.Running.{running-start, running-next}
+use Prim.Native.Nat.{◌-◌, ◌≤◌}
+use Rattle.columns.specs.Columns.{Running}
 use Rattle.job.specs.Jobs.{entry_commitment}
 use Rattle.vector.specs.Entries.{numbered, Written}
-use Rattle.vector.proofs.Buffers.{lent, last_end, cleared-before, cleared-behind}
-use Rattle.vector.proofs.Numbers.{entry_in, entry-end, width_small, deep, height-small}
-use Rattle.vector.proofs.LeafNodes.{entry_length}
-use Rattle.vector.proofs.Entries.{written_none, written-more}
 use Rattle.vector.proofs.add_half.Given as goal
 
 abbrev pub invariant-loop-x : goal.invariant-loop-x

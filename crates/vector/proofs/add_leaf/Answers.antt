@@ -1,8 +1,7 @@
 -- What `commit_leaf` and `add_row` ensure, of the leaf that `leaf_node` finds.
-use borrow.Author.Rules.{rules}
 use mathlib.Core.Path.{◌≡◌, refl, sym, ap, ap₂, ◌∙◌, subst}
 use mathlib.Core.List.{List}
-use Prim.Native.Nat.{ℕ, ◌+◌, ◌-◌, ◌*◌, ◌%◌, ◌^◌}
+use Prim.Native.Nat.{ℕ, ◌+◌, ◌-◌, ◌*◌, ◌%◌, ◌^◌, ◌≤◌}
 use native.Mathlib.Omega.{arith}
 use lib.ListN.{length}
 use Rattle.spec.specs.Bytes.{part}
@@ -16,10 +15,19 @@ use Rattle.job.specs.Jobs.{nonce_of, entry_commitment, entry_byte}
 use Rattle.job.proofs.Each.{prg-byte}
 use Rattle.vector.proofs.Buffers.{part-size, lent}
 use Rattle.vector.proofs.add_leaf.Goals as goal
+use Rattle.vector.proofs.add_leaf.Goals.{After-commit_leaf, After-leaf_node}
 
 -- the seed has a node's length
-seed-size : (c : goal.After-slice-known5) → length c.before.before.before.before.commit-leaf.new.1.1.1.1.1.0 ≡ node_bytes c.before.before.before.before.before.before.before.before.before.before.before.before.before.before.before.before.before.before.args.g.shape
-seed-size c = c.before.before.before.before.commit-leaf.auto.1.1.1.1.1.0 ∙ c.before.before.before.before.before.before.before.before.before.before.before.before.before.before.before.before.before.before.requires.seed_len.0
+seed-size : (c : After-commit_leaf) → length c.commit_leaf.new.seed ≡ node_bytes c.args.g.shape
+seed-size c = c.commit_leaf.auto.seed ∙ c.requires.seed_len.0
+
+-- the leaf ends within the nodes lent
+leaf-end : (c : After-leaf_node) → c.node_bytes-n.result * c.leaf_node.result + c.node_bytes-n.result ≤ length c.args.tree.now
+leaf-end c =
+    let n = c.node_bytes-n in
+    let l = c.leaf_node in
+    let all : n.result * l.result ≡ node_bytes c.args.g.shape * l.result = ap (λ (w : ℕ). w * l.result) n.ensures.0 in
+    omega (arith, c.requires.lent.0.tree, l.ensures.1, n.ensures.0)
 
 pub overflow_mul-a : goal.overflow_mul-a
 overflow_mul-a c =
@@ -47,12 +55,7 @@ overflow_add-a c =
     omega (arith, n.ensures.2)
 
 pub slice_bounds-commit_leaf-end : goal.slice_bounds-commit_leaf-end
-slice_bounds-commit_leaf-end c =
-    let start = c in
-    let n = c.node_bytes-n in
-    let l = c.leaf_node in
-    let all : n.result * l.result ≡ node_bytes start.args.g.shape * l.result = ap (λ (w : ℕ). w * l.result) n.ensures.0 in
-    omega (arith, start.requires.lent.0.tree, l.ensures.1, n.ensures.0)
+slice_bounds-commit_leaf-end c = leaf-end (goal.at.slice_bounds-commit_leaf-end c).After-leaf_node
 
 pub commit_leaf-requires : goal.commit_leaf-requires
 commit_leaf-requires c =
@@ -60,15 +63,15 @@ commit_leaf-requires c =
     let n = c.node_bytes-n in
     let a = n.result * c.leaf_node.result in
     let lent-tree = start.requires.lent.0 in
-    (lent-tree.table, (lent-tree.job.shape, lent-tree.job.kind, lent a (a + n.result) n.result start.args.tree.now refl (leaf-end c.before.before.before) ∙ n.ensures.0, start.requires.seed_len.0, start.requires.seed_len.1))
+    record { sbox_table = lent-tree.table; s_value = (lent-tree.job.shape, lent-tree.job.kind, lent a (a + n.result) n.result start.args.tree.now refl (leaf-end (goal.at.commit_leaf-requires c).After-leaf_node) ∙ n.ensures.0, start.requires.seed_len.0, start.requires.seed_len.1) }
 
 pub add_row-requires : goal.add_row-requires
 add_row-requires c =
     let start = c in
     let job = start.requires.lent.0.job in
     let w = widths start.args.g.shape (shape-facts start.args.g.shape job.shape) in
-    let e = seed-size c.before.before in
-    (start.requires.lent.0.table, (omega (arith, w.node-min), omega (arith, w.node-max), ap (λ (n : ℕ). n % 8) e ∙ w.node-eight, omega (arith, job.row, start.requires.seed_len.2)))
+    let e = seed-size (goal.at.add_row-requires c).After-commit_leaf in
+    record { sbox_table = start.requires.lent.0.table; in_bounds = (omega (arith, w.node-min), omega (arith, w.node-max), ap (λ (n : ℕ). n % 8) e ∙ w.node-eight, omega (arith, job.row, start.requires.seed_len.2)) }
 
 pub returns : goal.returns
 unfolding node_at entry_commitment entry_byte
@@ -86,8 +89,8 @@ returns c =
     let key = ap (part x a) (part-size a n.result) ∙ ap₂ (λ (w k : ℕ). part x (w * k) w) n.ensures.0 leaf.ensures.0 in
     let w = widths s (shape-facts s start.requires.lent.0.job.shape) in
     let seed = made.0 ∙ ap (leaf_seed_of g.version s g.iv i) key in
-    let byte = ap (λ (k : List ℕ). byte_of (key_words s) k (nonce_of g (i + 2 ^ 31))) seed ∙ sym (prg-byte g.version s _ g.iv (i + 2 ^ 31)) in (
-      made.1 ∙ ap (leaf_commitment_of g.version s g.iv i) key,
-      subst (λ (f : ℕ → ℕ). Xored 0 (length start.args.sum.now) (λ p. f (g.stretch.first + p)) start.args.sum.now c.add_row.new.sum) byte
-          (c.add_row.ensures (key_words s) (seed-size c.before.before.before.before.before ∙ w.node-words)),
-    )
+    let byte = ap (λ (k : List ℕ). byte_of (key_words s) k (nonce_of g (i + 2 ^ 31))) seed ∙ sym (prg-byte g.version s _ g.iv (i + 2 ^ 31)) in record {
+      commitment_after = made.1 ∙ ap (leaf_commitment_of g.version s g.iv i) key;
+      xored = subst (λ (f : ℕ → ℕ). Xored 0 (length start.args.sum.now) (λ p. f (g.stretch.first + p)) start.args.sum.now c.add_row.new.sum) byte
+          (c.add_row.ensures (key_words s) (seed-size (goal.at.returns c).After-commit_leaf ∙ w.node-words));
+    }

@@ -1,5 +1,4 @@
 -- By the version.
-use borrow.Author.Rules.{rules}
 use Rattle.vector.proofs.LeafNodes.{found-one, found-two}
 use Rattle.vector.proofs.leaf_node.Goals as goal
 

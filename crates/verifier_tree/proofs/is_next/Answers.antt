@@ -1,5 +1,4 @@
 -- Of the nodes at or after x, x is the last, if it is in the list.
-use borrow.Author.Rules.{rules}
 use mathlib.Core.Path.{sym, ap, ◌∙◌}
 use Prim.Native.Nat.{ℕ, ◌-◌}
 use native.Mathlib.Omega.{arith}

@@ -1,11 +1,10 @@
 -- The list has room for the covered nodes, so its front is all of them, and the tree by them is the reconstructed one.
-use borrow.Author.Rules.{rules}
 use mathlib.Core.Path.{◌≡◌, sym, ap, ap₂, ◌∙◌}
 use Prim.Native.Nat.{ℕ, ◌-◌, ◌*◌, ◌%◌}
 use native.Mathlib.Omega.{arith}
 use lib.ListN.{length}
 use Rattle.spec.specs.Bytes.{part, zeros}
-use Rattle.spec.specs.Shapes.{node_bytes, leaf_commitment_bytes, tree_bytes, opening_bytes}
+use Rattle.spec.specs.Shapes.{node_bytes, tree_bytes, opening_bytes}
 use Rattle.laws.proofs.Lists.{length_part, length-zeros}
 use Rattle.laws.proofs.Concat.{mul-limit, mul-rest}
 use Rattle.planning_laws.proofs.ShapeFacts.{shape-facts, widths}
@@ -13,8 +12,8 @@ use Rattle.verifier_tree.proofs.FromOpening.{few-nodes, front-ready, front-tree}
 use Rattle.verifier_tree.proofs.reconstruct_tree.Goals as goal
 
 -- where the slots begin
-slots-from : (c : goal.After-write-tree-arg) → c.before.before.before.before.before.before.before.commitment-bytes.result * c.before.before.before.before.before.before.before.before.before.before.before.before.args.s.tau ≡ leaf_commitment_bytes c.before.before.before.before.before.before.before.before.before.before.before.before.args.s * c.before.before.before.before.before.before.before.before.before.before.before.before.args.s.tau
-slots-from c = ap (λ (n : ℕ). n * c.before.before.before.before.before.before.before.before.before.before.before.before.args.s.tau) c.before.before.before.before.before.before.before.commitment-bytes.ensures.0
+slots-from : (v tau s : ℕ) → v ≡ s → v * tau ≡ s * tau
+slots-from v tau s e = ap (λ (n : ℕ). n * tau) e
 
 pub overflow_mul-first : goal.overflow_mul-first
 overflow_mul-first c =
@@ -35,11 +34,11 @@ slice_bounds-write_tree-end c =
 
 pub slice_bounds-write_tree-count-2 : goal.slice_bounds-write_tree-count-2
 unfolding opening_bytes
-slice_bounds-write_tree-count-2 c = (let h = c.requires.s_value.4 in let e = slots-from c in omega arith)
+slice_bounds-write_tree-count-2 c = (let h = c.requires.s_value.4 in let e = slots-from _ c.args.s.tau _ c.commitment_bytes.ensures.0 in omega arith)
 
 pub slice_bounds-write_tree-start-2 : goal.slice_bounds-write_tree-start-2
 unfolding opening_bytes
-slice_bounds-write_tree-start-2 c = (let h = c.requires.s_value.4 in let e = slots-from c in omega arith)
+slice_bounds-write_tree-start-2 c = (let h = c.requires.s_value.4 in let e = slots-from _ c.args.s.tau _ c.commitment_bytes.ensures.0 in omega arith)
 
 pub write_tree-requires : goal.write_tree-requires
 unfolding tree_bytes opening_bytes zeros
@@ -53,7 +52,7 @@ write_tree-requires c =
     let w = c.node_bytes-w in
     let v = c.commitment_bytes in
     let first = v.result * g.s.tau in
-    let at = slots-from c.before.before in
+    let at = slots-from _ c.args.s.tau _ c.commitment_bytes.ensures.0 in
     let nodes = c.covered_nodes-m in
     let n = c.leaf_count-l in
     let r = front-ready g.s f g.ch.now n.result g.n nodes.result nodes.new.out n.ensures.0 p.s_value.2 p.s_value.3 nodes.ensures.0 nodes.ensures.1 in
@@ -63,7 +62,7 @@ write_tree-requires c =
     let long = p.s_value.4 in
     let all : length g.tree.now ≡ w.result * (2 * n.result - 1) = p.s_value.5 ∙ sym (ap₂ (λ (m k : ℕ). m * (2 * k - 1)) w.ensures.0 n.ensures.0) in
     let most = mul-limit w.result (2 * n.result - 1) 32 172031 w.ensures.2 (omega (arith, n.ensures.2)) in
-    (p.sbox_table, (n.ensures.1, r.0, r.1, r.2, r.3, omega arith, all, omega arith, w.ensures.1, w.ensures.2, ap (λ (m : ℕ). m % 8) w.ensures.0 ∙ ws.node-eight))
+    record { sbox_table = p.sbox_table; le_l = (n.ensures.1, r.0, r.1, r.2, r.3, omega arith, all, omega arith, w.ensures.1, w.ensures.2, ap (λ (m : ℕ). m % 8) w.ensures.0 ∙ ws.node-eight) }
 
 pub returns : goal.returns
 unfolding zeros
@@ -76,4 +75,4 @@ returns c =
     let nodes = c.covered_nodes-m in
     let n = c.leaf_count-l in
     front-tree g.s f g.ch.now n.result g.n nodes.result nodes.new.out n.ensures.0 p.s_value.2 p.s_value.3 nodes.ensures.0 nodes.ensures.1
-    w.result _ g.opening.now g.iv c.write_tree.new.tree w.ensures.0 (slots-from c.before.before.before.before.before) (c.write_tree.ensures g.s p.s_value.0 w.ensures.0)
+    w.result _ g.opening.now g.iv c.write_tree.new.tree w.ensures.0 (slots-from _ c.args.s.tau _ c.commitment_bytes.ensures.0) (c.write_tree.ensures g.s p.s_value.0 w.ensures.0)

@@ -1,5 +1,4 @@
 -- A listed node is cleared and takes no slot, and one of the list is passed; any other is copied from the next slot.
-use borrow.Author.Rules.{rules}
 use mathlib.Core.Path.{sym, ap, ◌∙◌}
 use mathlib.Core.List.{List, ◌++◌}
 use Prim.Native.Nat.{ℕ, ◌+◌, ◌-◌, ◌*◌}

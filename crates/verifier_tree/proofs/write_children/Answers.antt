@@ -1,5 +1,4 @@
 -- Node a is expanded, or its two children are written one after the other.
-use borrow.Author.Rules.{rules}
 use mathlib.Core.Path.{◌≡◌, ap, ◌∙◌}
 use mathlib.Core.List.{List, ◌++◌}
 use Prim.Native.Nat.{ℕ, ◌+◌, ◌*◌, ◌≤◌}
@@ -28,7 +27,7 @@ right-room : (w a d : ℕ) → w * (2 * a + 3) ≤ d → w * (2 * a + 2) + w ≤
 right-room w a d h = (let x = node-place w a 2 in let y = node-place w a 3 in omega arith)
 
 pub expand_node-requires : goal.expand_node-requires
-expand_node-requires c = (let start = c in let p = start.requires.descending in (start.requires.sbox_table, (p.7, p.8, p.9, p.5, p.6)))
+expand_node-requires c = (let start = c in let p = start.requires.descending in record { sbox_table = start.requires.sbox_table; le_n = (p.7, p.8, p.9, p.5, p.6) })
 
 pub returns-then-not-is_next : goal.returns-then-not-is_next
 unfolding primitives_of

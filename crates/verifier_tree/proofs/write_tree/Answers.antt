@@ -1,19 +1,16 @@
 use borrow.Author.Rules.{rules}
 use mathlib.Core.Path.{◌≡◌, refl, sym, ap, ◌∙◌}
-use mathlib.Core.Bool.{true}
 use Prim.Native.Nat.{ℕ, ◌+◌, ◌-◌, ◌*◌, ◌≤◌}
 use native.Mathlib.Nat.{mul-one, le_refl}
 use native.Mathlib.Omega.{arith}
 use lib.ListN.{length, take, drop}
 use lib.Seq.{take_all, take_at}
-use Rattle.spec.specs.declared.Shape.{Shape}
 use Rattle.spec.specs.Bytes.{part, zeros}
 use Rattle.spec.specs.Tree.{revealed_from, expand_tree}
-use Rattle.spec.specs.Shapes.{node_bytes, shape_ok}
 use Rattle.laws.proofs.Lists.{length-zeros}
 use Rattle.laws.proofs.Concat.{mul-limit}
 use Rattle.tree.proofs.Growing.{grown-more}
-use Rattle.verifier_tree.specs.ByNodes.{read_before, Before, children_by}
+use Rattle.verifier_tree.specs.ByNodes.{read_before, children_by}
 use Rattle.verifier_tree.proofs.Places.{all_after, node-passed}
 use Rattle.verifier_tree.proofs.Children.{put-zeros-front, read-longer, length-by}
 use Rattle.verifier_tree.proofs.write_tree.Goals as goal
@@ -23,8 +20,11 @@ inside : (w l a k d : ℕ) → d ≡ w * (2 * l - 1) → 2 * a + k ≤ 2 * l - 1
 inside w l a k d e h = (let m = mul-limit w (2 * a + k) w (2 * l - 1) (le_refl w) h in omega arith)
 
 -- the root is in the tree
+root-end : (w l d : ℕ) → d ≡ w * (2 * l - 1) → 1 ≤ l → w ≤ d
+root-end w l d e h = (let i = inside w l 0 1 d e (omega arith) in let o = mul-one w in omega arith)
+
 pub slice_bounds-clear_from-end : goal.slice_bounds-clear_from-end
-slice_bounds-clear_from-end c = (let st = c in let i = inside st.args.w st.args.l 0 1 _ st.requires.le_l.6 (omega (arith, st.requires.le_l.0)) in let o = mul-one st.args.w in omega arith)
+slice_bounds-clear_from-end c = root-end c.args.w c.args.l _ c.requires.le_l.6 c.requires.le_l.0
 
 pub overflow_sub-p : goal.overflow_sub-p
 overflow_sub-p c =
@@ -44,7 +44,7 @@ loop-a-init c =
       omega arith,
       search rules,
       (sym (all_after nodes), (let z = node-passed nodes 0 st.requires.le_l.1 st.requires.le_l.2 in let y = all_after nodes in omega arith), refl),
-      λ s ok e. ap (take (w * 1)) (put-zeros-front w d c.clear_from.new.out (root-end c.before.before.before.before) c.clear_from.ensures)
+      λ s ok e. ap (take (w * 1)) (put-zeros-front w d c.clear_from.new.out (root-end w st.args.l _ st.requires.le_l.6 st.requires.le_l.0) c.clear_from.ensures)
           ∙ take_at (zeros w) (drop w d) (w * 1) (length-zeros w ∙ sym (mul-one w)),
     )
 
@@ -54,7 +54,7 @@ write_children-p-requires c =
     let p = c.requires in
     let l = c.loop-a in
     let r = read-longer g.nodes.now (l.a + 1) (g.l - 1) (omega arith) in
-    (p.sbox_table, (p.le_l.1, p.le_l.3 l.a (omega arith), l.invariant.2, omega (arith, p.le_l.4), p.le_l.5, inside g.w g.l l.a 3 _ l.invariant.1 (omega arith), omega (arith, l.invariant.1, p.le_l.6, p.le_l.7), p.le_l.8, p.le_l.9, p.le_l.10))
+    record { sbox_table = p.sbox_table; descending = (p.le_l.1, p.le_l.3 l.a (omega arith), l.invariant.2, omega (arith, p.le_l.4), p.le_l.5, inside g.w g.l l.a 3 _ l.invariant.1 (omega arith), omega (arith, l.invariant.1, p.le_l.6, p.le_l.7), p.le_l.8, p.le_l.9, p.le_l.10) }
 
 pub loop-a-preserved : goal.loop-a-preserved
 loop-a-preserved c =
