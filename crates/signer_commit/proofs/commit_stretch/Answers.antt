@@ -6,19 +6,14 @@ use Rattle.signer_commit.proofs.commit_stretch.Goals as goal
 
 pub returns-then-number-ne0 : goal.returns-then-number-ne0
 returns-then-number-ne0 c =
-    let tests = c in
-    refused _ _ tests.resolve-s.ensures _ _ _ _ _ _ _ tests.commit_number-number.ensures c.if-number-ne0.true c.answer.ensures
+    refused _ _ c.resolve-s.ensures _ _ _ _ _ _ _ c.commit_number-number.ensures c.if-number-ne0.true c.answer.ensures
 
 pub write_commitment-requires : goal.write_commitment-requires
 write_commitment-requires c =
-    let passed = c in
-    let p = lengths-passed _ _ _ _ _ passed.commit_number-number.ensures passed.if-number-ne0.false in
+    let p = lengths-passed _ _ _ _ _ c.commit_number-number.ensures c.if-number-ne0.false in
     let l = p.2 in
-    ((p.0, p.1, l.0, l.1.0), (l.1.1.0, l.1.1.1.0, l.1.1.1.1.0, l.1.1.1.1.1.0, l.1.1.1.1.1.1.0, l.1.1.1.1.1.1.1.0))
+    record { s_value = (p.0, p.1, l.0, l.1.0); commitment_len = (l.1.1.0, l.1.1.1.0, l.1.1.1.1.0, l.1.1.1.1.1.0, l.1.1.1.1.1.1.0, l.1.1.1.1.1.1.1.0) }
 
 pub returns : goal.returns
 returns c =
-    let done = c in
-    let passed = done in
-    let tests = passed in
-    written _ _ tests.resolve-s.ensures _ _ _ _ _ _ _ tests.commit_number-number.ensures _ passed.if-number-ne0.false done.write_commitment.ensures c.answer-2.ensures
+    written _ _ c.resolve-s.ensures _ _ _ _ _ _ _ c.commit_number-number.ensures _ c.if-number-ne0.false c.write_commitment.ensures c.answer-2.ensures
