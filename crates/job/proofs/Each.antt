@@ -1,5 +1,5 @@
 -- The definitions by version, at each of the two, are the version's own. By computing.
-use Prim.Native.Nat.{ℕ, ◌+◌, ◌^◌}
+use Prim.Native.Nat.{ℕ, ◌+◌}
 use mathlib.Core.Path.{◌≡◌, refl, ap}
 use mathlib.Core.List.{List}
 use native.Mathlib.Omega.{arith}
@@ -7,7 +7,7 @@ use Rattle.spec.specs.declared.Shape.{Shape}
 use Rattle.spec.specs.declared.Stretch.{Stretch}
 use Rattle.spec.specs.Shapes.{key_words}
 use Rattle.spec.specs.Generator.{generator_block, generator_byte}
-use Rattle.spec.specs.Primitives.{Primitives, faest}
+use Rattle.spec.specs.Primitives.{faest}
 use Rattle.spec.specs.Leaves.{leaf_key}
 use Rattle.spec.specs.Rows.{row_byte, stretch_byte}
 use Rattle.spec.specs.Signer.{signer_leaf_commitment}

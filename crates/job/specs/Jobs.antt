@@ -2,7 +2,6 @@
 use Rattle.std.specs.Prelude.{ℕ, ◌+◌, ◌^◌, ◌≤◌, ◌≡◌, true, cond, List, eqb}
 use Rattle.spec.specs.Bytes.{part}
 use Rattle.spec.specs.Shapes.{leaf_commitment_bytes, shape_ok, hidden_index}
-use Rattle.spec.specs.Primitives.{Primitives}
 use Rattle.spec.specs.Leaves.{node_at}
 use Rattle.job.specs.declared.Job.{Job}
 use Rattle.job.specs.declared.Nonce.{Nonce}

@@ -1,8 +1,8 @@
 -- Numbers written with the highest byte first: bytes and number determine each other, and what one byte changes. From the laws of digits, the list the other way round.
-use Prim.Native.Nat.{ℕ, zero, suc, ◌+◌, ◌-◌, ◌*◌, ◌/◌, ◌%◌, ◌^◌, ◌<◌}
+use Prim.Native.Nat.{ℕ, zero, suc, ◌+◌, ◌-◌, ◌*◌, ◌^◌, ◌<◌}
 use mathlib.Core.Path.{◌≡◌, sym, ap, ap₂, ◌∙◌}
 use mathlib.Core.List.{List, [], ◌∷◌, ◌++◌, reverse, reverse-reverse, reverse-cons}
-use native.Mathlib.Nat.{add-mul, mul_assoc, mul_comm, mul-zero, zero-mul, zero-add, add-zero, mul-one, div-add-mod'}
+use native.Mathlib.Nat.{add-mul, mul_assoc, mul-zero, mul-one}
 use native.Mathlib.Omega.{arith}
 use lib.ListN.{length, get_or, set, length-reverse, length-set}
 use Rattle.spec.specs.Bytes.{number, digits, big_endian, big_endian_bytes}

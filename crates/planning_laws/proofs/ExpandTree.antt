@@ -1,6 +1,6 @@
 -- The bytes of a tree that is expanded node after node: its length, and that a node's bytes never change once they stand. By induction on the nodes
 -- expanded; w bytes a node, the children of nodes below N being 2 w bytes.
-use Prim.Native.Nat.{ℕ, zero, suc, ◌+◌, ◌-◌, ◌*◌, ◌≤◌, ◌<◌}
+use Prim.Native.Nat.{ℕ, zero, suc, ◌+◌, ◌*◌, ◌≤◌, ◌<◌}
 use mathlib.Core.Path.{◌≡◌, refl, ap, ◌∙◌}
 use mathlib.Core.List.{List, ◌++◌}
 use native.Mathlib.Omega.{arith}

@@ -1,7 +1,7 @@
 -- The numbers of the calls by the numbers of their parts, and what holds where a number is 0: each by the laws of lists of tests. s is a resolved shape, n a row length in
 -- bits, ls the lengths, and k the number of the part that comes first.
 use Prim.Native.Nat.{ℕ, ◌+◌, ◌*◌, ◌/◌, ◌≤◌}
-use mathlib.Core.Path.{◌≡◌, refl, sym, ap, ◌∙◌}
+use mathlib.Core.Path.{◌≡◌, refl, sym, ◌∙◌}
 use mathlib.Core.Bool.{Bool, true, false, cond}
 use mathlib.Core.List.{List, [], ◌∷◌, ◌++◌}
 use native.Mathlib.Omega.{arith}

@@ -1,5 +1,5 @@
 -- Document 02's E4, computed: numbers in four bytes, what becomes of the count slice with each answer, and in which turn its length is compared.
-use Prim.Native.Nat.{ℕ, ◌*◌}
+use Prim.Native.Nat.{ℕ}
 use mathlib.Core.Path.{◌≡◌, refl}
 use mathlib.Core.List.{List, [], ◌∷◌}
 use lib.ListN.{replicate}

@@ -16,7 +16,6 @@ use Rattle.spec.specs.Leaves.{node_at, leaf_key, stretched, leaf_seed}
 use Rattle.spec.specs.Rows.{row_byte, stretch_byte, u_byte}
 use Rattle.spec.specs.Signer.{signer_u, correction, corrections, leaf_commitment_at, opening_of}
 use Rattle.spec.specs.Calls.{written, nodes_ok, plan_lengths, plan_number, open_lengths}
-use Rattle.spec.proofs.StandIns.{stand_in}
 use Rattle.spec.proofs.WorkedExample.{shape, whole, rows, challenge, signer-tree, signer-leaf-commitments}
 
 -- two lists that differ at place i are not equal

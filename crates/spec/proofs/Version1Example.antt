@@ -8,7 +8,7 @@ use Rattle.spec.specs.declared.Shape.{Shape}
 use Rattle.spec.specs.Bytes.{tabulate, concat, zeros, xor_below, number, digits, big_endian, big_endian_bytes, index_of}
 use Rattle.spec.specs.Tree.{parent, is_ancestor_within, is_ancestor, some, covered, expand_tree}
 use Rattle.spec.specs.Challenge.{bit_at, bits_at, index_at}
-use Rattle.spec.specs.Shapes.{level, node_bytes, deeper, depth_of, entries_of, first_bit, first_entry, leaves, hidden_index}
+use Rattle.spec.specs.Shapes.{level, node_bytes, deeper, depth_of, entries_of, first_bit, first_entry, hidden_index}
 use Rattle.spec.specs.Primitives.{prg}
 use Rattle.spec.specs.Leaves.{node_at, vector_commitments, leaf_commitments, vector_hash, commitment_of}
 use Rattle.spec.specs.Rows.{u_byte, column_byte, matrix_of}

@@ -1,6 +1,6 @@
 -- FIPS 202, sections 4, 5.1 and 6.2: the sponge on byte strings, and SHAKE. r is the rate in bytes; bit j of byte i is bit 8 i + j of the standard's
 -- string (appendix B.1).
-use Rattle.std.specs.Prelude.{ℕ, zero, suc, ◌+◌, ◌-◌, ◌*◌, ◌/◌, ◌%◌, ◌^◌, List, [], ◌∷◌, ◌++◌, length, get_or}
+use Rattle.std.specs.Prelude.{ℕ, zero, suc, ◌-◌, ◌*◌, ◌/◌, ◌%◌, ◌^◌, List, [], ◌∷◌, ◌++◌, length, get_or}
 use Rattle.std.specs.Int.Bits.{bit_xor}
 use Rattle.spec.specs.Bytes.{part, tabulate, zeros, xor_bytes, number}
 use Rattle.spec.specs.Keccak.{keccak_f}

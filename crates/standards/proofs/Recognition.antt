@@ -1,6 +1,6 @@
 -- The statements of ../specs/Recognition.antt. The inverse by one test over 256 bytes; the product by the laws of remainders; the sponge's blocks byte by
 -- byte, byte i standing in block i / r; the count by the law of covered nodes.
-use Prim.Native.Nat.{ℕ, zero, suc, ◌+◌, ◌-◌, ◌*◌, ◌/◌, ◌%◌, ◌^◌, ◌≤◌, ◌<◌}
+use Prim.Native.Nat.{ℕ, zero, suc, ◌+◌, ◌*◌, ◌/◌, ◌%◌, ◌^◌, ◌≤◌, ◌<◌}
 use mathlib.Core.Path.{◌≡◌, refl, sym, ap, ◌∙◌}
 use mathlib.Core.Bool.{Bool, cond}
 use mathlib.Core.List.{List, ◌++◌, append-nil, append_assoc}

@@ -16,8 +16,7 @@ use Rattle.spec.specs.Tree.{covered, sibling_to_reveal, revealed_from, revealed,
 use Rattle.spec.specs.Shapes.{resolved, leaves, hidden_index, hidden_indices, hidden_leaves, planned, planned_count}
 use Rattle.spec.specs.Primitives.{Primitives}
 use Rattle.spec.specs.Calls.{written, count_with, decode_number, Decode, plan_number, Plan, Committed, commit_number, commit_stretch_number, Commit, CommitStretch, Open, Reconstructed, reconstruct_number, reconstruct_stretch_number, Reconstruct, ReconstructStretch}
-use Rattle.spec.specs.Version1Calls.{row1_number, open1_number, Commit1, Open1, Reconstruct1}
-use Rattle.spec.specs.Version1HostCalls.{HostCommit1, HostOpen1, HostReconstruct1}
+use Rattle.spec.specs.Version1Calls.{row1_number, open1_number}
 use Rattle.spec.specs.HostCalls.{word_bytes, count_slice, HostDecode, HostPlan, HostCommit, HostCommitStretch, HostOpen, HostReconstruct, HostReconstructStretch}
 use Rattle.laws.proofs.Lists.{length-tabulate, get_or-tabulate}
 use Rattle.laws.proofs.Digits.{digits_number, number_digits}

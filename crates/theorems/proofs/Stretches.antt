@@ -11,7 +11,7 @@ use lib.Bits.{bit_xor}
 use lib.ListN.{length, get_or}
 use Rattle.spec.specs.declared.Shape.{Shape}
 use Rattle.spec.specs.declared.Stretch.{Stretch}
-use Rattle.spec.specs.Bytes.{bit, part, tabulate, concat, zeros, xor_below}
+use Rattle.spec.specs.Bytes.{bit, part, tabulate, concat}
 use Rattle.spec.specs.Challenge.{bit_at}
 use Rattle.spec.specs.Shapes.{resolved, shape_ok, level, depth_of, entries_of, first_bit, hidden_index, grinding_ok}
 use Rattle.spec.specs.Primitives.{Primitives}

@@ -17,9 +17,9 @@ use Rattle.spec.specs.Hashes.{hash0}
 use Rattle.spec.specs.Primitives.{Primitives, faest}
 use Rattle.spec.specs.Leaves.{node_at, leaf_commitments}
 use Rattle.spec.specs.Signer.{corrections}
-use Rattle.spec.specs.Calls.{first_refusal, fits, written, row_ok, Committed, Reconstructed}
+use Rattle.spec.specs.Calls.{first_refusal, fits, row_ok, Committed, Reconstructed}
 use Rattle.spec.specs.Version1.{shape1_ok, faest1, signer_trees, first_node, signer_leaf_commitment1, row1_byte, siblings, leaf_commitment_at1, decommitment, opening1_of, reconstructed_trees, trees1_bytes, leaf_commitments1_bytes, opening1_bytes}
-use Rattle.spec.specs.Version1Calls.{row1_number, open1_number, committed1, commit1_lengths, Commit1, open1_lengths, Open1, reconstructed1, reconstruct1_lengths, Reconstruct1}
+use Rattle.spec.specs.Version1Calls.{row1_number, open1_number, committed1, commit1_lengths, open1_lengths, Open1, reconstructed1, reconstruct1_lengths, Reconstruct1}
 use Rattle.laws.specs.Lengths.{Sized}
 use Rattle.laws.proofs.Lists.{length-tabulate}
 use Rattle.laws.proofs.Concat.{concat-same}

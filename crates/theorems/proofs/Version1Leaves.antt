@@ -1,7 +1,7 @@
 -- The leaf commitments and the rows of version 1, as the checking half has them: those of the signing half, but for the rows of the hidden entries.
-use Prim.Native.Nat.{ℕ, suc, ◌+◌, ◌-◌, ◌*◌, ◌≤◌, ◌<◌}
-use mathlib.Core.Path.{◌≡◌, refl, sym, ap, ◌∙◌}
-use mathlib.Core.Bool.{Bool, true, false, cond, ◌||◌, or-false}
+use Prim.Native.Nat.{ℕ, suc, ◌+◌, ◌-◌, ◌*◌, ◌<◌}
+use mathlib.Core.Path.{◌≡◌, sym, ap, ◌∙◌}
+use mathlib.Core.Bool.{Bool, false, cond, ◌||◌}
 use mathlib.Core.List.{List, [], ◌∷◌, ◌++◌}
 use native.Mathlib.Nat.{mul-add, mul-zero}
 use native.Mathlib.Decide.{ℕ_discrete}
@@ -14,8 +14,8 @@ use Rattle.spec.specs.Bytes.{part, concat}
 use Rattle.spec.specs.Tree.{some}
 use Rattle.spec.specs.Shapes.{node_bytes, entries_of, first_entry, leaves, hidden_index}
 use Rattle.spec.specs.Primitives.{Primitives}
-use Rattle.spec.specs.Leaves.{node_at, vector_commitments, leaf_commitments, vector_hash, commitment_of}
-use Rattle.spec.specs.Version1.{signer_trees, first_node, leaf_in, leaf_key1, leaf_commitment_bytes1, hashed_leaf, leaf_seed1, leaf_commitment1, signer_leaf_commitment1, row1_byte, leaf_commitment_at1, opening1_of, hidden_leaf_commitment1, on_path, reconstructed_trees, verifier_leaf_commitment1, leaf_commitments1_bytes}
+use Rattle.spec.specs.Leaves.{vector_commitments, leaf_commitments, vector_hash, commitment_of}
+use Rattle.spec.specs.Version1.{signer_trees, leaf_in, leaf_key1, leaf_commitment_bytes1, hashed_leaf, leaf_seed1, leaf_commitment1, signer_leaf_commitment1, row1_byte, leaf_commitment_at1, opening1_of, hidden_leaf_commitment1, on_path, reconstructed_trees, verifier_leaf_commitment1, leaf_commitments1_bytes}
 use Rattle.laws.proofs.Concat.{laid-length, laid-part, even-length, even-part, concat-same, mul-within}
 use Rattle.planning_laws.proofs.Covered.{covered-leaf}
 use Rattle.planning_laws.proofs.Depths.{entry-none, entry_next, entry-all}

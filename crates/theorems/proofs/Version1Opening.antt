@@ -1,15 +1,15 @@
 -- The parts of an opening of version 1, made of trees and leaf commitments as lent: its length, its siblings, its hidden leaf commitments. By the laws of strings laid one after another.
 use Prim.Native.Nat.{ℕ, suc, ◌+◌, ◌-◌, ◌*◌, ◌/◌, ◌^◌, ◌≤◌, ◌<◌}
 use mathlib.Core.Path.{◌≡◌, ap, ◌∙◌, subst}
-use mathlib.Core.List.{List, ◌++◌}
+use mathlib.Core.List.{List}
 use native.Mathlib.Nat.{mul-add, mul-zero, mul-le-mul, le_refl, two-pow-succ}
 use native.Mathlib.Numerals.{add-one}
 use native.Mathlib.Omega.{arith}
-use lib.Bits.{bit_xor, xor_lt}
+use lib.Bits.{xor_lt}
 use lib.Pow.{pow_pos, pow-add, shr_lt}
 use lib.ListN.{length, get_or, length-append}
 use Rattle.spec.specs.declared.Shape.{Shape}
-use Rattle.spec.specs.Bytes.{part, tabulate, concat}
+use Rattle.spec.specs.Bytes.{concat}
 use Rattle.spec.specs.Shapes.{level, node_bytes, depth_of, entries_of, first_bit, first_entry, leaves, hidden_index}
 use Rattle.spec.specs.Leaves.{node_at}
 use Rattle.spec.specs.Version1.{first_node, leaf_commitment_bytes1, sibling_at, siblings, leaf_commitment_at1, decommitment, opening1_of, decommitment_from, slot1, hidden_leaf_commitment1, trees1_bytes, leaf_commitments1_bytes, opening1_bytes}

@@ -1,25 +1,24 @@
 -- The trees that the checking half of version 1 makes again of an opening: those of the signing half but for the nodes on the way to the hidden leaf of each vector, which are zeros. Each tree by `TreeAgain`; what it
 -- asks for by the laws of the way to one leaf.
 use Prim.Native.Nat.{ℕ, zero, suc, ◌+◌, ◌-◌, ◌*◌, ◌/◌, ◌^◌, ◌≤◌, ◌<◌}
-use mathlib.Core.Path.{◌≡◌, refl, sym, ap, ap₂, ◌∙◌, subst}
+use mathlib.Core.Path.{◌≡◌, sym, ap, ap₂, ◌∙◌}
 use mathlib.Core.Bool.{Bool, true, false, ◌||◌, or-true, or-false}
-use mathlib.Core.List.{List, [], ◌∷◌, ◌++◌}
+use mathlib.Core.List.{List, [], ◌∷◌}
 use native.Mathlib.Nat.{two-pow-succ}
 use native.Mathlib.Numerals.{add-one}
 use native.Mathlib.Omega.{arith}
 use lib.Bits.{bit_xor}
 use lib.Pow.{pow_pos, pow_mono}
-use lib.ListN.{length, get_or}
+use lib.ListN.{length}
 use Rattle.spec.specs.declared.Shape.{Shape}
-use Rattle.spec.specs.Bytes.{part, tabulate, concat, zeros, index_of}
-use Rattle.spec.specs.Tree.{is_ancestor, some, covered, expand_tree}
+use Rattle.spec.specs.Bytes.{part, tabulate, zeros, index_of}
+use Rattle.spec.specs.Tree.{is_ancestor, some, covered}
 use Rattle.spec.specs.Shapes.{node_bytes, depth_of, entries_of, hidden_index}
 use Rattle.spec.specs.Primitives.{Primitives, prg}
 use Rattle.spec.specs.Leaves.{node_at}
 use Rattle.spec.specs.Version1.{prg1, vector_root, children1, vector_tree, signer_trees, first_node, leaf_in, sibling_at, siblings, opening1_of, slot1, on_path, given_node1, reconstructed_children1, reconstructed_vector_tree, reconstructed_trees, trees1_bytes, leaf_commitments1_bytes}
 use Rattle.laws.proofs.Lists.{length-tabulate, length_part, length-zeros, get_or-tabulate}
 use Rattle.laws.proofs.Concat.{mul-within}
-use Rattle.planning_laws.specs.Lists.{Leaves}
 use Rattle.planning_laws.proofs.Covered.{covered-inner, root-covered}
 use Rattle.planning_laws.proofs.ExpandTree.{expand-length}
 use Rattle.planning_laws.proofs.HiddenLeaves.{hidden-index-lt}

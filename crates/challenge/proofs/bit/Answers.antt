@@ -1,6 +1,5 @@
 -- The code reads the byte and the bit as the definition does.
 use mathlib.Core.Path.{refl}
-use borrow.Author.Rules.{rules}
 use Rattle.spec.specs.Challenge.{bit_at}
 use Rattle.challenge.proofs.bit.Goals as goal
 

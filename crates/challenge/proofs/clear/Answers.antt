@@ -1,7 +1,5 @@
-use Prim.Native.Nat.{◌+◌, ◌-◌, ◌≤◌}
-use mathlib.Core.Path.{◌≡◌, sym, ◌∙◌}
+use mathlib.Core.Path.{sym, ◌∙◌}
 use native.Mathlib.Omega.{arith}
-use Rattle.spec.specs.Challenge.{clear_at}
 use Rattle.planning_laws.proofs.Bits.{clear-start, clear-hit, clear-miss, clear_none}
 use Rattle.challenge.proofs.clear.Goals as goal
 

@@ -1,9 +1,7 @@
 -- While each bit passed is 0, those from j on decide.
 use Prim.Native.Nat.{◌+◌, ◌-◌, ◌≤◌}
-use mathlib.Core.Path.{◌≡◌, sym, ◌∙◌}
-use native.Mathlib.Omega.{arith}
+use mathlib.Core.Path.{◌≡◌}
 use Rattle.spec.specs.Challenge.{clear_at}
-use Rattle.planning_laws.proofs.Bits.{clear-start, clear-hit, clear-miss, clear_none}
 use Rattle.challenge.proofs.clear.Given as goal
 
 abbrev pub invariant-loop-j : goal.invariant-loop-j

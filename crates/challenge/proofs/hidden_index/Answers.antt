@@ -3,7 +3,6 @@ use Prim.Native.Nat.{◌<◌}
 use mathlib.Core.Path.{ap₂, ◌∙◌}
 use native.Mathlib.Omega.{arith}
 use native.Mathlib.Nat.{lt_of_lt_of_le}
-use borrow.Author.Rules.{rules}
 use Rattle.spec.specs.Challenge.{index_at}
 use Rattle.spec.specs.Shapes.{entries_of, hidden_index}
 use Rattle.planning_laws.proofs.ShapeFacts.{shape-facts, widths, vector-bits, entries-small}

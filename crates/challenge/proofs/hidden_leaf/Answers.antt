@@ -1,6 +1,5 @@
 -- The leaf of the hidden index.
 use mathlib.Core.Path.{ap, ◌∙◌}
-use borrow.Author.Rules.{rules}
 use Rattle.spec.specs.Shapes.{leaf_of, hidden_leaf}
 use Rattle.challenge.proofs.hidden_leaf.Goals as goal
 

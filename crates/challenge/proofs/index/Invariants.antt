@@ -1,9 +1,7 @@
 -- From the last bit down, v is the index that the bits from j on make.
-use Prim.Native.Nat.{◌+◌, ◌-◌, ◌≤◌, ◌<◌}
-use mathlib.Core.Path.{◌≡◌, ◌∙◌}
-use native.Mathlib.Omega.{arith}
+use Prim.Native.Nat.{◌+◌, ◌-◌, ◌≤◌}
+use mathlib.Core.Path.{◌≡◌}
 use Rattle.spec.specs.Challenge.{index_at}
-use Rattle.planning_laws.proofs.Bits.{bit-lt, index-none, index-lt, index-small, index-step, index-all}
 use Rattle.challenge.proofs.index.Given as goal
 
 abbrev pub invariant-loop-j : goal.invariant-loop-j

@@ -1,8 +1,6 @@
-use Prim.Native.Nat.{◌-◌, ◌≤◌}
 use mathlib.Core.Path.{ap, ◌∙◌}
 use native.Mathlib.Omega.{arith}
 use lib.ListN.{length}
-use Rattle.laws.specs.Front.{Front}
 use Rattle.laws.proofs.Front.{front-none, front-set, front-all}
 use Rattle.spec.specs.Bytes.{tabulate}
 use Rattle.spec.specs.Shapes.{hidden_index, hidden_indices}
@@ -44,8 +42,7 @@ shape_of-out c = c.loop-i.invariant.1.size
 pub returns : goal.returns
 unfolding hidden_indices
 returns c =
-    let st = c in
     let l = c.loop-i in
     let f = l.invariant.1.size in
-    front-all (hidden_index st.args.s st.args.ch.now) (length st.args.out.now) l.i l.out (omega arith) l.invariant.1
-    ∙ ap (λ (n : _). tabulate n (hidden_index st.args.s st.args.ch.now)) st.requires.2
+    front-all (hidden_index c.args.s c.args.ch.now) (length c.args.out.now) l.i l.out (omega arith) l.invariant.1
+    ∙ ap (λ (n : _). tabulate n (hidden_index c.args.s c.args.ch.now)) c.requires.2

@@ -1,12 +1,8 @@
 -- The first i numbers are the hidden indices of the first i vectors.
 use Prim.Native.Nat.{◌-◌, ◌≤◌}
-use mathlib.Core.Path.{ap, ◌∙◌}
-use native.Mathlib.Omega.{arith}
 use lib.ListN.{length}
 use Rattle.laws.specs.Front.{Front}
-use Rattle.laws.proofs.Front.{front-none, front-set, front-all}
-use Rattle.spec.specs.Bytes.{tabulate}
-use Rattle.spec.specs.Shapes.{hidden_index, hidden_indices}
+use Rattle.spec.specs.Shapes.{hidden_index}
 use Rattle.challenge.proofs.write_indices.Given as goal
 
 abbrev pub invariant-loop-i : goal.invariant-loop-i

@@ -38,8 +38,7 @@ loop-j-smaller c = omega arith
 
 pub loop-j-preserved : goal.loop-j-preserved
 loop-j-preserved c =
-    let start = c in
-    let g = start.args in
+    let g = c.args in
     let l = c.loop-j in
     let d = bit l.j g.number in
     let bytes = g.bytes.now in
@@ -49,7 +48,7 @@ loop-j-preserved c =
       omega arith,
       done_more g.b l.j (added g.number bytes) f g.cols.now l.cols new
           (λ p hp. ap (λ (n : ℕ). d * get_or bytes n 0) (behind-start at p)) l.invariant.1
-          (subst (λ (n : ℕ). Xored at (at + n) f l.cols new) start.requires.1 c.xor_bytes.ensures),
+          (subst (λ (n : ℕ). Xored at (at + n) f l.cols new) c.requires.1 c.xor_bytes.ensures),
     )
 
 pub shape_of-cols : goal.shape_of-cols

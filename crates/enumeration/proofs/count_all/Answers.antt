@@ -11,7 +11,7 @@ pub loop-x-init : goal.loop-x-init
 loop-x-init c = (omega arith, c.line_count-all.ensures.2, search rules, counted_none _)
 
 pub count_of-count-requires : goal.count_of-count-requires
-count_of-count-requires c = (let st = c in (st.requires.0, level-128 st.args.s st.requires.0 st.requires.1))
+count_of-count-requires c = ((c.requires.0, level-128 c.args.s c.requires.0 c.requires.1))
 
 pub overflow_add-within : goal.overflow_add-within
 overflow_add-within c = omega (arith, c.loop-x.invariant.3.few, c.one_within-within.ensures.1)
@@ -28,14 +28,13 @@ loop-x-smaller c = omega arith
 pub loop-x-preserved : goal.loop-x-preserved
 loop-x-preserved c =
     let l = c.loop-x in
-    let st = c in
-    let s = st.args.s in
+    let s = c.args.s in
     let n = c.count_of-count.ensures in (
       omega arith,
       l.invariant.1,
       l.invariant.2,
       counted-more s l.x l.within l.total c.count_of-count.result c.one_within-within.result l.invariant.3
-          (n.0 ∙ ap (planned_count s) (c.challenge_at.ensures s (level-128 s st.requires.0 st.requires.1))) n.1 c.one_within-within.ensures.0 c.one_within-within.ensures.1,
+          (n.0 ∙ ap (planned_count s) (c.challenge_at.ensures s (level-128 s c.requires.0 c.requires.1))) n.1 c.one_within-within.ensures.0 c.one_within-within.ensures.1,
     )
 
 pub returns : goal.returns

@@ -12,10 +12,9 @@ unfolding challenge_bytes
 width s e = ap (λ (n : ℕ). n / 8) e
 
 pub revealed_nodes-requires : goal.revealed_nodes-requires
-revealed_nodes-requires c = (let st = c in rw (width st.args.s st.requires.1) (search rules))
+revealed_nodes-requires c = (rw (width c.args.s c.requires.1) (search rules))
 
 pub returns : goal.returns
 returns c =
     let r = c.revealed_nodes in
-    let st = c in
-    (r.ensures.0, rw r.ensures.0 (count-lt st.args.s _ st.requires.0))
+    (r.ensures.0, rw r.ensures.0 (count-lt c.args.s _ c.requires.0))

@@ -11,17 +11,16 @@ use Rattle.enumeration.proofs.line_count.Goals as goal
 
 pub overflow_sub-result : goal.overflow_sub-result
 unfolding level
-overflow_sub-result c = (let st = c in omega (arith, level-128 st.args.s st.requires.0 st.requires.1, (shape-facts st.args.s st.requires.0).w-max))
+overflow_sub-result c = (omega (arith, level-128 c.args.s c.requires.0 c.requires.1, (shape-facts c.args.s c.requires.0).w-max))
 
 pub overflow_shl-result : goal.overflow_shl-result
-overflow_shl-result c = (let st = c in omega (arith, st.requires.1, open_is st.args.s))
+overflow_shl-result c = (omega (arith, c.requires.1, open_is c.args.s))
 
 pub returns : goal.returns
 returns c =
-    let st = c in
-    let s = st.args.s in
+    let s = c.args.s in
     let d = s.level - s.w in
-    let l : d ≤ 16 = omega (arith, st.requires.1, open_is s) in
+    let l : d ≤ 16 = omega (arith, c.requires.1, open_is s) in
     let m : 2 ^ d ≤ 65536 = pow_mono l in
     let p = pow_pos d in
     let o = one-mul (2 ^ d) in

@@ -16,5 +16,4 @@ line_pieces-requires c = c.requires.shape c.if-r-ne0.false
 pub returns : goal.returns
 unfolding piece_count
 returns c =
-    let e = c in
-    rw (eq-eqb e.args.r.number 0 e.if-r-ne0.false) (ap (λ (n : ℕ). n + 1) c.line_pieces.ensures.0)
+    rw (eq-eqb c.args.r.number 0 c.if-r-ne0.false) (ap (λ (n : ℕ). n + 1) c.line_pieces.ensures.0)

@@ -19,8 +19,7 @@ overflow_add-from c = omega (arith, c.requires.2)
 
 pub put_line-end-requires : goal.put_line-end-requires
 put_line-end-requires c =
-    let st = c in
-    (st.requires.0, st.requires.1, omega (arith, st.requires.3))
+    (c.requires.0, c.requires.1, omega (arith, c.requires.3))
 
 pub overflow_add-i : goal.overflow_add-i
 overflow_add-i c = omega arith

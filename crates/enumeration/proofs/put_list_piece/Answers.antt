@@ -10,24 +10,18 @@ use Rattle.enumeration.proofs.put_list_piece.Goals as goal
 
 pub put_lines-requires : goal.put_lines-requires
 put_lines-requires c =
-    let st = c in
-    (search rules, level-128 st.args.s st.requires.0 st.requires.1, search rules, search rules)
+    (search rules, level-128 c.args.s c.requires.0 c.requires.1, search rules, search rules)
 
 pub returns-then-i-line_pieces : goal.returns-then-i-line_pieces
 returns-then-i-line_pieces c =
-    let p = c in
-    let m = p in
-    let t = m in
-    let a = t.args in
-    let h : a.i < line_pieces a.s = rw t.line_pieces.ensures.0 at t.if-i-line_pieces.true in
-    let n : m.min-n.result ≡ min 1024 (2 ^ open_bits a.s - 1024 * a.i) =
-    m.min-n.ensures ∙ ap (λ (k : ℕ). min 1024 (k - 1024 * a.i)) m.line_count.ensures.0 in
-    rw (lt-ltb a.i (line_pieces a.s) h, ← n) p.put_lines.ensures
+    let a = c.args in
+    let h : a.i < line_pieces a.s = rw c.line_pieces.ensures.0 at c.if-i-line_pieces.true in
+    let n : c.min-n.result ≡ min 1024 (2 ^ open_bits a.s - 1024 * a.i) =
+    c.min-n.ensures ∙ ap (λ (k : ℕ). min 1024 (k - 1024 * a.i)) c.line_count.ensures.0 in
+    rw (lt-ltb a.i (line_pieces a.s) h, ← n) c.put_lines.ensures
 
 pub returns : goal.returns
 returns c =
-    let p = c in
-    let e = p in
-    let a = e.args in
-    let h : line_pieces a.s ≤ a.i = rw e.line_pieces.ensures.0 at e.if-i-line_pieces.false in
-    rw (le-ltb a.i (line_pieces a.s) h) p.put_totals.ensures
+    let a = c.args in
+    let h : line_pieces a.s ≤ a.i = rw c.line_pieces.ensures.0 at c.if-i-line_pieces.false in
+    rw (le-ltb a.i (line_pieces a.s) h) c.put_totals.ensures

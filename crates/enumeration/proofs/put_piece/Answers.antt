@@ -8,20 +8,14 @@ use Rattle.enumeration.proofs.put_piece.Goals as goal
 pub returns-then-r-ne0 : goal.returns-then-r-ne0
 unfolding piece_text
 returns-then-r-ne0 c =
-    let p = c in
-    let t = p in
-    rw (ne_eqb t.args.r.number 0 t.if-r-ne0.true) (put_front p.put_refused.ensures)
+    rw (ne_eqb c.args.r.number 0 c.if-r-ne0.true) (put_front c.put_refused.ensures)
 
 pub put_list_piece-requires : goal.put_list_piece-requires
 put_list_piece-requires c =
-    let e = c in
-    let st = e in
-    let q = st.requires.0.shape e.if-r-ne0.false in
-    (q.0, q.1, st.requires.1)
+    let q = c.requires.0.shape c.if-r-ne0.false in
+    (q.0, q.1, c.requires.1)
 
 pub returns : goal.returns
 unfolding piece_text
 returns c =
-    let p = c in
-    let e = p in
-    rw (eq-eqb e.args.r.number 0 e.if-r-ne0.false) (put_front p.put_list_piece.ensures)
+    rw (eq-eqb c.args.r.number 0 c.if-r-ne0.false) (put_front c.put_list_piece.ensures)

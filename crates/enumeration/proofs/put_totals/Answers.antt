@@ -12,6 +12,5 @@ put_same {t} {u} {before} {after} {at} {r} e p = subst (λ (text : List ℕ). Pu
 
 pub returns : goal.returns
 returns c =
-    let p = c in
-    let n = p.count_all-t.ensures in
-    put_same (ap₂ pair_text n.0 n.1) p.put_pair.ensures.0
+    let n = c.count_all-t.ensures in
+    put_same (ap₂ pair_text n.0 n.1) c.put_pair.ensures.0

@@ -20,13 +20,12 @@ shape_of-requires c = shape-line-numbers _ (passed c.shape_line_ok.ensures c.if-
 
 pub returns : goal.returns
 returns c =
-    let e = c in
-    let input = e.args.input.now in
+    let input = c.args.input.now in
     let shape = c.resolve-s.ensures ∙ ap resolved c.shape_of.ensures in
     let number = c.shape_number-number.ensures in (
       readable _ number,
       record {
-        number = number ∙ ap shape_number shape ∙ sym (read_number input (passed e.shape_line_ok.ensures e.if-not-shape_line_ok.false));
+        number = number ∙ ap shape_number shape ∙ sym (read_number input (passed c.shape_line_ok.ensures c.if-not-shape_line_ok.false));
         shape = λ z. shape;
       },
     )

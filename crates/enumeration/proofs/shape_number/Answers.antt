@@ -15,19 +15,16 @@ returns-then-not-is_shape c = rw (failed c.is_shape.ensures c.if-not-is_shape.tr
 
 pub overflow_sub-s : goal.overflow_sub-s
 overflow_sub-s c =
-    let e = c in
-    let s = e.args.s in
-    let f = shape-facts s (passed e.is_shape.ensures e.if-not-is_shape.false) in
+    let s = c.args.s in
+    let f = shape-facts s (passed c.is_shape.ensures c.if-not-is_shape.false) in
     omega (arith, f.w-max, by_level (λ n. 128 ≤ n) (omega arith) (omega arith) (omega arith) s.level f.level-is)
 
 pub returns-then-s-gt16 : goal.returns-then-s-gt16
 returns-then-s-gt16 c =
-    let e = c in
-    let s = e.args.s in
-    rw (passed e.is_shape.ensures e.if-not-is_shape.false, lt-leb (open_bits s) 16 (omega (arith, open_is s, c.if-s-gt16.true))) refl
+    let s = c.args.s in
+    rw (passed c.is_shape.ensures c.if-not-is_shape.false, lt-leb (open_bits s) 16 (omega (arith, open_is s, c.if-s-gt16.true))) refl
 
 pub returns : goal.returns
 returns c =
-    let e = c in
-    let s = e.args.s in
-    rw (passed e.is_shape.ensures e.if-not-is_shape.false, le-leb (open_bits s) 16 (omega (arith, open_is s, c.if-s-gt16.false))) refl
+    let s = c.args.s in
+    rw (passed c.is_shape.ensures c.if-not-is_shape.false, le-leb (open_bits s) 16 (omega (arith, open_is s, c.if-s-gt16.false))) refl

@@ -5,6 +5,4 @@ use Rattle.enumeration_text.proofs.put_hex_byte.Goals as goal
 
 pub returns : goal.returns
 returns c =
-    let first = c in
-    let second = c in
-    rw (second.hex_digit-2.ensures, first.hex_digit.ensures) at (put_next first.put_byte-end.ensures second.put_byte.ensures)
+    rw (c.hex_digit-2.ensures, c.hex_digit.ensures) at (put_next c.put_byte-end.ensures c.put_byte.ensures)

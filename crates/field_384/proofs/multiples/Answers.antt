@@ -26,9 +26,8 @@ loop-d-init c =
 pub loop-d-preserved : goal.loop-d-preserved
 loop-d-preserved c =
     let l = c.loop-d in
-    let e = c in
     let shifted = c.times_alpha in
-    entries_next 384 p384 (lit≤ tt) (lit< tt) (number 8 e.args.key.now) l.t l.d shifted.result c.padded-in-loop-d.result (key-lt c.args.key.now c.requires (search rules)) (omega arith)
+    entries_next 384 p384 (lit≤ tt) (lit< tt) (number 8 c.args.key.now) l.t l.d shifted.result c.padded-in-loop-d.result (key-lt c.args.key.now c.requires (search rules)) (omega arith)
     (λ h. shifted.ensures ∙ ap (λ (x : ℕ). remainder 384 p384 1 (x * 2 ^ 1)) (c.limbs.ensures h))
     (λ h. c.padded-in-loop-d.ensures ∙ c.xor.ensures ∙ ap (bit_xor (number 64 shifted.result)) (c.limbs-in-loop-d.ensures h)) l.invariant
 

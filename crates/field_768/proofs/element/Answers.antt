@@ -15,8 +15,7 @@ loop-p-init c = (omega arith, refl, digits-zeros 64 12, refl)
 pub loop-p-preserved : goal.loop-p-preserved
 loop-p-preserved c =
     let l = c.loop-p in
-    let e = c in
-    joined-next 12 e.args.s.now l.r l.p c.wide.result e.requires (λ k. (c.shared_slice_known-in-loop-p-1.given k).fits) (omega arith) c.wide.ensures.0 l.invariant
+    joined-next 12 c.args.s.now l.r l.p c.wide.result c.requires (λ k. (c.shared_slice_known-in-loop-p-1.given k).fits) (omega arith) c.wide.ensures.0 l.invariant
 
 pub returns : goal.returns
 returns c = rw (take_all c.loop-p.p c.args.s.now (omega arith)) at c.loop-p.invariant.3

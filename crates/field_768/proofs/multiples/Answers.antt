@@ -24,8 +24,7 @@ loop-d-init c =
 pub loop-d-preserved : goal.loop-d-preserved
 loop-d-preserved c =
     let l = c.loop-d in
-    let e = c in
-    entries_next 768 p768 (lit≤ tt) (lit< tt) (number 8 e.args.key.now) l.t l.d c.times_alpha.result c.xor.result (key-lt c.args.key.now c.requires (search rules)) (omega arith)
+    entries_next 768 p768 (lit≤ tt) (lit< tt) (number 8 c.args.key.now) l.t l.d c.times_alpha.result c.xor.result (key-lt c.args.key.now c.requires (search rules)) (omega arith)
     (λ h. c.times_alpha.ensures) (λ h. c.xor.ensures) l.invariant
 
 pub returns : goal.returns

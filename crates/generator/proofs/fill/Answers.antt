@@ -5,9 +5,8 @@ use Rattle.generator.proofs.fill.Goals as goal
 
 pub fill_keyed-requires : goal.fill_keyed-requires
 fill_keyed-requires c =
-    let start = c in
-    let p = start.requires.in_bounds in
-    record { sbox_table = start.requires.sbox_table; le_rounds = (omega arith, omega arith, omega arith, p.3) }
+    let p = c.requires.in_bounds in
+    record { sbox_table = c.requires.sbox_table; le_rounds = (omega arith, omega arith, omega arith, p.3) }
 
 pub returns : goal.returns
 returns c = λ nk e.

@@ -8,8 +8,7 @@ use Rattle.generator.proofs.load_iv.Goals as goal
 pub returns : goal.returns
 unfolding tabulate
 returns c =
-    let start = c in
-    let s = start.args.s.now in
+    let s = c.args.s.now in
     c.bytes_of.ensures
     ∙ ap bytes_of c.load_state.ensures
-    ∙ sym (is-tabulate 16 (λ i. get_or s i 0) 0 s start.requires (λ i h. refl))
+    ∙ sym (is-tabulate 16 (λ i. get_or s i 0) 0 s c.requires (λ i h. refl))

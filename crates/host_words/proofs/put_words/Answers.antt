@@ -49,12 +49,11 @@ loop-i-smaller c = omega arith
 
 pub loop-i-preserved : goal.loop-i-preserved
 loop-i-preserved c =
-    let st = c in
     let l = c.loop-i in
     let next =
-    words-next st.args.words.now st.args.out.now l.i l.out c.put_word.new.out (4 * l.i + 4 - 4 * l.i) (omega arith) (omega arith) l.invariant.2
+    words-next c.args.words.now c.args.out.now l.i l.out c.put_word.new.out (4 * l.i + 4 - 4 * l.i) (omega arith) (omega arith) l.invariant.2
     c.put_word.ensures in
-    (omega arith, ap length next ∙ words-to-length st.args.words.now st.args.out.now (l.i + 1) (omega arith) st.requires, next)
+    (omega arith, ap length next ∙ words-to-length c.args.words.now c.args.out.now (l.i + 1) (omega arith) c.requires, next)
 
 pub shape_of-out : goal.shape_of-out
 shape_of-out c = c.loop-i.invariant.1

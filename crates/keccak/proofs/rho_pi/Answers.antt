@@ -10,20 +10,15 @@ use Rattle.keccak.proofs.rho_pi.Goals as goal
 pub returns : goal.returns
 unfolding tabulate zeros rotl walk_offsets rho_offsets rho pi
 returns c =
-    let c19 = c in
-    let c14 = c19 in
-    let c9 = c14 in
-    let c4 = c9 in
-    let c1 = c4 in
     λ k.
-    get_or c1.args.a 0 0 ∷ c4.rotate_left.ensures k ∷ c4.rotate_left-2.ensures k
-    ∷ c4.rotate_left-3.ensures k ∷ c4.rotate_left-4.ensures k
-    ∷ c9.rotate_left-5.ensures k ∷ c9.rotate_left-6.ensures k ∷ c9.rotate_left-7.ensures k
-    ∷ c9.rotate_left-8.ensures k ∷ c9.rotate_left-9.ensures k
-    ∷ c14.rotate_left-10.ensures k ∷ c14.rotate_left-11.ensures k ∷ c14.rotate_left-12.ensures k
-    ∷ c14.rotate_left-13.ensures k ∷ c14.rotate_left-14.ensures k
-    ∷ c19.rotate_left-15.ensures k ∷ c19.rotate_left-16.ensures k ∷ c19.rotate_left-17.ensures k
-    ∷ c19.rotate_left-18.ensures k ∷ c19.rotate_left-19.ensures k
+    get_or c.args.a 0 0 ∷ c.rotate_left.ensures k ∷ c.rotate_left-2.ensures k
+    ∷ c.rotate_left-3.ensures k ∷ c.rotate_left-4.ensures k
+    ∷ c.rotate_left-5.ensures k ∷ c.rotate_left-6.ensures k ∷ c.rotate_left-7.ensures k
+    ∷ c.rotate_left-8.ensures k ∷ c.rotate_left-9.ensures k
+    ∷ c.rotate_left-10.ensures k ∷ c.rotate_left-11.ensures k ∷ c.rotate_left-12.ensures k
+    ∷ c.rotate_left-13.ensures k ∷ c.rotate_left-14.ensures k
+    ∷ c.rotate_left-15.ensures k ∷ c.rotate_left-16.ensures k ∷ c.rotate_left-17.ensures k
+    ∷ c.rotate_left-18.ensures k ∷ c.rotate_left-19.ensures k
     ∷ c.rotate_left-20.ensures k ∷ c.rotate_left-21.ensures k ∷ c.rotate_left-22.ensures k
     ∷ c.rotate_left-23.ensures k ∷ c.rotate_left-24.ensures k
     ∷ []

@@ -8,11 +8,9 @@ h0-requires c = (let r = c.rate_bytes.ensures in (r.2, r.1))
 
 pub returns-then-is_ordinary : goal.returns-then-is_ordinary
 returns-then-is_ordinary c =
-    let start = c in
     let r = c.rate_bytes in
-    keys-made start.args.s start.args.iv.now _ r.result _ r.ensures.0 start.requires.1 c.h0.ensures
+    keys-made c.args.s c.args.iv.now _ r.result _ r.ensures.0 c.requires.1 c.h0.ensures
 
 pub returns-else-is_ordinary : goal.returns-else-is_ordinary
 returns-else-is_ordinary c =
-    let start = c in
-    keys_none start.args.s start.args.iv.now _ (sym c.is_ordinary.ensures ∙ c.if-is_ordinary.false) start.requires.1
+    keys_none c.args.s c.args.iv.now _ (sym c.is_ordinary.ensures ∙ c.if-is_ordinary.false) c.requires.1

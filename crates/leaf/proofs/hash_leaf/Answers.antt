@@ -7,9 +7,8 @@ use Rattle.leaf.proofs.hash_leaf.Goals as goal
 
 pub returns : goal.returns
 returns c =
-    let start = c in
-    let g = start.args in
-    let p = start.requires in
+    let g = c.args in
+    let p = c.requires in
     let n = c.node_bytes-n in
     let first = c.copy_part in
     let message = c.copy_part-2 in

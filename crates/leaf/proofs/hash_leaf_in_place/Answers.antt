@@ -9,10 +9,9 @@ use Rattle.leaf.proofs.hash_leaf_in_place.Goals as goal
 
 pub hash_leaf-requires : goal.hash_leaf-requires
 hash_leaf-requires c =
-    let start = c in
     let n = c.node_bytes-n in
     let l = c.commitment_bytes in
-    let p = start.requires in
+    let p = c.requires in
     let a = n.result + 16 in
     let b = n.result + l.result in (
       p.0,

@@ -30,21 +30,18 @@ key-end s w i n e h k =
 
 pub overflow_mul-w : goal.overflow_mul-w
 overflow_mul-w c =
-    let start = c in
-    let m = start_small start.args.s start.requires.0 c.commitment_bytes-w.result start.args.i c.commitment_bytes-w.ensures.1 start.requires.1 in
+    let m = start_small c.args.s c.requires.0 c.commitment_bytes-w.result c.args.i c.commitment_bytes-w.ensures.1 c.requires.1 in
     omega arith
 
 pub overflow_mul-w-then-is_ordinary : goal.overflow_mul-w-then-is_ordinary
 overflow_mul-w-then-is_ordinary c =
-    let start = c in
-    let m = start_small start.args.s start.requires.0 c.commitment_bytes-w.result start.args.i c.commitment_bytes-w.ensures.1 start.requires.1 in
+    let m = start_small c.args.s c.requires.0 c.commitment_bytes-w.result c.args.i c.commitment_bytes-w.ensures.1 c.requires.1 in
     omega arith
 
 pub overflow_add-w : goal.overflow_add-w
 overflow_add-w c =
-    let start = c in
     let w = c.commitment_bytes-w in
-    let m = start_small start.args.s start.requires.0 w.result start.args.i w.ensures.1 start.requires.1 in
+    let m = start_small c.args.s c.requires.0 w.result c.args.i w.ensures.1 c.requires.1 in
     omega (arith, w.ensures.1)
 
 pub slice_bounds-multiples-count : goal.slice_bounds-multiples-count
@@ -58,13 +55,12 @@ slice_bounds-multiples-end c = key-end c.args.s c.commitment_bytes-w.result c.ar
 
 pub multiples-requires : goal.multiples-requires
 multiples-requires c =
-    let start = c in
     let w = c.commitment_bytes-w in
-    let at = w.result * start.args.i in
+    let at = w.result * c.args.i in
     let one : at + w.result - at ≡ w.result = omega arith in (
-      start.requires.0,
+      c.requires.0,
       sym c.is_ordinary.ensures ∙ c.if-is_ordinary.true,
-      ap (λ (n : ℕ). length (part start.args.keys.now at n)) one ∙ length_part start.args.keys.now at w.result (key-end start.args.s w.result start.args.i _ w.ensures.0 start.requires.1 start.requires.2) ∙ w.ensures.0,
+      ap (λ (n : ℕ). length (part c.args.keys.now at n)) one ∙ length_part c.args.keys.now at w.result (key-end c.args.s w.result c.args.i _ w.ensures.0 c.requires.1 c.requires.2) ∙ w.ensures.0,
     )
 
 pub returns-then-is_ordinary : goal.returns-then-is_ordinary

@@ -1,8 +1,7 @@
 -- No tree has more than 86,016 leaves, and no leaf commitment more than 96 bytes.
-use Prim.Native.Nat.{ℕ, ◌*◌}
+use Prim.Native.Nat.{◌*◌}
 use mathlib.Core.Path.{ap₂}
 use native.Mathlib.Omega.{arith}
-use borrow.Author.Rules.{rules}
 use Rattle.spec.specs.Shapes.{leaf_commitments_bytes}
 use Rattle.laws.proofs.Concat.{mul-limit}
 use Rattle.lengths.proofs.leaf_commitments_bytes.Goals as goal

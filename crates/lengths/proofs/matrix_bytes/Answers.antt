@@ -2,7 +2,6 @@
 use Prim.Native.Nat.{ℕ, ◌*◌}
 use mathlib.Core.Path.{ap}
 use native.Mathlib.Omega.{arith}
-use borrow.Author.Rules.{rules}
 use Rattle.spec.specs.Shapes.{matrix_bytes}
 use Rattle.laws.proofs.Concat.{mul-limit}
 use Rattle.lengths.proofs.matrix_bytes.Goals as goal

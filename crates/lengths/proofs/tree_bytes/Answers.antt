@@ -2,7 +2,6 @@
 use Prim.Native.Nat.{ℕ, ◌-◌, ◌*◌}
 use mathlib.Core.Path.{ap₂}
 use native.Mathlib.Omega.{arith}
-use borrow.Author.Rules.{rules}
 use Rattle.spec.specs.Shapes.{tree_bytes}
 use Rattle.laws.proofs.Concat.{mul-limit}
 use Rattle.lengths.proofs.tree_bytes.Goals as goal

@@ -28,8 +28,6 @@ put_plan-requires c = (search rules, search rules, ap (λ (s : Shape). s.level) 
 pub returns : goal.returns
 unfolding listing
 returns c =
-    let p = c in
-    let b = p in
-    let s = p.shape_of.ensures in
-    let ch = p.challenge_of-challenge.ensures in
-    rw (passed b.line_ok.ensures b.if-not-line_ok.false) (put_front (rw (s, ch, b.behind.ensures) at p.put_plan.ensures))
+    let s = c.shape_of.ensures in
+    let ch = c.challenge_of-challenge.ensures in
+    rw (passed c.line_ok.ensures c.if-not-line_ok.false) (put_front (rw (s, ch, c.behind.ensures) at c.put_plan.ensures))

@@ -21,7 +21,7 @@ pub overflow_mul-i : goal.overflow_mul-i
 overflow_mul-i c = omega arith
 
 pub bounds-text-i : goal.bounds-text-i
-bounds-text-i c = (let st = c in omega (arith, (challenge-facts st.args.text.now st.requires).1))
+bounds-text-i c = (omega (arith, (challenge-facts c.args.text.now c.requires).1))
 
 pub hex_value-requires : goal.hex_value-requires
 hex_value-requires c = digit _ (2 * c.loop-i.i) c.requires (omega arith)
@@ -36,7 +36,7 @@ pub overflow_add-i : goal.overflow_add-i
 overflow_add-i c = omega arith
 
 pub bounds-text-i-in-loop-i : goal.bounds-text-i-in-loop-i
-bounds-text-i-in-loop-i c = (let st = c in omega (arith, (challenge-facts st.args.text.now st.requires).1))
+bounds-text-i-in-loop-i c = (omega (arith, (challenge-facts c.args.text.now c.requires).1))
 
 pub hex_value-requires-in-loop-i : goal.hex_value-requires-in-loop-i
 hex_value-requires-in-loop-i c =

@@ -20,8 +20,7 @@ is_hex_digit-requires c = tt
 
 pub returns-then-not-is_hex_digit : goal.returns-then-not-is_hex_digit
 returns-then-not-is_hex_digit c =
-    let l = c in
-    hex-stop _ _ l.loop-i.i l.loop-i-test.true (failed c.is_hex_digit.ensures c.if-not-is_hex_digit.true)
+    hex-stop _ _ c.loop-i.i c.loop-i-test.true (failed c.is_hex_digit.ensures c.if-not-is_hex_digit.true)
 
 pub overflow_add-i : goal.overflow_add-i
 overflow_add-i c = omega arith

@@ -34,12 +34,11 @@ loop-i-smaller c = omega arith
 pub loop-i-preserved : goal.loop-i-preserved
 unfolding concat
 loop-i-preserved c =
-    let st = c in
     let l = c.loop-i in
     let p = c.put_line-end in (
       omega arith,
       p.auto.out ∙ l.invariant.1,
-      omega (arith, p.ensures.end, line-short (get_or st.args.numbers.now l.i 0) (st.requires.1 l.i)),
+      omega (arith, p.ensures.end, line-short (get_or c.args.numbers.now l.i 0) (c.requires.1 l.i)),
       rw add-one (put_next l.invariant.3 p.ensures),
     )
 

@@ -9,9 +9,7 @@ use Rattle.listing_text.proofs.put_refusal.Goals as goal
 pub returns : goal.returns
 unfolding refused_text
 returns c =
-    let l = c in
-    let w = l in
-    let st = w in (
-      put_next w.put_bytes-end.ensures l.put_line.ensures,
-      omega (arith, w.put_bytes-end.ensures.end, l.put_line.ensures.end, line-short st.args.number st.requires.0),
+    (
+      put_next c.put_bytes-end.ensures c.put_line.ensures,
+      omega (arith, c.put_bytes-end.ensures.end, c.put_line.ensures.end, line-short c.args.number c.requires.0),
     )

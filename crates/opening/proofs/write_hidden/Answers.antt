@@ -28,8 +28,7 @@ overflow_mul-w c =
 
 pub overflow_mul-w-in-loop-i : goal.overflow_mul-w-in-loop-i
 overflow_mul-w-in-loop-i c =
-    let start = c in
-    let f = shape-facts start.args.s start.requires.0 in
+    let f = shape-facts c.args.s c.requires.0 in
     let w = c.commitment_bytes-w in
     let m = mul-limit w.result c.loop-i.i 96 32 w.ensures.1 (omega arith) in
     omega arith
@@ -37,9 +36,8 @@ overflow_mul-w-in-loop-i c =
 pub copy_part-requires : goal.copy_part-requires
 unfolding leaf_commitments_bytes
 copy_part-requires c =
-    let start = c in
     let w = c.commitment_bytes-w in
-    let s = start.args.s in
+    let s = c.args.s in
     let all : w.result * leaves s ≡ leaf_commitment_bytes s * leaves s = ap (λ (n : ℕ). n * leaves s) w.ensures.0 in
     let front : w.result * s.tau ≡ leaf_commitment_bytes s * s.tau = ap (λ (n : ℕ). n * s.tau) w.ensures.0 in
     let a = mul-within w.result c.entry_of.result (leaves s) c.entry_of.ensures.1 in
@@ -49,8 +47,7 @@ copy_part-requires c =
 pub loop-i-preserved : goal.loop-i-preserved
 unfolding leaf_commitment_at leaf_commitments_bytes
 loop-i-preserved c =
-    let start = c in
-    let g = start.args in
+    let g = c.args in
     let l = c.loop-i in
     let w = c.commitment_bytes-w in
     let entry = c.entry_of in

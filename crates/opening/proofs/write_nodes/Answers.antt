@@ -27,10 +27,9 @@ offset_bounds-nodes-m c = (let h = c.requires.3 c.loop-m.m (omega arith) in omeg
 
 pub overflow_cast-nodes : goal.overflow_cast-nodes
 overflow_cast-nodes c =
-    let start = c in
-    let x = get_or start.args.nodes.now c.loop-m.m 0 in
-    let h = start.requires.3 c.loop-m.m (omega arith) in
-    let k = mul-limit 1 x start.args.w x start.requires.0 (le_refl x) in
+    let x = get_or c.args.nodes.now c.loop-m.m 0 in
+    let h = c.requires.3 c.loop-m.m (omega arith) in
+    let k = mul-limit 1 x c.args.w x c.requires.0 (le_refl x) in
     omega arith
 
 pub overflow_mul-w : goal.overflow_mul-w
@@ -38,38 +37,34 @@ overflow_mul-w c = (let h = c.requires.3 c.loop-m.m (omega arith) in omega arith
 
 pub overflow_mul-w-in-loop-m : goal.overflow_mul-w-in-loop-m
 overflow_mul-w-in-loop-m c =
-    let start = c in
-    let g = start.args in
-    let r = room g.w c.loop-m.m g.n g.at (length g.out.now) (omega arith) start.requires.2 in
+    let g = c.args in
+    let r = room g.w c.loop-m.m g.n g.at (length g.out.now) (omega arith) c.requires.2 in
     omega arith
 
 pub overflow_add-at : goal.overflow_add-at
 overflow_add-at c =
-    let start = c in
-    let g = start.args in
-    let r = room g.w c.loop-m.m g.n g.at (length g.out.now) (omega arith) start.requires.2 in
+    let g = c.args in
+    let r = room g.w c.loop-m.m g.n g.at (length g.out.now) (omega arith) c.requires.2 in
     omega arith
 
 pub copy_part-requires : goal.copy_part-requires
 copy_part-requires c =
-    let start = c in
-    let g = start.args in
-    let r = room g.w c.loop-m.m g.n g.at (length g.out.now) (omega arith) start.requires.2 in
-    (start.requires.3 c.loop-m.m (omega arith), omega arith)
+    let g = c.args in
+    let r = room g.w c.loop-m.m g.n g.at (length g.out.now) (omega arith) c.requires.2 in
+    (c.requires.3 c.loop-m.m (omega arith), omega arith)
 
 pub loop-m-preserved : goal.loop-m-preserved
 loop-m-preserved c =
-    let start = c in
-    let g = start.args in
+    let g = c.args in
     let l = c.loop-m in
     let out = c.copy_part.new.dst in
     let next : g.at + g.w * (l.m + 1) ≡ g.at + g.w * l.m + g.w = (let q = mul_next g.w l.m in omega arith) in
-    let r = room g.w l.m g.n g.at (length g.out.now) (omega arith) start.requires.2 in (
+    let r = room g.w l.m g.n g.at (length g.out.now) (omega arith) c.requires.2 in (
       omega arith,
       search rules,
       ap (λ (n : ℕ). take n out) next
           ∙ put_next (listed g.w g.nodes.now g.tree.now) (take g.at g.out.now) g.w l.m (g.at + g.w * l.m) l.out out
-          (drop (g.at + g.w * l.m + g.w) l.out) (omega arith) (length_part g.tree.now (g.w * get_or g.nodes.now l.m 0) g.w (start.requires.3 l.m (omega arith)))
+          (drop (g.at + g.w * l.m + g.w) l.out) (omega arith) (length_part g.tree.now (g.w * get_or g.nodes.now l.m 0) g.w (c.requires.3 l.m (omega arith)))
           l.invariant.2 c.copy_part.ensures,
     )
 

@@ -13,11 +13,9 @@ returns-then-not-grinding_ok c = (grinding-refused _ _ _ (failed c.grinding_ok.e
 
 pub returns : goal.returns
 returns c =
-    let nodes = c in
-    let grinding = nodes in
-    let answer = allowance-decides _ _ _ _ _ (passed grinding.grinding_ok.ensures nodes.if-not-grinding_ok.false) nodes.revealed_nodes-n.ensures.0 c.refusal.ensures c.answer-2.ensures in (
+    let answer = allowance-decides _ _ _ _ _ (passed c.grinding_ok.ensures c.if-not-grinding_ok.false) c.revealed_nodes-n.ensures.0 c.refusal.ensures c.answer-2.ensures in (
       answer,
       λ z room.
           let q = challenge-passed _ _ _ answer z in
-          ap (take c.answer-2.result.count) nodes.revealed_nodes-n.ensures.1 ∙ planned-front _ _ _ _ q.0 (let within = q.1 in omega (arith, room)),
+          ap (take c.answer-2.result.count) c.revealed_nodes-n.ensures.1 ∙ planned-front _ _ _ _ q.0 (let within = q.1 in omega (arith, room)),
     )

@@ -15,5 +15,4 @@ challenge_answer-requires c = (let q = sizes-passed _ _ _ c.list_number-first.en
 pub returns : goal.returns
 returns c =
     let answer = c.challenge_answer.ensures in
-    let first = c in
-    (challenge-decides _ _ _ first.list_number-first.ensures _ _ c.if-first-ne0.false answer.0, answer.1)
+    (challenge-decides _ _ _ c.list_number-first.ensures _ _ c.if-first-ne0.false answer.0, answer.1)

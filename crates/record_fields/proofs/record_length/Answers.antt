@@ -9,8 +9,6 @@ use Rattle.record_fields.proofs.record_length.Goals as goal
 pub returns : goal.returns
 unfolding record_bytes record_end commitment_place opening_place corrections_place
 returns c =
-    let head = c in
-    let a = head in
-    let h = head.head_length-h.ensures.0 ∙ ap head_bytes head.version_for.ensures in
-    let m = record-small a.args.s a.args.b a.requires.0 a.requires.1 in
+    let h = c.head_length-h.ensures.0 ∙ ap head_bytes c.version_for.ensures in
+    let m = record-small c.args.s c.args.b c.requires.0 c.requires.1 in
     (omega (arith, h), omega (arith, h, m))

@@ -11,5 +11,4 @@ row_in-row-requires c =
 
 pub returns : goal.returns
 returns c =
-    let re = c in
-    rw (c.said_number.ensures, re.resolve-resolved.ensures, c.row_in-row.ensures, re.shape_in-shape.ensures) refl
+    rw (c.said_number.ensures, c.resolve-resolved.ensures, c.row_in-row.ensures, c.shape_in-shape.ensures) refl

@@ -13,39 +13,31 @@ use Rattle.record_reading.proofs.front_of.Goals as goal
 
 pub returns-then-h-eq0 : goal.returns-then-h-eq0
 returns-then-h-eq0 c =
-    let hl = c in
-    let e = hl.head_length-h.ensures.0 ∙ ap head_bytes hl.version_of-version.ensures in
+    let e = c.head_length-h.ensures.0 ∙ ap head_bytes c.version_of-version.ensures in
     refused _ _ 9 c.unread.ensures (no-version _ (sym e ∙ c.if-h-eq0.true)) (λ z. omega arith)
 
 pub returns-then-not-head_fits : goal.returns-then-not-head_fits
 returns-then-not-head_fits c =
-    let hf = c in
-    let hl = hf in
-    let e = hl.head_length-h.ensures.0 ∙ ap head_bytes hl.version_of-version.ensures in
-    let some = hf.if-h-eq0.false in
+    let e = c.head_length-h.ensures.0 ∙ ap head_bytes c.version_of-version.ensures in
+    let some = c.if-h-eq0.false in
     refused _ _ 10 c.unread-then-not-head_fits.ensures
-    (no-head _ (omega (arith, e, some)) (failed (hf.head_fits.ensures ∙ ap (field_ok _ 1) e) c.if-not-head_fits.true)) (λ z. omega arith)
+    (no-head _ (omega (arith, e, some)) (failed (c.head_fits.ensures ∙ ap (field_ok _ 1) e) c.if-not-head_fits.true)) (λ z. omega arith)
 
 pub head_of-requires : goal.head_of-requires
 head_of-requires c = field_room _ 1 _ (passed c.head_fits.ensures c.if-not-head_fits.false)
 
 pub front_in-requires : goal.front_in-requires
 front_in-requires c =
-    let hf = c in
-    let hl = hf in
-    let v = hl.version_of-version.ensures in
-    let e = hl.head_length-h.ensures.0 ∙ ap head_bytes v in
-    let some = hf.if-h-eq0.false in
-    let there = passed (hf.head_fits.ensures ∙ ap (field_ok _ 1) e) c.if-not-head_fits.false in
-    (rw v (omega (arith, e, some)), ap length (c.head_of.ensures ∙ ap (field_at hl.args.bytes.now 1) e) ∙ rw v (head-long _ (omega (arith, e, some)) there))
+    let v = c.version_of-version.ensures in
+    let e = c.head_length-h.ensures.0 ∙ ap head_bytes v in
+    let some = c.if-h-eq0.false in
+    let there = passed (c.head_fits.ensures ∙ ap (field_ok _ 1) e) c.if-not-head_fits.false in
+    (rw v (omega (arith, e, some)), ap length (c.head_of.ensures ∙ ap (field_at c.args.bytes.now 1) e) ∙ rw v (head-long _ (omega (arith, e, some)) there))
 
 pub returns : goal.returns
 returns c =
-    let ho = c in
-    let hf = ho in
-    let hl = hf in
-    let v = hl.version_of-version.ensures in
-    let e = hl.head_length-h.ensures.0 ∙ ap head_bytes v in
-    let some = hf.if-h-eq0.false in
-    let there = passed (hf.head_fits.ensures ∙ ap (field_ok _ 1) e) ho.if-not-head_fits.false in
-    rw (c.front_in.ensures ∙ ap₂ front_in v (ho.head_of.ensures ∙ ap (field_at hl.args.bytes.now 1) e)) (front_read _ (omega (arith, e, some)) there)
+    let v = c.version_of-version.ensures in
+    let e = c.head_length-h.ensures.0 ∙ ap head_bytes v in
+    let some = c.if-h-eq0.false in
+    let there = passed (c.head_fits.ensures ∙ ap (field_ok _ 1) e) c.if-not-head_fits.false in
+    rw (c.front_in.ensures ∙ ap₂ front_in v (c.head_of.ensures ∙ ap (field_at c.args.bytes.now 1) e)) (front_read _ (omega (arith, e, some)) there)

@@ -5,5 +5,4 @@ use Rattle.record_reading.proofs.is_read.Goals as goal
 
 pub returns : goal.returns
 returns c =
-    let r = c in
-    rw (r.rest-r.ensures.0, r.rest-r.ensures.1) (end-decides _ r.requires.read)
+    rw (c.rest-r.ensures.0, c.rest-r.ensures.1) (end-decides _ c.requires.read)

@@ -9,19 +9,14 @@ use Rattle.record_reading.proofs.said_number.Goals as goal
 
 pub returns-then-not-is_shape-kind_fits : goal.returns-then-not-is_shape-kind_fits
 returns-then-not-is_shape-kind_fits c =
-    let k = c in
-    let a = k.args in
-    let s : (shape_ok a.resolved && kind_fits a.version a.kind) ≡ false = failed (ap₂ ◌&&◌ k.is_shape.ensures k.kind_fits.ensures) c.if-not-is_shape-kind_fits.true in
+    let a = c.args in
+    let s : (shape_ok a.resolved && kind_fits a.version a.kind) ≡ false = failed (ap₂ ◌&&◌ c.is_shape.ensures c.kind_fits.ensures) c.if-not-is_shape-kind_fits.true in
     rw s refl
 
 pub returns-then-not-is_row_length : goal.returns-then-not-is_row_length
 returns-then-not-is_row_length c =
-    let r = c in
-    let k = r in
-    rw (passed (ap₂ ◌&&◌ k.is_shape.ensures k.kind_fits.ensures) r.if-not-is_shape-kind_fits.false, failed r.is_row_length.ensures c.if-not-is_row_length.true) refl
+    rw (passed (ap₂ ◌&&◌ c.is_shape.ensures c.kind_fits.ensures) c.if-not-is_shape-kind_fits.false, failed c.is_row_length.ensures c.if-not-is_row_length.true) refl
 
 pub returns : goal.returns
 returns c =
-    let r = c in
-    let k = r in
-    rw (passed (ap₂ ◌&&◌ k.is_shape.ensures k.kind_fits.ensures) r.if-not-is_shape-kind_fits.false, passed r.is_row_length.ensures c.if-not-is_row_length.false) refl
+    rw (passed (ap₂ ◌&&◌ c.is_shape.ensures c.kind_fits.ensures) c.if-not-is_shape-kind_fits.false, passed c.is_row_length.ensures c.if-not-is_row_length.false) refl

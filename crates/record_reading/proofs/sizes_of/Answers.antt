@@ -8,13 +8,11 @@ use Rattle.record_reading.proofs.sizes_of.Goals as goal
 
 pub returns : goal.returns
 returns c rec p =
-    let co = c in
-    let ch = co in
     record {
       read = p.read;
-      head = ch.head_length.ensures.0 ∙ ap head_bytes p.version;
-      challenge = ch.challenge_length.ensures.0 ∙ ap challenge_bytes p.resolved;
-      corrections = co.corrections_bytes.ensures.0 ∙ ap₂ corrections_bytes p.resolved p.bytes;
+      head = c.head_length.ensures.0 ∙ ap head_bytes p.version;
+      challenge = c.challenge_length.ensures.0 ∙ ap challenge_bytes p.resolved;
+      corrections = c.corrections_bytes.ensures.0 ∙ ap₂ corrections_bytes p.resolved p.bytes;
       opening = c.opening_bytes.ensures.0 ∙ ap opening_bytes p.resolved;
       commitment = c.hash_bytes.ensures.0 ∙ ap hash_bytes p.resolved;
       most = omega arith;

@@ -11,27 +11,19 @@ use Rattle.record_writer.proofs.put_front.Goals as goal
 
 pub slice_bounds-put_field-end : goal.slice_bounds-put_field-end
 slice_bounds-put_field-end c =
-    let h = c in
-    let head = h in
-    let g = head.args in
-    let n = h.head_length-h.ensures.0 ∙ ap head_bytes h.version_for-version.ensures in
-    n ∙ sym (ap (λ (m : ℕ). length (take m head.head_of-head.result)) n ∙ ap length head.head_of-head.ensures ∙ head-length g.s g.n)
+    let g = c.args in
+    let n = c.head_length-h.ensures.0 ∙ ap head_bytes c.version_for-version.ensures in
+    n ∙ sym (ap (λ (m : ℕ). length (take m c.head_of-head.result)) n ∙ ap length c.head_of-head.ensures ∙ head-length g.s g.n)
 
 pub put_field-requires : goal.put_field-requires
 put_field-requires c =
-    let h = c in
-    let head = h in
-    let n = h.head_length-h.ensures.0 ∙ ap head_bytes h.version_for-version.ensures in
-    let l = ap (λ (m : ℕ). length (take m head.head_of-head.result)) n ∙ ap length head.head_of-head.ensures in
-    omega (arith, head.requires.1)
+    let n = c.head_length-h.ensures.0 ∙ ap head_bytes c.version_for-version.ensures in
+    let l = ap (λ (m : ℕ). length (take m c.head_of-head.result)) n ∙ ap length c.head_of-head.ensures in
+    omega (arith, c.requires.1)
 
 pub returns : goal.returns
 returns c =
-    let f = c in
-    let v = f in
-    let h = v in
-    let head = h in
-    let n = h.head_length-h.ensures.0 ∙ ap head_bytes h.version_for-version.ensures in
-    let is = ap (λ (m : ℕ). take m head.head_of-head.result) n ∙ head.head_of-head.ensures in
+    let n = c.head_length-h.ensures.0 ∙ ap head_bytes c.version_for-version.ensures in
+    let is = ap (λ (m : ℕ). take m c.head_of-head.result) n ∙ c.head_of-head.ensures in
     let l = ap length is in
-    (omega (arith, f.put_field.ensures.0), put-version _ _ h.version_for-version.ensures is v.put_version.ensures f.put_field.ensures.1)
+    (omega (arith, c.put_field.ensures.0), put-version _ _ c.version_for-version.ensures is c.put_version.ensures c.put_field.ensures.1)

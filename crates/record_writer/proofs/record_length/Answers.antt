@@ -13,34 +13,28 @@ use Rattle.record_writer.proofs.record_length.Goals as goal
 pub returns-then-not-is_shape : goal.returns-then-not-is_shape
 unfolding length_number
 returns-then-not-is_shape c =
-    let sh = c in
-    record { number = rw (failed (sh.is_shape.ensures ∙ ap shape_ok sh.resolve-s.ensures) c.if-not-is_shape.true) refl; bytes = refl; most = omega arith }
+    record { number = rw (failed (c.is_shape.ensures ∙ ap shape_ok c.resolve-s.ensures) c.if-not-is_shape.true) refl; bytes = refl; most = omega arith }
 
 pub returns-then-not-is_row_length : goal.returns-then-not-is_row_length
 unfolding length_number
 returns-then-not-is_row_length c =
-    let ro = c in
-    let sh = ro in
     record {
       number =
-          rw (passed (sh.is_shape.ensures ∙ ap shape_ok sh.resolve-s.ensures) ro.if-not-is_shape.false, failed ro.is_row_length.ensures c.if-not-is_row_length.true) refl;
+          rw (passed (c.is_shape.ensures ∙ ap shape_ok c.resolve-s.ensures) c.if-not-is_shape.false, failed c.is_row_length.ensures c.if-not-is_row_length.true) refl;
       bytes = refl;
       most = omega arith;
     }
 
 pub record_length-requires : goal.record_length-requires
 record_length-requires c =
-    let sh = c in
-    (passed sh.is_shape.ensures c.if-not-is_shape.false, row-max _ (passed c.is_row_length.ensures c.if-not-is_row_length.false))
+    (passed c.is_shape.ensures c.if-not-is_shape.false, row-max _ (passed c.is_row_length.ensures c.if-not-is_row_length.false))
 
 pub returns : goal.returns
 unfolding length_number
 returns c =
-    let ro = c in
-    let sh = ro in
     record {
       number =
-          rw (passed (sh.is_shape.ensures ∙ ap shape_ok sh.resolve-s.ensures) ro.if-not-is_shape.false, passed ro.is_row_length.ensures c.if-not-is_row_length.false) refl;
-      bytes = c.record_length.ensures.0 ∙ ap (λ s. record_bytes s (sh.args.row_bits / 8)) sh.resolve-s.ensures;
+          rw (passed (c.is_shape.ensures ∙ ap shape_ok c.resolve-s.ensures) c.if-not-is_shape.false, passed c.is_row_length.ensures c.if-not-is_row_length.false) refl;
+      bytes = c.record_length.ensures.0 ∙ ap (λ s. record_bytes s (c.args.row_bits / 8)) c.resolve-s.ensures;
       most = c.record_length.ensures.1;
     }

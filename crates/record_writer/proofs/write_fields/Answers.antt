@@ -9,17 +9,10 @@ use Rattle.record_writer.proofs.write_fields.Goals as goal
 
 pub returns : goal.returns
 returns c =
-    let f₅ = c in
-    let f₄ = f₅ in
-    let f₃ = f₄ in
-    let f₂ = f₃ in
-    let f₁ = f₂ in
-    let f₀ = f₁ in
-    let start = f₀ in
-    let g = start.args in
+    let g = c.args in
     let said : Contents = record { shape = g.shape; row = g.row_bits; iv = g.iv.now; challenge = g.challenge.now; corrections = g.corrections.now; opening = g.opening.now; commitment = g.commitment.now } in
-    let same : length f₅.put_field.new.out ≡ length g.«record».now = omega arith in
+    let same : length c.put_field.new.out ≡ length g.«record».now = omega arith in
     put_whole
-    (put_record said _ _ _ _ _ f₀.put_front-two.ensures.0 f₁.put_field-three.ensures.0 f₂.put_field-four.ensures.0 f₃.put_field-five.ensures.0 f₄.put_field-six.ensures.0 f₀.put_front-two.ensures.1
-    f₁.put_field-three.ensures.1 f₂.put_field-four.ensures.1 f₃.put_field-five.ensures.1 f₄.put_field-six.ensures.1 f₅.put_field.ensures.1)
-    (same ∙ (start.requires.1 ∙ sym (length-record said)))
+    (put_record said _ _ _ _ _ c.put_front-two.ensures.0 c.put_field-three.ensures.0 c.put_field-four.ensures.0 c.put_field-five.ensures.0 c.put_field-six.ensures.0 c.put_front-two.ensures.1
+    c.put_field-three.ensures.1 c.put_field-four.ensures.1 c.put_field-five.ensures.1 c.put_field-six.ensures.1 c.put_field.ensures.1)
+    (same ∙ (c.requires.1 ∙ sym (length-record said)))

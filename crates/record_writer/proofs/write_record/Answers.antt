@@ -9,44 +9,30 @@ use Rattle.record_writer.proofs.write_record.Goals as goal
 
 pub returns-then-not-is_shape : goal.returns-then-not-is_shape
 returns-then-not-is_shape c =
-    let sh = c in
-    write-1 _ _ sh.resolve-s.ensures _ _ (failed sh.is_shape.ensures c.if-not-is_shape.true) c.answer.ensures
+    write-1 _ _ c.resolve-s.ensures _ _ (failed c.is_shape.ensures c.if-not-is_shape.true) c.answer.ensures
 
 pub returns-then-not-is_row_length : goal.returns-then-not-is_row_length
 returns-then-not-is_row_length c =
-    let ro = c in
-    let sh = ro in
-    write-2 _ _ sh.resolve-s.ensures _ _ (passed sh.is_shape.ensures ro.if-not-is_shape.false) (failed ro.is_row_length.ensures c.if-not-is_row_length.true) c.answer-then-not-is_row_length.ensures
+    write-2 _ _ c.resolve-s.ensures _ _ (passed c.is_shape.ensures c.if-not-is_shape.false) (failed c.is_row_length.ensures c.if-not-is_row_length.true) c.answer-then-not-is_row_length.ensures
 
 pub write_lengths-requires : goal.write_lengths-requires
 write_lengths-requires c =
-    let ro = c in
-    let sh = ro in
-    (passed sh.is_shape.ensures ro.if-not-is_shape.false, row-max _ (passed ro.is_row_length.ensures c.if-not-is_row_length.false))
+    (passed c.is_shape.ensures c.if-not-is_shape.false, row-max _ (passed c.is_row_length.ensures c.if-not-is_row_length.false))
 
 pub returns-then-not-write_lengths : goal.returns-then-not-write_lengths
 returns-then-not-write_lengths c =
-    let ft = c in
-    let ro = ft in
-    let sh = ro in
-    write-3 _ _ sh.resolve-s.ensures _ _ (passed sh.is_shape.ensures ro.if-not-is_shape.false) (passed ro.is_row_length.ensures ft.if-not-is_row_length.false)
-    (failed ft.write_lengths.ensures c.if-not-write_lengths.true) c.answer-then-not-write_lengths.ensures
+    write-3 _ _ c.resolve-s.ensures _ _ (passed c.is_shape.ensures c.if-not-is_shape.false) (passed c.is_row_length.ensures c.if-not-is_row_length.false)
+    (failed c.write_lengths.ensures c.if-not-write_lengths.true) c.answer-then-not-write_lengths.ensures
 
 pub write_fields-requires : goal.write_fields-requires
 write_fields-requires c =
-    let ft = c in
-    let sh = ft in
-    let g = sh.args in (
-      sym (ap shape_ok sh.resolve-s.ensures) ∙ passed sh.is_shape.ensures ft.if-not-is_shape.false,
-      room sh.resolve-s.result (record { shape = g.shape; row = g.row_bits; iv = g.iv.now; challenge = g.challenge.now; corrections = g.corrections.now; opening = g.opening.now; commitment = g.commitment.now })
-          g.«record».now sh.resolve-s.ensures (passed ft.write_lengths.ensures c.if-not-write_lengths.false),
+    let g = c.args in (
+      sym (ap shape_ok c.resolve-s.ensures) ∙ passed c.is_shape.ensures c.if-not-is_shape.false,
+      room c.resolve-s.result (record { shape = g.shape; row = g.row_bits; iv = g.iv.now; challenge = g.challenge.now; corrections = g.corrections.now; opening = g.opening.now; commitment = g.commitment.now })
+          g.«record».now c.resolve-s.ensures (passed c.write_lengths.ensures c.if-not-write_lengths.false),
     )
 
 pub returns : goal.returns
 returns c =
-    let wr = c in
-    let ft = wr in
-    let ro = ft in
-    let sh = ro in
-    write-0 _ _ sh.resolve-s.ensures _ _ _ (passed sh.is_shape.ensures ro.if-not-is_shape.false) (passed ro.is_row_length.ensures ft.if-not-is_row_length.false)
-    (passed ft.write_lengths.ensures wr.if-not-write_lengths.false) wr.write_fields.ensures c.answer-2.ensures
+    write-0 _ _ c.resolve-s.ensures _ _ _ (passed c.is_shape.ensures c.if-not-is_shape.false) (passed c.is_row_length.ensures c.if-not-is_row_length.false)
+    (passed c.write_lengths.ensures c.if-not-write_lengths.false) c.write_fields.ensures c.answer-2.ensures

@@ -7,5 +7,4 @@ use Rattle.report_text.proofs.put_total.Goals as goal
 pub returns : goal.returns
 unfolding total_text
 returns c =
-    let p = c in
-    put_next p.put_bytes-end.ensures p.put_pair.ensures.0
+    put_next c.put_bytes-end.ensures c.put_pair.ensures.0

@@ -1,10 +1,9 @@
 -- Three nodes' bytes, or two, by the kind.
 use Prim.Native.Nat.{ℕ, ◌*◌}
-use mathlib.Core.Path.{sym, ap, ap₂, ◌∙◌}
+use mathlib.Core.Path.{sym, ap₂, ◌∙◌}
 use mathlib.Core.Bool.{Bool, cond}
 use native.Mathlib.Omega.{arith}
-use borrow.Author.Rules.{rules}
-use Rattle.spec.specs.Shapes.{node_bytes, leaf_commitment_bytes}
+use Rattle.spec.specs.Shapes.{leaf_commitment_bytes}
 use Rattle.rules.proofs.commitment_bytes.Goals as goal
 
 pub overflow_mul-result : goal.overflow_mul-result

@@ -1,6 +1,5 @@
 -- The bits of the vectors and the grinding bits are at most the level's.
 use native.Mathlib.Omega.{arith}
-use borrow.Author.Rules.{rules}
 use Rattle.planning_laws.proofs.ShapeFacts.{shape-facts, deeper-is}
 use Rattle.rules.proofs.deeper_count.Goals as goal
 

@@ -1,7 +1,6 @@
 -- By whether the vector is one of the deeper ones.
 use mathlib.Core.Path.{sym}
 use native.Mathlib.Omega.{arith}
-use borrow.Author.Rules.{rules}
 use Rattle.planning_laws.proofs.Depths.{depth-deep, depth-flat}
 use Rattle.planning_laws.proofs.ShapeFacts.{shape-facts, depth_small}
 use Rattle.rules.proofs.depth_of.Goals as goal

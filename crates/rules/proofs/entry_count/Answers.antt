@@ -1,7 +1,6 @@
 -- A vector has 2 to the power of its depth entries.
 use Prim.Native.Nat.{ℕ, ◌^◌}
 use mathlib.Core.Path.{ap, ◌∙◌}
-use borrow.Author.Rules.{rules}
 use Rattle.spec.specs.Shapes.{entries_of}
 use Rattle.rules.proofs.entry_count.Goals as goal
 

@@ -1,6 +1,5 @@
 -- An entry's place is below the number of leaves.
 use native.Mathlib.Omega.{arith}
-use borrow.Author.Rules.{rules}
 use Rattle.planning_laws.proofs.ShapeFacts.{shape-facts, leaves-max}
 use Rattle.planning_laws.proofs.ShapeLaws.{shape-laws, entry_in}
 use Rattle.rules.proofs.entry_of.Goals as goal

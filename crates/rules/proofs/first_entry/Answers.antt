@@ -3,7 +3,6 @@ use Prim.Native.Nat.{ℕ, ◌+◌, ◌*◌, ◌^◌, ◌≤◌, ◌<◌, min}
 use mathlib.Core.Path.{◌≡◌, ap, ◌∙◌}
 use native.Mathlib.Omega.{arith}
 use native.Mathlib.Nat.{mul-le-mul, le_refl, mod-eq_of_lt}
-use borrow.Author.Rules.{rules}
 use Rattle.spec.specs.declared.Shape.{Shape}
 use Rattle.spec.specs.Shapes.{deeper, first_entry, leaves}
 use Rattle.planning_laws.proofs.ShapeFacts.{ShapeFacts, shape-facts, leaves-max}

@@ -4,7 +4,6 @@ use mathlib.Core.Path.{sym, ◌∙◌}
 use mathlib.Core.Bool.{true≢false}
 use native.Mathlib.Omega.{arith}
 use native.Mathlib.Nat.{mul-le-mul}
-use borrow.Author.Rules.{rules}
 use Rattle.spec.specs.Shapes.{level, shape_ok}
 use Rattle.laws.proofs.Conjunctions.{refuted}
 use Rattle.laws.proofs.Tests.{failed, passed}

@@ -1,7 +1,6 @@
 -- The vectors' entries together are the leaves.
 use mathlib.Core.Path.{◌∙◌}
 use native.Mathlib.Omega.{arith}
-use borrow.Author.Rules.{rules}
 use Rattle.planning_laws.proofs.Depths.{entry-all}
 use Rattle.planning_laws.proofs.ShapeFacts.{shape-facts, leaves-max, leaves-pos}
 use Rattle.rules.proofs.leaf_count.Goals as goal

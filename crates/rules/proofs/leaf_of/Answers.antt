@@ -1,6 +1,5 @@
 -- An entry's leaf lies in the tree, so the sum does not overflow.
 use native.Mathlib.Omega.{arith}
-use borrow.Author.Rules.{rules}
 use Rattle.planning_laws.proofs.Depths.{leaf-of-entry}
 use Rattle.rules.proofs.leaf_of.Goals as goal
 

@@ -4,7 +4,6 @@ use mathlib.Core.Path.{◌≡◌}
 use mathlib.Core.Bool.{true}
 use native.Mathlib.Omega.{arith}
 use native.Mathlib.Nat.{mul-le-mul}
-use borrow.Author.Rules.{rules}
 use Rattle.spec.specs.declared.Shape.{Shape}
 use Rattle.spec.specs.Shapes.{shape_ok, deeper, entries_of, leaves, leaf_of}
 use Rattle.planning_laws.proofs.Depths.{leaf-near, leaf-far, far-entry, leaves-split, interleaved-lt}

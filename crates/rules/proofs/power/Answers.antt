@@ -4,7 +4,6 @@ use mathlib.Core.Path.{◌∙◌}
 use native.Mathlib.Omega.{arith}
 use native.Mathlib.Nat.{mod-eq_of_lt, one-mul}
 use lib.Pow.{pow_mono, pow_pos}
-use borrow.Author.Rules.{rules}
 use Rattle.rules.proofs.power.Goals as goal
 
 pub returns : goal.returns

@@ -7,6 +7,5 @@ use Rattle.shake.proofs.h0.Goals as goal
 pub returns : goal.returns
 unfolding hash0
 returns c =
-    let start = c in
-    let none = c.new-s.ensures.0 start.args.rate start.requires.1 in
-    c.hash.ensures start.args.iv.now (c.absorb-t.ensures.holds [] none)
+    let none = c.new-s.ensures.0 c.args.rate c.requires.1 in
+    c.hash.ensures c.args.iv.now (c.absorb-t.ensures.holds [] none)

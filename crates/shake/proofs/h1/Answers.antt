@@ -5,6 +5,5 @@ use Rattle.shake.proofs.h1.Goals as goal
 
 pub returns : goal.returns
 returns c =
-    let start = c in
-    let none = c.new-s.ensures.0 start.args.rate start.requires.1 in
-    c.h1_finish.ensures start.args.message.now (c.absorb-t.ensures.holds [] none)
+    let none = c.new-s.ensures.0 c.args.rate c.requires.1 in
+    c.h1_finish.ensures c.args.message.now (c.absorb-t.ensures.holds [] none)

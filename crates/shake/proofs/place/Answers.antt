@@ -30,5 +30,4 @@ placed n at p ys h e =
 pub returns : goal.returns
 unfolding zeros
 returns c =
-    let start = c in
-    placed 168 start.args.at start.args.part.now c.copy.new.dst start.requires c.copy.ensures
+    placed 168 c.args.at c.args.part.now c.copy.new.dst c.requires c.copy.ensures

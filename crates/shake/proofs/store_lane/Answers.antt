@@ -14,9 +14,8 @@ loop-i-init c = (omega arith, sym (filled_none (byte c.args.x) c.args.out.now))
 
 pub bounds-out-i : goal.bounds-out-i
 bounds-out-i c =
-    let start = c in
     let l = c.loop-i in
-    let same = ap length l.invariant.1 ∙ length-filled (byte start.args.x) start.args.out.now l.i (omega arith) in
+    let same = ap length l.invariant.1 ∙ length-filled (byte c.args.x) c.args.out.now l.i (omega arith) in
     omega arith
 
 pub loop-i-preserved : goal.loop-i-preserved
@@ -34,7 +33,6 @@ shape_of-out c =
 pub returns : goal.returns
 unfolding digits
 returns c =
-    let start = c in
     let l = c.loop-i in
     let all : l.i ≡ 8 = omega arith in
-    l.invariant.1 ∙ filled-end (byte start.args.x) start.args.out.now l.i (omega arith) ∙ ap (λ (n : ℕ). tabulate n (byte start.args.x)) all
+    l.invariant.1 ∙ filled-end (byte c.args.x) c.args.out.now l.i (omega arith) ∙ ap (λ (n : ℕ). tabulate n (byte c.args.x)) all

@@ -18,11 +18,10 @@ loop-j-init c = (omega arith, sym (filled_none (lane c.args.s c.args.block) c.ar
 pub loop-j-preserved : goal.loop-j-preserved
 unfolding lane_of
 loop-j-preserved c =
-    let start = c in
     let l = c.loop-j in
-    let s = start.args.s in
-    let block = start.args.block in
-    let all : length s ≡ 25 = start.well_formed.0.1.0.1 in
+    let s = c.args.s in
+    let block = c.args.block in
+    let all : length s ≡ 25 = c.well_formed.0.1.0.1 in
     let eight : 8 * l.j + 8 - 8 * l.j ≡ 8 = omega arith in
     let loaded : c.load_lane-v.result ≡ lane_of block l.j = c.load_lane-v.ensures ∙ ap (λ (n : ℕ). number 8 (take n (drop (8 * l.j) block))) eight in (
       omega arith,
@@ -32,12 +31,11 @@ loop-j-preserved c =
 pub returns : goal.returns
 unfolding xor_in
 returns c =
-    let start = c in
     let l = c.loop-j in
-    let s = start.args.s in
-    let block = start.args.block in
-    let all : length s ≡ 25 = start.well_formed.0.1.0.1 in
-    let end : length block ≡ 168 = start.well_formed.1.0.1.0.1 in
+    let s = c.args.s in
+    let block = c.args.block in
+    let all : length s ≡ 25 = c.well_formed.0.1.0.1 in
+    let end : length block ≡ 168 = c.well_formed.1.0.1.0.1 in
     let j : l.j ≡ 21 = omega arith in
     l.invariant.1
     ∙ ap (λ (n : ℕ). filled n (lane s block) s) j

@@ -26,9 +26,8 @@ offset_bounds-to-i c = omega arith
 
 pub bounds-to-i : goal.bounds-to-i
 bounds-to-i c =
-    let st = c in
     let l = c.loop-i in
-    omega (arith, long st.args.from.now st.args.to.now l.to st.args.n l.i l.invariant.0 st.requires.0 st.requires.1 l.invariant.1)
+    omega (arith, long c.args.from.now c.args.to.now l.to c.args.n l.i l.invariant.0 c.requires.0 c.requires.1 l.invariant.1)
 
 pub overflow_add-i : goal.overflow_add-i
 overflow_add-i c = omega arith
@@ -38,21 +37,19 @@ loop-i-smaller c = omega arith
 
 pub loop-i-preserved : goal.loop-i-preserved
 loop-i-preserved c =
-    let st = c in
-    let a = st.args in
+    let a = c.args in
     let l = c.loop-i in (
       omega arith,
       ap (λ (d : List ℕ). set d l.i (get_or a.from.now l.i 0)) l.invariant.1
           ∙ ap (λ (k : ℕ). set (paste a.to.now 0 a.from.now l.i) k (get_or a.from.now l.i 0)) (sym (zero-add l.i))
-          ∙ paste-suc a.to.now 0 a.from.now l.i 0 (omega (arith, st.requires.1)) (omega (arith, st.requires.0))
+          ∙ paste-suc a.to.now 0 a.from.now l.i 0 (omega (arith, c.requires.1)) (omega (arith, c.requires.0))
           ∙ ap (paste a.to.now 0 a.from.now) (sym (add-one l.i)),
     )
 
 pub shape_of-to : goal.shape_of-to
 shape_of-to c =
-    let st = c in
     let l = c.loop-i in
-    long st.args.from.now st.args.to.now l.to st.args.n l.i l.invariant.0 st.requires.0 st.requires.1 l.invariant.1
+    long c.args.from.now c.args.to.now l.to c.args.n l.i l.invariant.0 c.requires.0 c.requires.1 l.invariant.1
 
 pub returns : goal.returns
 returns c =

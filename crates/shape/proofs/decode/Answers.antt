@@ -6,14 +6,11 @@ use Rattle.shape.proofs.decode.Goals as goal
 
 pub returns-then-number-ne0 : goal.returns-then-number-ne0
 returns-then-number-ne0 c =
-    let tests = c in
-    decode-refused _ _ tests.resolve-s.ensures _ _ _ _ tests.decode_number-number.ensures c.if-number-ne0.true c.answer.ensures
+    decode-refused _ _ c.resolve-s.ensures _ _ _ _ c.decode_number-number.ensures c.if-number-ne0.true c.answer.ensures
 
 pub write_indices-requires : goal.write_indices-requires
 write_indices-requires c = (let q = decode-accepted _ _ _ _ c.decode_number-number.ensures c.if-number-ne0.false in (q.0, q.1.0, q.1.1.0))
 
 pub returns : goal.returns
 returns c =
-    let passed = c in
-    let tests = passed in
-    decode-written _ _ tests.resolve-s.ensures _ _ _ _ tests.decode_number-number.ensures _ passed.if-number-ne0.false c.write_indices.ensures c.answer-2.ensures
+    decode-written _ _ c.resolve-s.ensures _ _ _ _ c.decode_number-number.ensures _ c.if-number-ne0.false c.write_indices.ensures c.answer-2.ensures

@@ -10,26 +10,21 @@ use Rattle.shape.proofs.plan.Goals as goal
 
 pub returns-then-r-ne0 : goal.returns-then-r-ne0
 returns-then-r-ne0 c =
-    let tests = c in
-    plan-refused _ _ tests.resolve-s.ensures _ _ _ tests.plan_answer-r.ensures.0 c.if-r-ne0.true
+    plan-refused _ _ c.resolve-s.ensures _ _ _ c.plan_answer-r.ensures.0 c.if-r-ne0.true
 
 pub copy_front-requires : goal.copy_front-requires
 copy_front-requires c =
-    let passed = c in
-    let tests = passed in
-    let q = plan-accepted _ _ _ _ tests.plan_answer-r.ensures.0 passed.if-r-ne0.false in
-    let f = shape-facts tests.resolve-s.result q.0 in
-    let room : length tests.plan_answer-r.new.nodes ≡ 512 = tests.plan_answer-r.auto.nodes in
+    let q = plan-accepted _ _ _ _ c.plan_answer-r.ensures.0 c.if-r-ne0.false in
+    let f = shape-facts c.resolve-s.result q.0 in
+    let room : length c.plan_answer-r.new.nodes ≡ 512 = c.plan_answer-r.auto.nodes in
     let list = q.1.1.0 in
     let within = q.3 in
     (omega arith, omega arith)
 
 pub returns : goal.returns
 returns c =
-    let passed = c in
-    let tests = passed in
-    let answer = tests.plan_answer-r.ensures in
-    let q = plan-accepted _ _ _ _ answer.0 passed.if-r-ne0.false in
-    let f = shape-facts tests.resolve-s.result q.0 in
-    let listed = answer.1 passed.if-r-ne0.false (rw length-replicate (omega arith)) in
-    plan-written _ _ tests.resolve-s.ensures _ _ _ answer.0 _ _ passed.if-r-ne0.false q.2 listed c.copy_front.ensures
+    let answer = c.plan_answer-r.ensures in
+    let q = plan-accepted _ _ _ _ answer.0 c.if-r-ne0.false in
+    let f = shape-facts c.resolve-s.result q.0 in
+    let listed = answer.1 c.if-r-ne0.false (rw length-replicate (omega arith)) in
+    plan-written _ _ c.resolve-s.ensures _ _ _ answer.0 _ _ c.if-r-ne0.false q.2 listed c.copy_front.ensures

@@ -15,40 +15,33 @@ open_answer-r-requires c = refl
 
 pub returns-then-r-ne0 : goal.returns-then-r-ne0
 returns-then-r-ne0 c =
-    let tests = c in
-    refused _ _ tests.resolve-s.ensures _ _ _ _ _ tests.open_answer-r.ensures.0 c.if-r-ne0.true
+    refused _ _ c.resolve-s.ensures _ _ _ _ _ c.open_answer-r.ensures.0 c.if-r-ne0.true
 
 pub write_hidden-requires : goal.write_hidden-requires
 unfolding opening_bytes
 write_hidden-requires c =
-    let passed = c in
-    let p = plan-accepted _ _ _ _ passed.open_answer-r.ensures.0 passed.if-r-ne0.false in
+    let p = plan-accepted _ _ _ _ c.open_answer-r.ensures.0 c.if-r-ne0.false in
     let l = p.1 in
     let opening = l.1.1.1.0 in
     (p.0, l.0, l.1.1.0, omega arith)
 
 pub write_slots-requires : goal.write_slots-requires
 write_slots-requires c =
-    let hidden = c in
-    let passed = hidden in
-    let answer = passed.open_answer-r in
-    let p = plan-accepted _ _ _ _ answer.ensures.0 passed.if-r-ne0.false in
+    let answer = c.open_answer-r in
+    let p = plan-accepted _ _ _ _ answer.ensures.0 c.if-r-ne0.false in
     let l = p.1 in
     let f = shape-facts _ p.0 in
     let room : length answer.new.nodes ≡ 512 = answer.auto.nodes in
-    let front = answer.ensures.1 passed.if-r-ne0.false (rw length-replicate (omega arith)) in
+    let front = answer.ensures.1 c.if-r-ne0.false (rw length-replicate (omega arith)) in
     let within = p.3 in
     let low = in_tree _ _ _ _ p.2 front p.0 in
-    record { s_value = (p.0, l.1.0, hidden.write_hidden.auto.out ∙ l.1.1.1.0); n_le_t = (omega arith, omega arith, λ m h. low m (omega arith)) }
+    record { s_value = (p.0, l.1.0, c.write_hidden.auto.out ∙ l.1.1.1.0); n_le_t = (omega arith, omega arith, λ m h. low m (omega arith)) }
 
 pub returns : goal.returns
 returns c =
-    let hidden = c in
-    let passed = hidden in
-    let tests = passed in
-    let answer = tests.open_answer-r.ensures in
-    let p = plan-accepted _ _ _ _ answer.0 passed.if-r-ne0.false in
+    let answer = c.open_answer-r.ensures in
+    let p = plan-accepted _ _ _ _ answer.0 c.if-r-ne0.false in
     let f = shape-facts _ p.0 in
-    let front = answer.1 passed.if-r-ne0.false (rw length-replicate (omega arith)) in
-    let made = c.write_slots.ensures ∙ opening_of_lem _ _ _ _ p.2 front _ _ _ hidden.write_hidden.ensures in
-    written _ _ tests.resolve-s.ensures _ _ _ _ _ answer.0 _ passed.if-r-ne0.false made
+    let front = answer.1 c.if-r-ne0.false (rw length-replicate (omega arith)) in
+    let made = c.write_slots.ensures ∙ opening_of_lem _ _ _ _ p.2 front _ _ _ c.write_hidden.ensures in
+    written _ _ c.resolve-s.ensures _ _ _ _ _ answer.0 _ c.if-r-ne0.false made

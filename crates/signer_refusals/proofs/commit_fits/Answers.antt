@@ -5,12 +5,11 @@ use Rattle.signer_refusals.proofs.commit_fits.Goals as goal
 
 pub returns : goal.returns
 returns c =
-    let made = c in
     rw (
-      made.node_bytes-node.ensures.0,
-      made.hash_bytes-hash.ensures.0,
-      made.tree_bytes-tree.ensures.0,
-      made.leaf_commitments_bytes-lcs.ensures.0,
-      made.matrix_bytes-v.ensures.0,
-      made.corrections_bytes-corrections.ensures.0,
+      c.node_bytes-node.ensures.0,
+      c.hash_bytes-hash.ensures.0,
+      c.tree_bytes-tree.ensures.0,
+      c.leaf_commitments_bytes-lcs.ensures.0,
+      c.matrix_bytes-v.ensures.0,
+      c.corrections_bytes-corrections.ensures.0,
     ) refl

@@ -11,12 +11,10 @@ returns-then-first-ne0 c =
 
 pub challenge_answer-requires : goal.challenge_answer-requires
 challenge_answer-requires c =
-    let first = c in
-    let q = sizes-passed _ _ _ first.open_number-first.ensures c.if-first-ne0.false in
-    (q.0, sym first.requires ∙ q.1.0)
+    let q = sizes-passed _ _ _ c.open_number-first.ensures c.if-first-ne0.false in
+    (q.0, sym c.requires ∙ q.1.0)
 
 pub returns : goal.returns
 returns c =
     let answer = c.challenge_answer.ensures in
-    let first = c in
-    (challenge-decides _ _ _ first.open_number-first.ensures _ _ c.if-first-ne0.false answer.0, answer.1)
+    (challenge-decides _ _ _ c.open_number-first.ensures _ _ c.if-first-ne0.false answer.0, answer.1)

@@ -7,5 +7,4 @@ use Rattle.signer_refusals.proofs.open_fits.Goals as goal
 pub returns : goal.returns
 unfolding node_bytes challenge_bytes
 returns c =
-    let made = c in
-    rw (made.node_bytes-node.ensures.0, made.tree_bytes-tree.ensures.0, made.leaf_commitments_bytes-lcs.ensures.0, made.opening_bytes-opening.ensures.0) refl
+    rw (c.node_bytes-node.ensures.0, c.tree_bytes-tree.ensures.0, c.leaf_commitments_bytes-lcs.ensures.0, c.opening_bytes-opening.ensures.0) refl

@@ -19,23 +19,20 @@ use Rattle.signer_vectors.proofs.convert.Goals as goal
 
 pub overflow_sub-last : goal.overflow_sub-last
 overflow_sub-last c =
-    let start = c in
-    (let z = deep start.args.g.shape start.args.i c.depth_of.result start.requires.lent.0.job.shape c.depth_of.ensures.0 in omega arith)
+    (let z = deep c.args.g.shape c.args.i c.depth_of.result c.requires.lent.0.job.shape c.depth_of.ensures.0 in omega arith)
 
 pub overflow_mul-last : goal.overflow_mul-last
 overflow_mul-last c =
-    let start = c in
     let d = c.depth_of in
-    let g = start.args.g in
-    let job = start.requires.lent.0.job in
-    let m : g.stretch.width * (d.result - 1) ≤ 8192 * 11 = mul-le-mul (width_small g.stretch job.row) (height-small g.shape start.args.i d.result job.shape d.ensures.0) in
+    let g = c.args.g in
+    let job = c.requires.lent.0.job in
+    let m : g.stretch.width * (d.result - 1) ≤ 8192 * 11 = mul-le-mul (width_small g.stretch job.row) (height-small g.shape c.args.i d.result job.shape d.ensures.0) in
     omega arith
 
 pub add_half-requires : goal.add_half-requires
 add_half-requires c =
-    let start = c in
-    let g = start.args in
-    let p = start.requires in
+    let g = c.args in
+    let p = c.requires in
     let ok = p.lent.0.job.shape in
     let n = c.entry_count-n in
     let clear = c.clear_from in
@@ -43,18 +40,16 @@ add_half-requires c =
 
 pub add_part-requires : goal.add_part-requires
 add_part-requires c =
-    let start = c in
-    let b = start.args.g.stretch.width in
+    let b = c.args.g.stretch.width in
     let l = last_end _ _ _ c.add_half.ensures.running.size in
     let at = ap (λ (d : ℕ). b * (d - 1)) c.depth_of.ensures.0 in
-    let total = start.requires.lent.3 in
+    let total = c.requires.lent.3 in
     omega arith
 
 pub add_half-requires-2 : goal.add_half-requires-2
 add_half-requires-2 c =
-    let start = c in
-    let g = start.args in
-    let p = start.requires in
+    let g = c.args in
+    let p = c.requires in
     let ok = p.lent.0.job.shape in
     let n = c.entry_count-n in
     let made = c.add_half.ensures in
@@ -62,11 +57,10 @@ add_half-requires-2 c =
 
 pub add_part-requires-2 : goal.add_part-requires-2
 add_part-requires-2 c =
-    let start = c in
-    let b = start.args.g.stretch.width in
+    let b = c.args.g.stretch.width in
     let l = last_end _ _ _ c.add_half-2.ensures.running.size in
     let at = ap (λ (d : ℕ). b * (d - 1)) c.depth_of.ensures.0 in
-    let total = c.add_part.ensures.size ∙ start.requires.lent.3 in
+    let total = c.add_part.ensures.size ∙ c.requires.lent.3 in
     omega arith
 
 pub rate_bytes-requires : goal.rate_bytes-requires
@@ -77,13 +71,12 @@ shape_of-cols c = c.add_half-2.auto.cols ∙ c.add_half.auto.cols ∙ c.clear_fr
 
 pub returns : goal.returns
 returns c =
-    let start = c in
-    let g = start.args in
+    let g = c.args in
     let s = g.g.shape in
     let i = g.i in
     let b = g.g.stretch.width in
     let tree = g.tree.now in
-    let p = start.requires in
+    let p = c.requires in
     let ok = p.lent.0.job.shape in
     let n = c.entry_count-n in
     let d = c.depth_of in

@@ -27,15 +27,14 @@ correction-end c =
 
 correction-small : (c : In-loop-j) → c.args.g.stretch.width * c.loop-j.j + c.args.g.stretch.width ≤ 8192 * 32 + 8192
 correction-small c =
-    let start = c in
-    let f = shape-facts start.args.g.shape start.requires.lent.0.job.shape in
-    let w = width_small start.args.g.stretch start.requires.lent.0.job.row in
+    let f = shape-facts c.args.g.shape c.requires.lent.0.job.shape in
+    let w = width_small c.args.g.stretch c.requires.lent.0.job.row in
     let j : c.loop-j.j ≤ 32 = (let t = c.loop-j-test.true in let m = f.tau-max in omega arith) in
-    let m = mul-limit start.args.g.stretch.width c.loop-j.j 8192 32 w j in
+    let m = mul-limit c.args.g.stretch.width c.loop-j.j 8192 32 w j in
     omega arith
 
 pub overflow_sub-others : goal.overflow_sub-others
-overflow_sub-others c = (let start = c in let f = shape-facts start.args.g.shape start.requires.lent.0.job.shape in omega arith)
+overflow_sub-others c = (let f = shape-facts c.args.g.shape c.requires.lent.0.job.shape in omega arith)
 
 pub next_vector-requires : goal.next_vector-requires
 next_vector-requires c =
@@ -46,17 +45,16 @@ next_vector-requires c =
 pub loop-j-init : goal.loop-j-init
 unfolding concat
 loop-j-init c =
-    let start = c in
-    let g = start.args.g in
-    let p = start.requires in
+    let g = c.args.g in
+    let p = c.requires in
     let first = c.next_vector in (
       omega arith,
       first.auto.lcs ∙ p.lent.2,
       first.auto.v ∙ p.u_len.1,
       p.u_len.2,
       first.auto.hashes ∙ p.lent.3,
-      u-of g.shape g.stretch.width (entry_byte g start.args.tree.now) _ _ _ c.clear_from.ensures first.ensures.total_after,
-      ap (λ (m : ℕ). take m start.args.corrections.now) (mul-zero g.stretch.width),
+      u-of g.shape g.stretch.width (entry_byte g c.args.tree.now) _ _ _ c.clear_from.ensures first.ensures.total_after,
+      ap (λ (m : ℕ). take m c.args.corrections.now) (mul-zero g.stretch.width),
       first.ensures.before (before-none _ _ _ _ _ _ _),
     )
 
@@ -79,11 +77,10 @@ slice_bounds-next_vector-end c = (let e = correction-end (goal.at.slice_bounds-n
 
 pub next_vector-requires-in-loop-j : goal.next_vector-requires-in-loop-j
 next_vector-requires-in-loop-j c =
-    let start = c in
-    let p = start.requires in
+    let p = c.requires in
     let l = c.loop-j in
-    let b = start.args.g.stretch.width in
-    let below : l.j + 1 < start.args.g.shape.tau = (let t = c.loop-j-test.true in omega arith) in
+    let b = c.args.g.stretch.width in
+    let below : l.j + 1 < c.args.g.shape.tau = (let t = c.loop-j-test.true in omega arith) in
     record { lent = (p.lent.0, p.lent.1, below, lent (b * l.j) (b * l.j + b) b _ refl (let e = correction-end (goal.at.next_vector-requires-in-loop-j c).In-loop-j in let k = c.copy_part.auto.dst in omega arith)); lcs_len = (l.invariant.1, l.invariant.2, l.invariant.4) }
 
 pub overflow_step-j : goal.overflow_step-j
@@ -94,8 +91,7 @@ loop-j-smaller c = let t = c.loop-j-test.true in omega arith
 
 pub loop-j-preserved : goal.loop-j-preserved
 loop-j-preserved c =
-    let start = c in
-    let g = start.args.g in
+    let g = c.args.g in
     let l = c.loop-j in
     let copy = c.copy_part in
     let made = c.next_vector-in-loop-j in
@@ -106,7 +102,7 @@ loop-j-preserved c =
       omega (arith, copy.auto.dst, l.invariant.3),
       made.auto.hashes ∙ l.invariant.4,
       l.invariant.5,
-      correction-more g.shape g.stretch.width (entry_byte g start.args.tree.now) l.j _ l.corrections copy.new.dst _ _ l.invariant.5 (correction-end (goal.at.loop-j-preserved c).In-loop-j) (u-length _ _ _ _ l.invariant.5) copy.ensures made.ensures.total_after l.invariant.6,
+      correction-more g.shape g.stretch.width (entry_byte g c.args.tree.now) l.j _ l.corrections copy.new.dst _ _ l.invariant.5 (correction-end (goal.at.loop-j-preserved c).In-loop-j) (u-length _ _ _ _ l.invariant.5) copy.ensures made.ensures.total_after l.invariant.6,
       made.ensures.before l.invariant.7,
     )
 
@@ -115,8 +111,7 @@ columns_from-used-requires c = (let job = c.requires.lent.0.job in (job.shape, l
 
 pub clear_from-requires-2 : goal.clear_from-requires-2
 clear_from-requires-2 c =
-    let start = c in
-    let k = all-columns start.args.g.shape start.requires.lent.0.job.shape start.args.g.stretch.width in
+    let k = all-columns c.args.g.shape c.requires.lent.0.job.shape c.args.g.stretch.width in
     let used = c.columns_from-used.ensures in
     let long = c.loop-j.invariant.2 in
     omega arith
@@ -139,16 +134,15 @@ shape_of-hashes c = c.loop-j.invariant.4 ∙ sym c.requires.lent.3
 pub returns : goal.returns
 unfolding corrections_bytes corrections
 returns c =
-    let start = c in
-    let g = start.args.g in
+    let g = c.args.g in
     let s = g.shape in
     let b = g.stretch.width in
-    let row = entry_byte g start.args.tree.now in
+    let row = entry_byte g c.args.tree.now in
     let l = c.loop-j in
     let out = c.loop-j-test.false in
-    let f = shape-facts s start.requires.lent.0.job.shape in
+    let f = shape-facts s c.requires.lent.0.job.shape in
     let rest : l.j ≡ s.tau - 1 = (let i = l.invariant.0 in omega arith) in
     let all : l.j + 1 ≡ s.tau = omega arith in
-    let lc = entry_commitment g start.args.tree.now in
-    let whole = before-all s b lc (signer_column s b row) start.requires.lent.0.job.shape _ l.lcs l.v _ l.hashes l.invariant.1 l.invariant.2 l.invariant.4 c.columns_from-used.ensures c.clear_from-2.ensures
+    let lc = entry_commitment g c.args.tree.now in
+    let whole = before-all s b lc (signer_column s b row) c.requires.lent.0.job.shape _ l.lcs l.v _ l.hashes l.invariant.1 l.invariant.2 l.invariant.4 c.columns_from-used.ensures c.clear_from-2.ensures
     (subst (λ (n : ℕ). Before s b lc (signer_column s b row) n l.lcs l.v l.hashes) all l.invariant.7) in record { lcs_after = whole.0; u_after = l.invariant.5; v_after = whole.1; corrections_after = put_all (λ i. correction s b row (i + 1)) (b * (s.tau - 1)) (s.tau - 1) l.corrections l.invariant.3 (subst (λ (n : ℕ). take (b * n) l.corrections ≡ concat n (λ i. correction s b row (i + 1))) rest l.invariant.6); hashes_after = whole.2 }

@@ -11,11 +11,9 @@ returns-then-r-ne0 c = challenge-stops _ _ _ _ c.challenge_answer-r.ensures.0 c.
 
 pub slots_clear-requires : goal.slots_clear-requires
 slots_clear-requires c =
-    let answer = c in
-    let p = answer.requires in
-    (p.0, (challenge-passed _ _ _ answer.challenge_answer-r.ensures.0 c.if-r-ne0.false).1, p.2)
+    let p = c.requires in
+    (p.0, (challenge-passed _ _ _ c.challenge_answer-r.ensures.0 c.if-r-ne0.false).1, p.2)
 
 pub returns : goal.returns
 returns c =
-    let passed = c in
-    slots-decide _ _ _ _ passed.challenge_answer-r.ensures.0 _ _ _ passed.if-r-ne0.false c.slots_clear.ensures c.refusal.ensures c.answer.ensures
+    slots-decide _ _ _ _ c.challenge_answer-r.ensures.0 _ _ _ c.if-r-ne0.false c.slots_clear.ensures c.refusal.ensures c.answer.ensures

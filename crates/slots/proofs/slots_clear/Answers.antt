@@ -12,41 +12,37 @@ use Rattle.slots.proofs.slots_clear.Goals as goal
 
 pub overflow_mul-first : goal.overflow_mul-first
 overflow_mul-first c =
-    let start = c in
-    let f = shape-facts start.args.s start.requires.0 in
+    let f = shape-facts c.args.s c.requires.0 in
     let v = c.commitment_bytes in
-    let m = mul-limit v.result start.args.s.tau 96 32 v.ensures.1 f.tau-max in
+    let m = mul-limit v.result c.args.s.tau 96 32 v.ensures.1 f.tau-max in
     omega arith
 
 pub overflow_mul-node_bytes : goal.overflow_mul-node_bytes
 overflow_mul-node_bytes c =
-    let start = c in
-    let f = shape-facts start.args.s start.requires.0 in
+    let f = shape-facts c.args.s c.requires.0 in
     let w = c.node_bytes in
-    let m = mul-limit w.result start.args.n 32 512 w.ensures.2 (omega (arith, start.requires.1)) in
+    let m = mul-limit w.result c.args.n 32 512 w.ensures.2 (omega (arith, c.requires.1)) in
     omega arith
 
 pub overflow_add-first : goal.overflow_add-first
 overflow_add-first c =
-    let start = c in
-    let f = shape-facts start.args.s start.requires.0 in
+    let f = shape-facts c.args.s c.requires.0 in
     let v = c.commitment_bytes in
     let w = c.node_bytes in
-    let k = mul-limit v.result start.args.s.tau 96 32 v.ensures.1 f.tau-max in
-    let m = mul-limit w.result start.args.n 32 512 w.ensures.2 (omega (arith, start.requires.1)) in
+    let k = mul-limit v.result c.args.s.tau 96 32 v.ensures.1 f.tau-max in
+    let m = mul-limit w.result c.args.n 32 512 w.ensures.2 (omega (arith, c.requires.1)) in
     omega arith
 
 pub is_clear_from-requires : goal.is_clear_from-requires
 unfolding opening_bytes
 is_clear_from-requires c =
-    let start = c in
-    let s = start.args.s in
+    let s = c.args.s in
     let v = c.commitment_bytes in
     let w = c.node_bytes in
     let front : v.result * s.tau ≡ leaf_commitment_bytes s * s.tau = ap (λ (n : ℕ). n * s.tau) v.ensures.0 in
     let slots : w.result * s.t ≡ node_bytes s * s.t = ap (λ (n : ℕ). n * s.t) w.ensures.0 in
-    let used = mul-rest w.result start.args.n s.t start.requires.1 in
-    let long = start.requires.2 in
+    let used = mul-rest w.result c.args.n s.t c.requires.1 in
+    let long = c.requires.2 in
     omega arith
 
 pub returns : goal.returns

@@ -77,10 +77,9 @@ slice_bounds-key_schedule-end c = (let p = places c.args.n c.args.a (length c.ar
 
 pub key_schedule-keys-requires : goal.key_schedule-keys-requires
 key_schedule-keys-requires c =
-    let start = c in
-    let p = start.requires.le_n in
+    let p = c.requires.le_n in
     let e = key-size c.args.n c.args.a c.args.tree.now (places c.args.n c.args.a (length c.args.tree.now) c.requires.le_n) in
-    record { sbox_table = start.requires.sbox_table; in_bounds = (omega (arith, p.0), omega (arith, p.1), ap (λ (m : ℕ). m % 8) e ∙ p.2) }
+    record { sbox_table = c.requires.sbox_table; in_bounds = (omega (arith, p.0), omega (arith, p.1), ap (λ (m : ℕ). m % 8) e ∙ p.2) }
 
 pub overflow_cast-x : goal.overflow_cast-x
 overflow_cast-x c = (let p = places c.args.n c.args.a (length c.args.tree.now) c.requires.le_n in omega arith)
@@ -99,17 +98,15 @@ slice_bounds-fill_keyed-end c = (let p = places c.args.n c.args.a (length c.args
 
 pub fill_keyed-requires : goal.fill_keyed-requires
 fill_keyed-requires c =
-    let start = c in
-    let p = start.requires.le_n in
+    let p = c.requires.le_n in
     let e = two_size c.args.n c.args.a c.args.tree.now (places c.args.n c.args.a (length c.args.tree.now) c.requires.le_n) in
-    let n = start.args.n in
-    record { sbox_table = start.requires.sbox_table; le_rounds = (omega (arith, p.0), omega (arith, p.1), omega (arith, p.2), omega (arith, p.1)) }
+    let n = c.args.n in
+    record { sbox_table = c.requires.sbox_table; le_rounds = (omega (arith, p.0), omega (arith, p.1), omega (arith, p.2), omega (arith, p.1)) }
 
 pub returns : goal.returns
 unfolding prg children
 returns c = λ s ok e.
-    let start = c in
-    let g = start.args in
+    let g = c.args in
     let x = g.tree.now in
     let n = g.n in
     let a = g.a in

@@ -36,8 +36,7 @@ small n d h k = mul-limit n d 32 12 h k
 pub loop-l-init : goal.loop-l-init
 unfolding concat
 loop-l-init c =
-    let start = c in
-    (omega arith, start.requires.5, ap (λ (m : ℕ). take m start.args.out.now) (mul-zero start.args.n))
+    (omega arith, c.requires.5, ap (λ (m : ℕ). take m c.args.out.now) (mul-zero c.args.n))
 
 pub overflow_mul-n : goal.overflow_mul-n
 overflow_mul-n c = let p = at (goal.at.overflow_mul-n c).After-sibling-node in omega arith
@@ -53,8 +52,7 @@ copy_part-requires c =
 
 pub loop-l-preserved : goal.loop-l-preserved
 loop-l-preserved c =
-    let start = c in
-    let g = start.args in
+    let g = c.args in
     let l = c.loop-l in
     let a = c.sibling-node in
     let p = at (goal.at.loop-l-preserved c).After-sibling-node in
@@ -75,20 +73,18 @@ overflow_mul-n-3 c = let p = c.requires in let m = small _ _ p.0 p.1 in omega ar
 
 pub copy_part-requires-2 : goal.copy_part-requires-2
 copy_part-requires-2 c =
-    let start = c in
     let long = c.loop-l.invariant.1 in
-    let own = start.requires.4 in
+    let own = c.requires.4 in
     (omega arith, omega arith)
 
 pub returns : goal.returns
 returns c =
-    let start = c in
-    let g = start.args in
+    let g = c.args in
     let l = c.loop-l in
     let last : l.l ≡ g.d = omega arith in
     let long = l.invariant.1 in
     let front : take (g.n * g.d) l.out ≡ concat g.d (shown g.n g.d g.j g.tree.now) = rw last at l.invariant.2 in
     let rest = drop_of_length-le l.out {i = g.n * g.d + 2 * g.n} (omega arith) in
     c.copy_part-2.ensures
-    ∙ ap₂ (λ (x y : List ℕ). x ++ (y ++ drop (g.n * g.d + 2 * g.n) l.out)) front (part-whole g.hidden.now (2 * g.n) start.requires.4)
+    ∙ ap₂ (λ (x y : List ℕ). x ++ (y ++ drop (g.n * g.d + 2 * g.n) l.out)) front (part-whole g.hidden.now (2 * g.n) c.requires.4)
     ∙ ap (λ (x : List ℕ). concat g.d (shown g.n g.d g.j g.tree.now) ++ x) (ap (λ (x : List ℕ). g.hidden.now ++ x) rest ∙ append-nil g.hidden.now)

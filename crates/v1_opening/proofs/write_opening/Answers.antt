@@ -14,10 +14,9 @@ use Rattle.v1_opening.proofs.write_opening.Goals as goal
 pub loop-i-init : goal.loop-i-init
 unfolding concat decommitment_from
 loop-i-init c =
-    let start = c in
-    let s = start.args.s in
+    let s = c.args.s in
     let none : node_bytes s * (first_bit s 0 + 2 * 0) ≡ 0 = ap (λ (m : ℕ). node_bytes s * m) (let e = bit-none s in let z : first_bit s 0 + 2 * 0 ≡ 0 = omega arith in z) ∙ mul-zero (node_bytes s) in
-    (omega arith, start.requires.trees_len.2, ap (λ (m : ℕ). take m start.args.opening.now) none)
+    (omega arith, c.requires.trees_len.2, ap (λ (m : ℕ). take m c.args.opening.now) none)
 
 pub write_vector-requires : goal.write_vector-requires
 write_vector-requires c =
@@ -33,13 +32,12 @@ loop-i-preserved c =
 pub returns : goal.returns
 unfolding opening1_of decommitment_from opening1_bytes
 returns c =
-    let start = c in
-    let g = start.args in
+    let g = c.args in
     let s = g.s in
     let l = c.loop-i in
-    let w = start.requires.s_value.1 in
+    let w = c.requires.s_value.1 in
     let last : l.i ≡ s.tau = omega arith in
     let bits = ap (first_bit s) last in
-    let all = bit-all s (shape-facts s start.requires.s_value.0) in
+    let all = bit-all s (shape-facts s c.requires.s_value.0) in
     let long : length l.opening ≡ node_bytes s * (first_bit s l.i + 2 * l.i) = l.invariant.1 ∙ ap (λ (m : ℕ). node_bytes s * m) (let z : level s + 2 * s.tau ≡ first_bit s l.i + 2 * l.i = omega arith in z) in
     sym (take_all (decommitment_from s l.i) l.opening (omega arith)) ∙ l.invariant.2 ∙ ap (λ (m : ℕ). concat m (decommitment s g.ch.now g.trees.now g.lcs.now)) last

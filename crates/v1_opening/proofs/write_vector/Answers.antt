@@ -15,20 +15,17 @@ tree : (c : After-first_node-2) →
     (c.node_bytes-n.result * c.first_node-2.result ≡ c.node_bytes-n.result * c.first_node.result + c.node_bytes-n.result * (2 * 2 ^ c.depth_of-d.result - 1))
     × (c.node_bytes-n.result * c.first_node-2.result ≤ length c.args.trees.now)
 tree c =
-    let start = c in
-    tree-part start.args.s start.requires.s_value.0 start.args.i start.requires.s_value.3 _ _ _ _ _ c.node_bytes-n.ensures.0 c.depth_of-d.ensures.0 c.first_node.ensures.0 c.first_node-2.ensures.0 start.requires.trees_len.0
+    tree-part c.args.s c.requires.s_value.0 c.args.i c.requires.s_value.3 _ _ _ _ _ c.node_bytes-n.ensures.0 c.depth_of-d.ensures.0 c.first_node.ensures.0 c.first_node-2.ensures.0 c.requires.trees_len.0
 
 leaf : (c : After-entry_of) → 2 * c.node_bytes-n.result * c.entry_of.result + 2 * c.node_bytes-n.result ≤ length c.args.lcs.now
 leaf c =
-    let start = c in
-    leaf-part start.args.s _ _ _ c.node_bytes-n.ensures.0 c.entry_of.ensures.1 start.requires.trees_len.1
+    leaf-part c.args.s _ _ _ c.node_bytes-n.ensures.0 c.entry_of.ensures.1 c.requires.trees_len.1
 
 place : (c : After-decommitment_from-end) →
     (c.decommitment_from-at.result + (c.node_bytes-n.result * c.depth_of-d.result + 2 * c.node_bytes-n.result) ≡ c.decommitment_from-end.result)
     × (c.decommitment_from-end.result ≤ length c.args.opening.now)
 place c =
-    let start = c in
-    opening-part start.args.s start.requires.s_value.0 start.args.i start.requires.s_value.3 _ _ _ _ _ start.requires.s_value.1 c.node_bytes-n.ensures.0 c.depth_of-d.ensures.0 c.decommitment_from-at.ensures.0 c.decommitment_from-end.ensures.0 start.requires.trees_len.2
+    opening-part c.args.s c.requires.s_value.0 c.args.i c.requires.s_value.3 _ _ _ _ _ c.requires.s_value.1 c.node_bytes-n.ensures.0 c.depth_of-d.ensures.0 c.decommitment_from-at.ensures.0 c.decommitment_from-end.ensures.0 c.requires.trees_len.2
 
 pub overflow_mul-from : goal.overflow_mul-from
 overflow_mul-from c =
@@ -69,8 +66,7 @@ slice_bounds-write_decommitment-end-2 c = (place (goal.at.slice_bounds-write_dec
 pub write_decommitment-requires : goal.write_decommitment-requires
 unfolding entries_of
 write_decommitment-requires c =
-    let start = c in
-    let g = start.args in
+    let g = c.args in
     let n = c.node_bytes-n in
     let d = c.depth_of-d in
     let j = c.hidden_index-j in
@@ -82,8 +78,7 @@ write_decommitment-requires c =
 
 pub returns : goal.returns
 returns c = λ front.
-    let start = c in
-    let g = start.args in
+    let g = c.args in
     let n = c.node_bytes-n in
     let d = c.depth_of-d in
     let j = c.hidden_index-j in
@@ -96,6 +91,6 @@ returns c = λ front.
     let made = c.write_decommitment in
     let y = made.new.out in
     let size = n.result * d.result + 2 * n.result in
-    let is = made.ensures ∙ is-decommitment g.s start.requires.s_value.0 g.i start.requires.s_value.3 g.ch.now g.trees.now g.lcs.now start.requires.trees_len.0 n.result d.result j.result a.result b.result e.result n.ensures.0 d.ensures.0 j.ensures.0 a.ensures.0 b.ensures.0 e.ensures.0 in
+    let is = made.ensures ∙ is-decommitment g.s c.requires.s_value.0 g.i c.requires.s_value.3 g.ch.now g.trees.now g.lcs.now c.requires.trees_len.0 n.result d.result j.result a.result b.result e.result n.ensures.0 d.ensures.0 j.ensures.0 a.ensures.0 b.ensures.0 e.ensures.0 in
     put-behind (decommitment g.s g.ch.now g.trees.now g.lcs.now) at.result _ size _ g.i g.opening.now y _ at.ensures.0 (p.0 ∙ end.ensures.0) (let q = p.1 in let r = p.0 in omega arith)
     (made.auto.out ∙ lent _ _ _ g.opening.now (sym p.0) p.1) is front

@@ -6,7 +6,7 @@ use Rattle.planning_laws.proofs.Forest.{entries-before}
 use Rattle.v1_rules.proofs.first_node.Goals as goal
 
 pub overflow_sub-result : goal.overflow_sub-result
-overflow_sub-result c = (let a = c in let e = entries-before a.args.s (shape-facts a.args.s a.requires.0) a.args.i in let r = c.first_entry.ensures in omega arith)
+overflow_sub-result c = (let e = entries-before c.args.s (shape-facts c.args.s c.requires.0) c.args.i in let r = c.first_entry.ensures in omega arith)
 
 pub returns : goal.returns
 unfolding first_node

@@ -8,8 +8,7 @@ use Rattle.v1_rules.proofs.leaf_node.Goals as goal
 pub returns : goal.returns
 unfolding leaf_in
 returns c =
-    let a = c in
-    let l = forest-leaf a.args.s (shape-facts a.args.s a.requires.0) a.args.i a.args.j a.requires.1 a.requires.2 in
+    let l = forest-leaf c.args.s (shape-facts c.args.s c.requires.0) c.args.i c.args.j c.requires.1 c.requires.2 in
     let r = c.first_node.ensures in
     let n = c.entry_count.ensures in
     (omega arith, omega arith, omega arith)

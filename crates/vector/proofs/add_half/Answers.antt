@@ -19,15 +19,14 @@ use Rattle.vector.proofs.add_half.Goals.{After-depth_of-h, In-loop-x}
 
 small : (c : After-depth_of-h) → (1 ≤ c.depth_of-h.result) × (c.depth_of-h.result - 1 ≤ 11) × (c.args.g.stretch.width * (c.depth_of-h.result - 1) ≤ 8192 * 11)
 small c =
-    let start = c in
-    let s = start.args.g.shape in
-    let i = start.args.run.vector in
-    let ok = start.requires.lent.0.job.shape in
+    let s = c.args.g.shape in
+    let i = c.args.run.vector in
+    let ok = c.requires.lent.0.job.shape in
     let low = height-small s i c.depth_of-h.result ok c.depth_of-h.ensures.0 in
-    (deep s i c.depth_of-h.result ok c.depth_of-h.ensures.0, low, mul-le-mul (width_small start.args.g.stretch start.requires.lent.0.job.row) low)
+    (deep s i c.depth_of-h.result ok c.depth_of-h.ensures.0, low, mul-le-mul (width_small c.args.g.stretch c.requires.lent.0.job.row) low)
 
 marked : (c : After-depth_of-h) → Marked c.args.g.stretch.width (c.depth_of-h.result - 1) c.args.run.from (numbered c.args.g c.args.tree.now c.args.run) c.args.cols.now
-marked c = (let start = c in let g = start.args in subst (λ (d : ℕ). Marked g.g.stretch.width (d - 1) g.run.from (numbered g.g g.tree.now g.run) g.cols.now) (sym c.depth_of-h.ensures.0) start.requires.commitments_len.1)
+marked c = (let g = c.args in subst (λ (d : ℕ). Marked g.g.stretch.width (d - 1) g.run.from (numbered g.g g.tree.now g.run) g.cols.now) (sym c.depth_of-h.ensures.0) c.requires.commitments_len.1)
 
 behind : (c : After-depth_of-h) → c.args.g.stretch.width * (c.depth_of-h.result - 1) + c.args.g.stretch.width ≤ length c.args.cols.now
 behind c = last_end _ _ _ (marked c).size
@@ -36,13 +35,12 @@ entry : (c : In-loop-x) → (bit_xor c.loop-x.x c.args.run.mask < entries_of c.a
     × (c.commitment_bytes-w.result * bit_xor c.loop-x.x c.args.run.mask + c.commitment_bytes-w.result ≤ c.commitment_bytes-w.result * entries_of c.args.g.shape c.args.run.vector)
     × (c.commitment_bytes-w.result * entries_of c.args.g.shape c.args.run.vector ≤ 393216)
 entry c =
-    let start = c in
-    let g = start.args in
-    let inside = start.requires.lent.2 in
+    let g = c.args in
+    let inside = c.requires.lent.2 in
     let w = c.commitment_bytes-w in
     let x = c.loop-x.x in
     let below : x < entries_of g.g.shape g.run.vector = (let t = c.loop-x-test.true in let a = inside.all in omega arith) in
-    let e = entry-end g.g.shape w.result g.run.vector x g.run.mask start.requires.lent.0.job.shape w.ensures.1 below inside.mask in
+    let e = entry-end g.g.shape w.result g.run.vector x g.run.mask c.requires.lent.0.job.shape w.ensures.1 below inside.mask in
     (entry_in g.g.shape g.run.vector x g.run.mask below inside.mask, e.0, e.1)
 
 -- the parts lent end within their buffers
@@ -68,14 +66,13 @@ clear_from-requires c = (let e = behind (goal.at.clear_from-requires c).After-de
 
 pub loop-x-init : goal.loop-x-init
 loop-x-init c =
-    let start = c in
-    let g = start.args in
+    let g = c.args in
     let d = (goal.at.loop-x-init c).After-depth_of-h in
     let clear = c.clear_from in
     let at = g.g.stretch.width * (d.depth_of-h.result - 1) in
     let room : at ≤ length g.cols.now = (let e = behind d in omega arith) in (
       omega arith,
-      start.requires.lent.2.order,
+      c.requires.lent.2.order,
       written_none _ (entry_commitment g.g g.tree.now g.run.vector) g.run.mask g.run.from g.commitments.now,
       running-start g.g.stretch.width (d.depth_of-h.result - 1) (numbered g.g g.tree.now g.run) g.run.from g.cols.now clear.new.out (marked d) clear.auto.out
           (cleared-before at _ g.cols.now clear.new.out room clear.ensures) (cleared-behind at _ g.cols.now clear.new.out room clear.ensures),
@@ -101,13 +98,12 @@ slice_bounds-add_entry-end-in-loop-x c = column-end (goal.at.slice_bounds-add_en
 
 pub add_entry-requires : goal.add_entry-requires
 add_entry-requires c =
-    let start = c in
-    let g = start.args in
+    let g = c.args in
     let w = c.commitment_bytes-w in
     let l = c.loop-x in
     let at = w.result * bit_xor l.x g.run.mask in
     let last = g.g.stretch.width * (c.depth_of-h.result - 1) in record {
-      lent = (start.requires.lent.0, start.requires.lent.1, start.requires.lent.2.vector, (entry (goal.at.add_entry-requires c).In-loop-x).0);
+      lent = (c.requires.lent.0, c.requires.lent.1, c.requires.lent.2.vector, (entry (goal.at.add_entry-requires c).In-loop-x).0);
       commitment_len = (
         lent at (at + w.result) w.result l.commitments refl (commitment-end (goal.at.add_entry-requires c).In-loop-x) ∙ w.ensures.0,
         lent last (last + g.g.stretch.width) g.g.stretch.width l.cols refl (column-end (goal.at.add_entry-requires c).In-loop-x),
@@ -123,8 +119,7 @@ add_last-requires c =
 
 pub loop-x-preserved : goal.loop-x-preserved
 loop-x-preserved c =
-    let start = c in
-    let g = start.args in
+    let g = c.args in
     let x = g.tree.now in
     let w = c.commitment_bytes-w in
     let h = c.depth_of-h.result - 1 in
@@ -136,7 +131,7 @@ loop-x-preserved c =
       omega arith,
       omega arith,
       written-more w.result (entry_commitment g.g x g.run.vector) g.run.mask g.run.from l.x g.commitments.now l.commitments _ room
-          (ap length made.ensures.commitment_after ∙ entry_length g.g x g.run.vector _ start.requires.lent.0.job.kind ∙ sym w.ensures.0) from made.ensures.commitment_after l.invariant.2,
+          (ap length made.ensures.commitment_after ∙ entry_length g.g x g.run.vector _ c.requires.lent.0.job.kind ∙ sym w.ensures.0) from made.ensures.commitment_after l.invariant.2,
       running-next g.g.stretch.width h (numbered g.g x g.run) g.run.from l.x l.cols _ _ l.invariant.3
           (xored-lent (g.g.stretch.width * h) g.g.stretch.width _ l.cols _ (column-end (goal.at.loop-x-preserved c).In-loop-x) made.ensures.xored) c.add_last.ensures,
     )

@@ -37,14 +37,12 @@ overflow_mul-a c =
 
 pub leaf_tweak-tweak-requires : goal.leaf_tweak-tweak-requires
 leaf_tweak-tweak-requires c =
-    let start = c in
-    let f = shape-facts start.args.g.shape start.requires.lent.0.job.shape in
+    let f = shape-facts c.args.g.shape c.requires.lent.0.job.shape in
     (omega arith, omega arith)
 
 pub overflow_add-row : goal.overflow_add-row
 overflow_add-row c =
-    let start = c in
-    let f = shape-facts start.args.g.shape start.requires.lent.0.job.shape in
+    let f = shape-facts c.args.g.shape c.requires.lent.0.job.shape in
     omega arith
 
 pub overflow_add-a : goal.overflow_add-a
@@ -59,38 +57,35 @@ slice_bounds-commit_leaf-end c = leaf-end (goal.at.slice_bounds-commit_leaf-end 
 
 pub commit_leaf-requires : goal.commit_leaf-requires
 commit_leaf-requires c =
-    let start = c in
     let n = c.node_bytes-n in
     let a = n.result * c.leaf_node.result in
-    let lent-tree = start.requires.lent.0 in
-    record { sbox_table = lent-tree.table; s_value = (lent-tree.job.shape, lent-tree.job.kind, lent a (a + n.result) n.result start.args.tree.now refl (leaf-end (goal.at.commit_leaf-requires c).After-leaf_node) ∙ n.ensures.0, start.requires.seed_len.0, start.requires.seed_len.1) }
+    let lent-tree = c.requires.lent.0 in
+    record { sbox_table = lent-tree.table; s_value = (lent-tree.job.shape, lent-tree.job.kind, lent a (a + n.result) n.result c.args.tree.now refl (leaf-end (goal.at.commit_leaf-requires c).After-leaf_node) ∙ n.ensures.0, c.requires.seed_len.0, c.requires.seed_len.1) }
 
 pub add_row-requires : goal.add_row-requires
 add_row-requires c =
-    let start = c in
-    let job = start.requires.lent.0.job in
-    let w = widths start.args.g.shape (shape-facts start.args.g.shape job.shape) in
+    let job = c.requires.lent.0.job in
+    let w = widths c.args.g.shape (shape-facts c.args.g.shape job.shape) in
     let e = seed-size (goal.at.add_row-requires c).After-commit_leaf in
-    record { sbox_table = start.requires.lent.0.table; in_bounds = (omega (arith, w.node-min), omega (arith, w.node-max), ap (λ (n : ℕ). n % 8) e ∙ w.node-eight, omega (arith, job.row, start.requires.seed_len.2)) }
+    record { sbox_table = c.requires.lent.0.table; in_bounds = (omega (arith, w.node-min), omega (arith, w.node-max), ap (λ (n : ℕ). n % 8) e ∙ w.node-eight, omega (arith, job.row, c.requires.seed_len.2)) }
 
 pub returns : goal.returns
 unfolding node_at entry_commitment entry_byte
 returns c =
-    let start = c in
-    let i = start.args.i in
-    let g = start.args.g in
+    let i = c.args.i in
+    let g = c.args.g in
     let s = g.shape in
-    let x = start.args.tree.now in
+    let x = c.args.tree.now in
     let leaf = c.leaf_node in
     let n = c.node_bytes-n in
     let tweak = c.leaf_tweak-tweak.ensures ∙ ap (λ (n : ℕ). i + n - 1) c.leaf_count.ensures.0 in
-    let made = c.commit_leaf.ensures i tweak start.requires.lent.1 in
+    let made = c.commit_leaf.ensures i tweak c.requires.lent.1 in
     let a = n.result * leaf.result in
     let key = ap (part x a) (part-size a n.result) ∙ ap₂ (λ (w k : ℕ). part x (w * k) w) n.ensures.0 leaf.ensures.0 in
-    let w = widths s (shape-facts s start.requires.lent.0.job.shape) in
+    let w = widths s (shape-facts s c.requires.lent.0.job.shape) in
     let seed = made.0 ∙ ap (leaf_seed_of g.version s g.iv i) key in
     let byte = ap (λ (k : List ℕ). byte_of (key_words s) k (nonce_of g (i + 2 ^ 31))) seed ∙ sym (prg-byte g.version s _ g.iv (i + 2 ^ 31)) in record {
       commitment_after = made.1 ∙ ap (leaf_commitment_of g.version s g.iv i) key;
-      xored = subst (λ (f : ℕ → ℕ). Xored 0 (length start.args.sum.now) (λ p. f (g.stretch.first + p)) start.args.sum.now c.add_row.new.sum) byte
+      xored = subst (λ (f : ℕ → ℕ). Xored 0 (length c.args.sum.now) (λ p. f (g.stretch.first + p)) c.args.sum.now c.add_row.new.sum) byte
           (c.add_row.ensures (key_words s) (seed-size (goal.at.returns c).After-commit_leaf ∙ w.node-words));
     }

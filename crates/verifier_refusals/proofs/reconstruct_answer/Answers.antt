@@ -9,9 +9,8 @@ returns-then-first-ne0 c = reconstruct-stops _ _ _ _ _ c.reconstruct_number-firs
 
 pub opening_answer-requires : goal.opening_answer-requires
 opening_answer-requires c =
-    let first = c in
-    let q = lengths-passed _ _ _ _ _ first.reconstruct_number-first.ensures c.if-first-ne0.false in
-    let p = first.requires in
+    let q = lengths-passed _ _ _ _ _ c.reconstruct_number-first.ensures c.if-first-ne0.false in
+    let p = c.requires in
     (q.0, sym p.0 ∙ q.2.1.0, sym p.1 ∙ q.2.1.1.1.0)
 
 pub returns : goal.returns

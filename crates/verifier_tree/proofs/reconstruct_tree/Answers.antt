@@ -17,18 +17,16 @@ slots-from v tau s e = ap (λ (n : ℕ). n * tau) e
 
 pub overflow_mul-first : goal.overflow_mul-first
 overflow_mul-first c =
-    let st = c in
-    let f = shape-facts st.args.s st.requires.s_value.0 in
+    let f = shape-facts c.args.s c.requires.s_value.0 in
     let v = c.commitment_bytes in
-    let m = mul-limit v.result st.args.s.tau 96 32 v.ensures.1 f.tau-max in
+    let m = mul-limit v.result c.args.s.tau 96 32 v.ensures.1 f.tau-max in
     omega arith
 
 pub slice_bounds-write_tree-end : goal.slice_bounds-write_tree-end
 unfolding zeros
 slice_bounds-write_tree-end c =
-    let st = c in
     let w = c.covered_nodes-m in
-    let k = few-nodes st.args.s (shape-facts st.args.s st.requires.s_value.0) st.args.ch.now st.args.n st.requires.s_value.2 st.requires.s_value.3 in
+    let k = few-nodes c.args.s (shape-facts c.args.s c.requires.s_value.0) c.args.ch.now c.args.n c.requires.s_value.2 c.requires.s_value.3 in
     let z = length-zeros 576 in
     omega (arith, w.ensures.0, w.auto.out)
 
@@ -43,9 +41,8 @@ slice_bounds-write_tree-start-2 c = (let h = c.requires.s_value.4 in let e = slo
 pub write_tree-requires : goal.write_tree-requires
 unfolding tree_bytes opening_bytes zeros
 write_tree-requires c =
-    let st = c in
-    let g = st.args in
-    let p = st.requires in
+    let g = c.args in
+    let p = c.requires in
     let o = g.opening.now in
     let f = shape-facts g.s p.s_value.0 in
     let ws = widths g.s f in
@@ -67,9 +64,8 @@ write_tree-requires c =
 pub returns : goal.returns
 unfolding zeros
 returns c =
-    let st = c in
-    let g = st.args in
-    let p = st.requires in
+    let g = c.args in
+    let p = c.requires in
     let f = shape-facts g.s p.s_value.0 in
     let w = c.node_bytes-w in
     let nodes = c.covered_nodes-m in

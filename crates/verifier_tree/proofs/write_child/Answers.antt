@@ -11,8 +11,7 @@ use Rattle.verifier_tree.proofs.write_child.Goals as goal
 
 pub overflow_sub-result : goal.overflow_sub-result
 overflow_sub-result c =
-    let st = c in
-    let z = node-passed st.args.nodes.now st.args.c st.requires.0 (sym c.is_next.ensures ∙ c.if-is_next.true) in
+    let z = node-passed c.args.nodes.now c.args.c c.requires.0 (sym c.is_next.ensures ∙ c.if-is_next.true) in
     omega arith
 
 pub returns-then-is_next : goal.returns-then-is_next

@@ -28,23 +28,21 @@ slice_bounds-clear_from-end c = root-end c.args.w c.args.l _ c.requires.le_l.6 c
 
 pub overflow_sub-p : goal.overflow_sub-p
 overflow_sub-p c =
-    let st = c in
-    let nodes = st.args.nodes.now in
-    let z = node-passed nodes 0 st.requires.le_l.1 st.requires.le_l.2 in
+    let nodes = c.args.nodes.now in
+    let z = node-passed nodes 0 c.requires.le_l.1 c.requires.le_l.2 in
     let y = all_after nodes in
     omega arith
 
 pub loop-a-init : goal.loop-a-init
 unfolding expand_tree revealed_from read_before
 loop-a-init c =
-    let st = c in
-    let d = st.args.tree.now in
-    let nodes = st.args.nodes.now in
-    let w = st.args.w in (
+    let d = c.args.tree.now in
+    let nodes = c.args.nodes.now in
+    let w = c.args.w in (
       omega arith,
       search rules,
-      (sym (all_after nodes), (let z = node-passed nodes 0 st.requires.le_l.1 st.requires.le_l.2 in let y = all_after nodes in omega arith), refl),
-      λ s ok e. ap (take (w * 1)) (put-zeros-front w d c.clear_from.new.out (root-end w st.args.l _ st.requires.le_l.6 st.requires.le_l.0) c.clear_from.ensures)
+      (sym (all_after nodes), (let z = node-passed nodes 0 c.requires.le_l.1 c.requires.le_l.2 in let y = all_after nodes in omega arith), refl),
+      λ s ok e. ap (take (w * 1)) (put-zeros-front w d c.clear_from.new.out (root-end w c.args.l _ c.requires.le_l.6 c.requires.le_l.0) c.clear_from.ensures)
           ∙ take_at (zeros w) (drop w d) (w * 1) (length-zeros w ∙ sym (mul-one w)),
     )
 

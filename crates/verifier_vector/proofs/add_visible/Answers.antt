@@ -34,9 +34,8 @@ copy_part-requires c = (let w = c.commitment_bytes-w.ensures.0 in let h = c.requ
 
 pub add_half-requires : goal.add_half-requires
 add_half-requires c =
-    let start = c in
-    let g = start.args in
-    let p = start.requires in
+    let g = c.args in
+    let p = c.requires in
     let ok = p.lent.0.job.shape in
     let n = c.entry_count-n in
     let clear = c.clear_from in (
@@ -49,9 +48,8 @@ add_half-requires c =
 
 pub add_half-requires-2 : goal.add_half-requires-2
 add_half-requires-2 c =
-    let start = c in
-    let g = start.args in
-    let p = start.requires in
+    let g = c.args in
+    let p = c.requires in
     let ok = p.lent.0.job.shape in
     let n = c.entry_count-n in
     let made = c.add_half.ensures in (
@@ -62,12 +60,11 @@ add_half-requires-2 c =
 pub returns : goal.returns
 unfolding entries_of
 returns c =
-    let start = c in
-    let g = start.args in
+    let g = c.args in
     let s = g.g.shape in
     let i = g.x.vector in
     let d = g.x.entry in
-    let p = start.requires in
+    let p = c.requires in
     let ok = p.lent.0.job.shape in
     let n = c.entry_count-n in
     let half = half_is s i (depth_of s i) ok refl n.result n.ensures.0 in

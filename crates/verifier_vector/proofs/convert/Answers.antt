@@ -26,21 +26,19 @@ add_visible-requires c =
 
 pub hash_vector-requires : goal.hash_vector-requires
 hash_vector-requires c =
-    let start = c in
-    let g = start.args in
+    let g = c.args in
     let w = c.commitment_bytes-w in
     let r = c.rate_bytes-r.ensures in
     let n = entries_of g.g.shape g.x.vector in
-    let long = c.add_visible.auto.lcs ∙ start.requires.lcs_len.0 in
+    let long = c.add_visible.auto.lcs ∙ c.requires.lcs_len.0 in
     let all : w.result * n ≡ leaf_commitment_bytes g.g.shape * n = ap (λ (m : ℕ). m * n) w.ensures.0 in
-    (r.1, r.2, block-end w.result g.x.entry n _ start.requires.lent.3 (omega arith))
+    (r.1, r.2, block-end w.result g.x.entry n _ c.requires.lent.3 (omega arith))
 
 pub returns : goal.returns
 unfolding faest vector_commitments vector_hash given_commitment uncorrected
 returns c ch opening hd hh =
-    let start = c in
-    let g = start.args in
-    let p = start.requires in
+    let g = c.args in
+    let p = c.requires in
     let s = g.g.shape in
     let i = g.x.vector in
     let d = g.x.entry in
