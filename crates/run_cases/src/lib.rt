@@ -61,7 +61,8 @@ fn run_other(
 // The end of the line that begins at a place of a text: its line feed, or the end of the text.
 fn line_end(file: &[u8], at: usize) -> usize
     requires { at ≤ length file.now }
-    ensures { result ≤ length file.now }
+    ensures behind { at ≤ result }
+    ensures within { result ≤ length file.now }
 {
     for i in at..file.len() {
         if file[i] == b'\n' {
