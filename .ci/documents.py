@@ -1,10 +1,10 @@
 #!/usr/bin/env python3
 """The documents: what they name is there.
 
-Every link leads to a file, and to a heading where it names one. Every path in backquotes that begins with a folder of the repository is there. ARCHITECTURE.md has
-a row for every crate and for nothing else. Every must-fail edit that CONTRACTS.md names is there. The files of TRUST.md have as many lines as it says. No line but those of
-tables and of code is longer than 160 characters. Then the script tests itself: each of EDITS, made in a copy of the documents in memory, must fail for the reason
-beside it.
+Every link leads to a file, and to a heading where it names one. Every path in backquotes that begins with a folder of the repository is there.
+ARCHITECTURE.md has a row for every crate and for nothing else. Every must-fail edit that CONTRACTS.md names is there. The files of TRUST.md have as many
+lines as it says. No line but those of tables and of code is longer than 160 characters. Then the script tests itself: each of EDITS, made in a copy of the
+documents in memory, must fail for the reason beside it.
 """
 import re
 import sys

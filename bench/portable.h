@@ -1,4 +1,5 @@
-/* The portable C, and the functions of crate bench_exports that are measured beside it. A slice is its pointer and its length. The calls are those of rachnoel.h. */
+/* The portable C, and the functions of crate bench_exports that are measured beside it. A slice is its pointer and its length. The calls are those of
+   rachnoel.h. */
 #include <stddef.h>
 #include <stdint.h>
 

@@ -1,5 +1,5 @@
-/* The generator, a row, and commit, open and reconstruct in portable C, by the methods of the proved crates. The shape is good, and every buffer has its length.
-   Compiled twice: SIDE(name) is c_name over AES by bytes and t_name over AES by tables. */
+/* The generator, a row, and commit, open and reconstruct in portable C, by the methods of the proved crates. The shape is good, and every buffer has its
+   length. Compiled twice: SIDE(name) is c_name over AES by bytes and t_name over AES by tables. */
 #include "portable.h"
 #include "portable_shape.h"
 #include "portable_xor.h"

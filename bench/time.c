@@ -1,4 +1,5 @@
-/* Times the proved primitives, plan and the tree beside portable C: the same work in turn, the least of many short runs of each, and whether the results agree. */
+/* Times the proved primitives, plan and the tree beside portable C: the same work in turn, the least of many short runs of each, and whether the results
+   agree. */
 #include "portable.h"
 #include <stdio.h>
 #include <string.h>

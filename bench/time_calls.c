@@ -1,5 +1,6 @@
-/* Times commit, open and reconstruct, in the archives that a licensee links, beside portable C with AES by bytes and by tables, at FAEST-128s and FAEST-128f with rows of 1,680 bits: the same work in turn, the least processor time of
-   many runs of each side, and whether the results agree. A call is longer than what the system gives a process at a time, hence the processor's time. */
+/* Times commit, open and reconstruct, in the archives that a licensee links, beside portable C with AES by bytes and by tables, at FAEST-128s and FAEST-128f
+   with rows of 1,680 bits: the same work in turn, the least processor time of many runs of each side, and whether the results agree. A call is longer than
+   what the system gives a process at a time, hence the processor's time. */
 #include "portable.h"
 #include <rachnoel.h>
 #include <stdio.h>

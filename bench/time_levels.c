@@ -1,5 +1,6 @@
-/* Times commit and reconstruct at sets of each level and kind, at their row lengths, in the archives that a licensee links: the least processor time of some runs, the sets in turn. Beside commit stands what the set's
-   AES blocks times rounds predict from FAEST-128f. The commitment that reconstruct gives is compared with commit's; that the bytes are right hosts/ tests. */
+/* Times commit and reconstruct at sets of each level and kind, at their row lengths, in the archives that a licensee links: the least processor time of some
+   runs, the sets in turn. Beside commit stands what the set's AES blocks times rounds predict from FAEST-128f. The commitment that reconstruct gives is
+   compared with commit's; that the bytes are right hosts/ tests. */
 #include "../hosts/c/shape.h"
 #include <rachnoel.h>
 #include <stdio.h>

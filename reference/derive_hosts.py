@@ -80,8 +80,8 @@ def lines():
 
 
 def lines_of_version_1():
-    """The calls on the root 00 01 .., the IV 10 11 .. and the first challenge drawn. A tree has 2 n - 1 nodes where it has n leaves; the way to a hidden leaf has
-    one for each bit of the challenge, and the root."""
+    """The calls on the root 00 01 .., the IV 10 11 .. and the first challenge drawn. A tree has 2 n - 1 nodes where it has n leaves; the way to a hidden leaf
+    has one for each bit of the challenge, and the root."""
     for name, tau, k, level, row_bits in SETS_OF_VERSION_1:
         n = level // 8
         committed = tau, k, 0, 1, level, 0, row_bits, bytes(range(n)).hex(), bytes(range(16, 32)).hex()

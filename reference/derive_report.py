@@ -1,6 +1,6 @@
 #!/usr/bin/env python3
-"""What the second implementation reports of the input of crates/report_openings, its file `stdin`, and of those of crates/report_runs, which are made here anew by the lines
-`record(..)`, `set(..)`, `repeat(..)` and `run(..)` of its main.rt, one after another.
+"""What the second implementation reports of the input of crates/report_openings, its file `stdin`, and of those of crates/report_runs, which are made here
+anew by the lines `record(..)`, `set(..)`, `repeat(..)` and `run(..)` of its main.rt, one after another.
 
     derive_report.py            compares it with the file `stdout` of each, and `stdin` with the records below; exit status 1 where one differs
     derive_report.py --write    writes these files

@@ -1,5 +1,5 @@
-"""Standard input that cannot be read and standard output that cannot be written: what the programs must do then. For run_list_nodes.py, run_list_challenges.py and
-run_report_openings.py."""
+"""Standard input that cannot be read and standard output that cannot be written: what the programs must do then. For run_list_nodes.py,
+run_list_challenges.py and run_report_openings.py."""
 import os
 import signal
 import subprocess

@@ -1,8 +1,8 @@
 #!/usr/bin/env python3
 """What crates/run_round_trip prints, derived by the second implementation. Usage: round_trip.py STDOUT-FILE [--write]
 
-The shapes, row lengths, stretches and challenges are those of crates/run_round_trip/src/main.rt. `reference roundtrip` ends with 0 only where every column of Q is
-what the challenge asks for.
+The shapes, row lengths, stretches and challenges are those of crates/run_round_trip/src/main.rt. `reference roundtrip` ends with 0 only where every column of
+Q is what the challenge asks for.
 """
 import os
 import subprocess

@@ -4,10 +4,10 @@ implementation lists.
 
     run_list_challenges.py [PROGRAM]      exit status 1 at the first input where the two differ
 
-A good line has at most 24 bytes, of which the program reads 64: the inputs end before, at and behind both numbers. No contract can say how many bytes a program reads, nor
-that it writes each piece, so this is run, also on shapes of every number of bits up to 16, on damaged inputs, and on an input that arrives in parts. The longest outputs must
-take less than a second of the processor. Last, inputs that cannot be read, and outputs that cannot be written, or not to their end: the program must say so on standard
-error, and not write on.
+A good line has at most 24 bytes, of which the program reads 64: the inputs end before, at and behind both numbers. No contract can say how many bytes a
+program reads, nor that it writes each piece, so this is run, also on shapes of every number of bits up to 16, on damaged inputs, and on an input that arrives
+in parts. The longest outputs must take less than a second of the processor. Last, inputs that cannot be read, and outputs that cannot be written, or not to
+their end: the program must say so on standard error, and not write on.
 """
 import random
 import resource

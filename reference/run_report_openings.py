@@ -4,9 +4,9 @@ implementation reports.
 
     run_report_openings.py [PROGRAM]      exit status 1 at the first input where the two differ
 
-The inputs are records of every version and level, of shapes with few and with many nodes, drawn one after another, whole, damaged and cut; and lengths next to 65,536 bytes,
-of which the program reads one more. No contract can say how many bytes a program reads, so that is run here, also with an input that arrives in parts.
-Last, inputs that cannot be read and outputs that cannot be written: the program must say so on standard error.
+The inputs are records of every version and level, of shapes with few and with many nodes, drawn one after another, whole, damaged and cut; and lengths next
+to 65,536 bytes, of which the program reads one more. No contract can say how many bytes a program reads, so that is run here, also with an input that arrives
+in parts. Last, inputs that cannot be read and outputs that cannot be written: the program must say so on standard error.
 """
 import random
 import subprocess

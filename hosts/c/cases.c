@@ -1,5 +1,5 @@
-/* Runs a file of cases, as crates/vectors and its like have in stdin, on the archives, and prints what the Rattle programs and reference/ print of it. reference/README.md has the forms.
- * A line that cannot be read is said, and ends the run with status 1. Usage: cases < FILE */
+/* Runs a file of cases, as crates/vectors and its like have in stdin, on the archives, and prints what the Rattle programs and reference/ print of it.
+ * reference/README.md has the forms. A line that cannot be read is said, and ends the run with status 1. Usage: cases < FILE */
 #define _POSIX_C_SOURCE 200809L
 #include "shake.h"
 #include "shape.h"

@@ -135,7 +135,8 @@ static int read_names(options *o)
 
 /* ---- one file */
 
-/* No record is longer than RACHNOEL_RECORD_MOST. Of a longer file one byte more is read: it is refused as the whole file is, for its front or for bytes left over. */
+/* No record is longer than RACHNOEL_RECORD_MOST. Of a longer file one byte more is read: it is refused as the whole file is, for its front or for bytes left
+   over. */
 static uint8_t record[RACHNOEL_RECORD_MOST + 1];
 
 /* 0, or the error; - is standard input, but no name from standard input is */

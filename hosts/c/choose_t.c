@@ -1,4 +1,5 @@
-/* choose_t: how many challenges of a shape need at most T nodes. docs/TOOLS.md has its page. Each count is that of the proved call plan; nothing here is secret. */
+/* choose_t: how many challenges of a shape need at most T nodes. docs/TOOLS.md has its page. Each count is that of the proved call plan; nothing here is
+   secret. */
 #include <rachnoel.h>
 
 #include "counts.h"

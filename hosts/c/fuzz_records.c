@@ -1,6 +1,8 @@
-/* Records that are changed at random, from a fixed seed, and checked: each buffer lies between forbidden pages, the record may not be written, and the buffers hold a fill.
+/* Records that are changed at random, from a fixed seed, and checked: each buffer lies between forbidden pages, the record may not be written, and the
+ * buffers hold a fill.
  *   fuzz_records SEED COUNT STREAM
- * prints a line for each check, one in three for named sets alone: number, count slice and a digest of the work buffers. What was checked goes to STREAM, for `reference checks`, which must print the same. */
+ * prints a line for each check, one in three for named sets alone: number, count slice and a digest of the work buffers. What was checked goes to STREAM, for
+ * `reference checks`, which must print the same. */
 #define _DEFAULT_SOURCE
 #include <rachnoel.h>
 

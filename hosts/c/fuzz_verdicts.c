@@ -1,6 +1,7 @@
 /* What check_record says of records that are changed at random, from a fixed seed, under names of random bytes: the C that reads them, --explain and --json.
  *   fuzz_verdicts SEED COUNT
- * prints the JSON line of each, for json_lines.py, and ends with status 1 where a line is not as it must be. Each record lies in a block of its own length: the sanitizers see a read behind it. */
+ * prints the JSON line of each, for json_lines.py, and ends with status 1 where a line is not as it must be. Each record lies in a block of its own length:
+ * the sanitizers see a read behind it. */
 #define _POSIX_C_SOURCE 200809L
 #include "changes.h"
 #include "names.h"

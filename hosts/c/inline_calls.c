@@ -1,6 +1,6 @@
-/* The inline calls of the header. Each is made with every slice right; then with each slice in turn too short by a byte, too long, of no bytes, of 2^63 bytes, and
- * NULL with and without a length. What a wrong slice is answered with is its number; nothing is written then, the count neither, and the slice is named. Every slice
- * lies between forbidden pages. Then what an empty slice, the words of the refusals, and the limit of a row must be. */
+/* The inline calls of the header. Each is made with every slice right; then with each slice in turn too short by a byte, too long, of no bytes, of 2^63
+ * bytes, and NULL with and without a length. What a wrong slice is answered with is its number; nothing is written then, the count neither, and the slice is
+ * named. Every slice lies between forbidden pages. Then what an empty slice, the words of the refusals, and the limit of a row must be. */
 #define _DEFAULT_SOURCE
 #include <rachnoel.h>
 

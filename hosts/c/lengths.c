@@ -1,5 +1,5 @@
-/* The header's rule for shapes and its lengths are those of the calls, and the eleven numbers of the proved call rachnoel_lengths: every tau, k and w up to past
- * their limits, with several t, levels and kinds. */
+/* The header's rule for shapes and its lengths are those of the calls, and the eleven numbers of the proved call rachnoel_lengths: every tau, k and w up to
+ * past their limits, with several t, levels and kinds. */
 #include <rachnoel.h>
 
 #include "shape.h"
@@ -24,7 +24,8 @@ static void expect(int right, const char *what, shape s)
     }
 }
 
-/* reconstruct with a grinding bit set: 4 where every length is right. Of the seven buffers whose length the shape or the row decides, the one numbered `longer` has a byte more. */
+/* reconstruct with a grinding bit set: 4 where every length is right. Of the seven buffers whose length the shape or the row decides, the one numbered
+   `longer` has a byte more. */
 static size_t reconstruct(shape s, const rachnoel_sizes *n, int longer)
 {
     return rachnoel_reconstruct(NUMBERS(s), 8 * ROW, iv, sizeof iv, challenge, n->node + (longer == 6), corrections, n->corrections + (longer == 1), opening,

@@ -1,4 +1,5 @@
-/* make_record: a signing record to try things with. docs/TOOLS.md has its page. It is for those who sign: it holds both what makes a commitment and the writer. */
+/* make_record: a signing record to try things with. docs/TOOLS.md has its page. It is for those who sign: it holds both what makes a commitment and the
+   writer. */
 #include <rachnoel.h>
 
 #include "names.h"

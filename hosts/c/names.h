@@ -5,7 +5,8 @@
 #include <stdint.h>
 #include <stdio.h>
 
-/* the bytes of the UTF-8 character at p, a string, and the character; 0 where there is none: a wrong byte, a longer form than needed, a surrogate, above U+10FFFF */
+/* the bytes of the UTF-8 character at p, a string, and the character; 0 where there is none: a wrong byte, a longer form than needed, a surrogate, above
+   U+10FFFF */
 static inline size_t utf8(const unsigned char *p, uint32_t *character)
 {
     static const uint32_t least[] = {0, 0, 0x80, 0x800, 0x10000};
@@ -29,7 +30,8 @@ static inline int is_control(uint32_t c)
     return c < 0x20 || (c >= 0x7f && c < 0xa0) || c == 0x200e || c == 0x200f || (c >= 0x202a && c <= 0x202e) || (c >= 0x2066 && c <= 0x2069);
 }
 
-/* the name, each byte of a control and each byte that is no UTF-8 as \xNN; with json a quote and a backslash have one before them. 1 where a byte was written as \xNN */
+/* the name, each byte of a control and each byte that is no UTF-8 as \xNN; with json a quote and a backslash have one before them. 1 where a byte was written
+   as \xNN */
 static inline int put_escaped(FILE *out, const char *name, int json)
 {
     const unsigned char *p = (const unsigned char *)name;

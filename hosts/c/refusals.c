@@ -1,5 +1,5 @@
-/* Every refusal of every call, alone and where later ones would apply too. Each buffer lies between two pages that may not be touched, flush with the first in one
- * run and with the last in another; inputs may not be written. Buffers that must stay are filled before; the runs fill with different bytes. */
+/* Every refusal of every call, alone and where later ones would apply too. Each buffer lies between two pages that may not be touched, flush with the first
+ * in one run and with the last in another; inputs may not be written. Buffers that must stay are filled before; the runs fill with different bytes. */
 #define _DEFAULT_SOURCE
 #include <rachnoel.h>
 

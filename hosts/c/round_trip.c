@@ -1,5 +1,5 @@
-/* A host of both halves, to copy from: commits, draws challenges until open answers 0, reconstructs and compares; then does the same by stretches of the rows. A line
- * for each, and exit status 1 where something does not come out as it must. The challenges come from a fixed sequence; a signer takes its own. */
+/* A host of both halves, to copy from: commits, draws challenges until open answers 0, reconstructs and compares; then does the same by stretches of the
+ * rows. A line for each, and exit status 1 where something does not come out as it must. The challenges come from a fixed sequence; a signer takes its own. */
 #include <rachnoel.h>
 
 #include <stdio.h>

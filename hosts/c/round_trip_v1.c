@@ -1,6 +1,6 @@
-/* The three calls of version 1 at its six sets: commits, opens, reconstructs and compares. Of each call it prints number, count and buffers as `reference` prints
- * them, of the comparison a few lines; exit status 1 where something does not come out as it must. Each buffer ends before a page that may not be touched, and
- * what a call reads may not be written. The challenge comes from a fixed sequence; a signer takes its own. */
+/* The three calls of version 1 at its six sets: commits, opens, reconstructs and compares. Of each call it prints number, count and buffers as `reference`
+ * prints them, of the comparison a few lines; exit status 1 where something does not come out as it must. Each buffer ends before a page that may not be
+ * touched, and what a call reads may not be written. The challenge comes from a fixed sequence; a signer takes its own. */
 #define _DEFAULT_SOURCE
 #include <rachnoel.h>
 

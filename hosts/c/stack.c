@@ -1,5 +1,6 @@
-/* How deep the stack of each exported call goes, at the largest trees, at the smallest and at the sets of each level: the call runs on a stack of the size that the header names, with a
- * forbidden page beneath, which is filled before and looked through after. Prints the deepest of each call; exit status 1 where a call was refused or went beyond seven eighths. */
+/* How deep the stack of each exported call goes, at the largest trees, at the smallest and at the sets of each level: the call runs on a stack of the size
+ * that the header names, with a forbidden page beneath, which is filled before and looked through after. Prints the deepest of each call; exit status 1 where
+ * a call was refused or went beyond seven eighths. */
 #define _DEFAULT_SOURCE
 #include <rachnoel.h>
 

@@ -1,7 +1,7 @@
 /* What commit leaves on the stack, and what rachnoel_wipe_stack leaves of it. Each run is on one and the same stack, which is painted before.
  *
- * First, two commits that differ in the root alone: the bytes of the stack that differ afterwards are made of secrets. There must be some, and behind the wipe none.
- * Second, the root, the seed of a leaf and a round key of it, laid where a frame of a call lies: a search must find them, and behind the wipe none.
+ * First, two commits that differ in the root alone: the bytes of the stack that differ afterwards are made of secrets. There must be some, and behind the
+ * wipe none. Second, the root, the seed of a leaf and a round key of it, laid where a frame of a call lies: a search must find them, and behind the wipe none.
  * With NO_WIPE defined nothing is wiped, and both fail. */
 #define _GNU_SOURCE
 #include <rachnoel.h>
@@ -31,7 +31,8 @@ __attribute__((noinline)) static void plant(void)
     }
 }
 
-/* a host with buffers in its own frame, whose last statement is the wipe: were it a jump, the frame would be gone, and its own bytes cleared in place of those below */
+/* a host with buffers in its own frame, whose last statement is the wipe: were it a jump, the frame would be gone, and its own bytes cleared in place of
+   those below */
 __attribute__((noinline)) static void work_in_large_frame(void)
 {
     volatile uint8_t own[2 * RACHNOEL_STACK];

@@ -895,8 +895,8 @@ RACHNOEL_APART static void rachnoel_clear_below_(void)
 }
 
 /* Clears RACHNOEL_STACK bytes below the caller's frame: where what is made of keys and seeds stays behind commit and open. So it is called from the function
- * that made that call, also as its last statement: the frame stays while the stack below it is cleared. It takes a few bytes more than it clears. Registers, the
- * host's own copies, and what a signal handler or a debugger saved are not reached. */
+ * that made that call, also as its last statement: the frame stays while the stack below it is cleared. It takes a few bytes more than it clears. Registers,
+ * the host's own copies, and what a signal handler or a debugger saved are not reached. */
 RACHNOEL_WITHIN static inline void rachnoel_wipe_stack(void)
 {
     rachnoel_clear_below_();
