@@ -1,6 +1,6 @@
 -- The hidden leaf commitment of a vector lies within an opening, of either version.
 use Prim.Native.Nat.{ℕ, ◌+◌, ◌*◌, ◌≤◌, ◌<◌}
-use mathlib.Core.Path.{◌≡◌, refl, sym, ap, ◌∙◌}
+use mathlib.Core.Path.{◌≡◌}
 use native.Mathlib.Nat.{mul-add, mul-le-mul, le_refl}
 use native.Mathlib.Omega.{arith}
 use Rattle.spec.specs.declared.Shape.{Shape}

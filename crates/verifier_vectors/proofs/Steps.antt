@@ -10,7 +10,7 @@ use lib.Bits.{bit_xor}
 use lib.ListN.{length, get_or, take, drop, length-append, take-append-drop}
 use lib.Seq.{length-take-le, drop_at, drop-drop}
 use Rattle.spec.specs.declared.Shape.{Shape}
-use Rattle.spec.specs.Bytes.{bit, part, tabulate, concat, zeros}
+use Rattle.spec.specs.Bytes.{bit, part, concat, zeros}
 use Rattle.spec.specs.Shapes.{depth_of, first_bit, hidden_index, shape_ok, matrix_bytes}
 use Rattle.spec.specs.Rows.{column_byte, matrix_of}
 use Rattle.spec.specs.Verifier.{correction_byte, verifier_column}

@@ -1,5 +1,4 @@
 -- Each buffer by what its callee ensures.
-use borrow.Author.Rules.{rules}
 use Prim.Native.Nat.{ℕ}
 use mathlib.Core.Path.{ap, ap₂, ◌∙◌}
 use mathlib.Core.List.{List}
@@ -24,7 +23,7 @@ reconstruct_tree-requires c =
     let start = c in
     let p = start.requires.s_value in
     let q = start.requires.iv_len in
-    (c.table-t.ensures, (p.0, q.1, p.2, p.3, q.3, start.requires.commitment_len.1))
+    record { sbox_table = c.table-t.ensures; s_value = (p.0, q.1, p.2, p.3, q.3, start.requires.commitment_len.1) }
 
 pub write_vectors-requires : goal.write_vectors-requires
 unfolding nodes_bytes opening_length
@@ -36,7 +35,7 @@ write_vectors-requires c =
     let o = start.requires.commitment_len in
     let keys = keys-same g.s _ _ _ c.load_iv-x.ensures c.hash_keys.ensures in
     let lent-tree = c.reconstruct_tree.auto.tree ∙ o.1 in
-    ((record { job = record { shape = p.0; kind = two_fits g.s; row = p.1 }; table = c.table-t.ensures; tree = lent-tree }, keys, q.1, q.3), (o.2, o.3, p.5))
+    record { lent = (record { job = record { shape = p.0; kind = two_fits g.s; row = p.1 }; table = c.table-t.ensures; tree = lent-tree }, keys, q.1, q.3); lcs_len = (o.2, o.3, p.5) }
 
 pub correct_vectors-requires : goal.correct_vectors-requires
 correct_vectors-requires c =
@@ -57,6 +56,6 @@ returns c =
     let made = vectors.ensures in
     let hash =
     c.h1.ensures ∙ ap (λ (r : ℕ). hash1 r vectors.new.hashes (length g.commitment.now)) c.rate_bytes-r.ensures.0
-    ∙ ap₂ (λ (m : List ℕ) (n : ℕ). hash1 (rate g.s) m n) made.1.1 start.requires.commitment_len.0 in
-    reconstruct-writes g.s g.z x.result g.ch.now g.corrections.now g.opening.now _ _ _ _ c.reconstruct_tree.ensures hash made.0 (c.correct_vectors.ensures _ made.1.0)
+    ∙ ap₂ (λ (m : List ℕ) (n : ℕ). hash1 (rate g.s) m n) made.hashes_after start.requires.commitment_len.0 in
+    reconstruct-writes g.s g.z x.result g.ch.now g.corrections.now g.opening.now _ _ _ _ c.reconstruct_tree.ensures hash made.lcs_after (c.correct_vectors.ensures _ made.q_after)
     ∙ ap (λ (i : List ℕ). reconstructed faest g.s g.z i g.ch.now g.corrections.now g.opening.now) x.ensures

@@ -1,7 +1,6 @@
-use borrow.Author.Rules.{rules}
 use mathlib.Core.Path.{◌≡◌, refl, sym, ap, ap₂, ◌∙◌}
 use mathlib.Core.List.{List}
-use Prim.Native.Nat.{ℕ, ◌+◌, ◌-◌, ◌*◌, ◌%◌, ◌≤◌}
+use Prim.Native.Nat.{ℕ, ◌+◌, ◌-◌, ◌*◌, ◌%◌}
 use native.Mathlib.Nat.{mul-zero}
 use native.Mathlib.Omega.{arith}
 use lib.ListN.{length, take}
@@ -19,17 +18,14 @@ use Rattle.planning_laws.proofs.Forest.{node-none, node-all}
 use Rattle.signer_forest.proofs.Places.{Placed, placed, lent, put-behind}
 use Rattle.signer_forest.proofs.grow_each.Invariants.{tree}
 use Rattle.signer_forest.proofs.grow_each.Goals as goal
+use Rattle.signer_forest.proofs.grow_each.Goals.{After-first_node}
 
 -- the places of the tree and of the root, where both are known
-module _ (c : goal.After-first-node) where
-  abbrev At : Type 0
-  At = Placed c.before.before.before.before.before.before.before.args.s c.before.before.before.loop.i c.before.before.before.before.node-bytes.result c.before.entry-count.result c.first-node.result (length c.before.before.before.loop.trees) (length c.before.before.before.before.before.before.before.args.roots.now)
-
-  at : At
-  at =
-      let start = c.before.before.before.before.before.before.before in
-      let l = c.before.before.before.loop in
-      placed start.args.s l.i _ _ _ _ _ start.requires.s_value.0 (omega arith) c.before.before.before.before.node-bytes.ensures.0 c.before.entry-count.ensures.0 c.first-node.ensures.0 l.invariant.1 start.requires.s_value.1
+at : (c : After-first_node) → Placed c.args.s c.loop-i.i c.node_bytes-n.result c.entry_count-inner.result c.first_node.result (length c.loop-i.trees) (length c.args.roots.now)
+at c =
+    let start = c in
+    let l = c.loop-i in
+    placed start.args.s l.i _ _ _ _ _ start.requires.s_value.0 (omega arith) c.node_bytes-n.ensures.0 c.entry_count-inner.ensures.0 c.first_node.ensures.0 l.invariant.1 start.requires.s_value.1
 
 -- what `grow_tree` writes is the tree of vector i
 grown : (s : Shape) (roots iv : List ℕ) (i n e m : ℕ) (y : List ℕ) → n ≡ node_bytes s → e ≡ entries_of s i → m ≡ n → y ≡ expand_tree n (part roots (n * i) m) (children faest1 s iv) (e - 1) → y ≡ tree s roots iv i
@@ -47,31 +43,31 @@ loop-i-init c =
     (omega arith, start.requires.s_value.2, ap (λ (m : ℕ). take m start.args.trees.now) none)
 
 pub overflow_mul-from : goal.overflow_mul-from
-overflow_mul-from c = let p = at c in omega arith
+overflow_mul-from c = let p = at (goal.at.overflow_mul-from c).After-first_node in omega arith
 
 pub overflow_mul-to : goal.overflow_mul-to
-overflow_mul-to c = let p = at c in omega arith
+overflow_mul-to c = let p = at (goal.at.overflow_mul-to c).After-first_node in omega arith
 
 pub overflow_add-to : goal.overflow_add-to
-overflow_add-to c = let p = at c in omega arith
+overflow_add-to c = let p = at (goal.at.overflow_add-to c).After-first_node in omega arith
 
 pub overflow_mul-to-in-loop-i : goal.overflow_mul-to-in-loop-i
-overflow_mul-to-in-loop-i c = let p = at c in omega arith
+overflow_mul-to-in-loop-i c = let p = at (goal.at.overflow_mul-to-in-loop-i c).After-first_node in omega arith
 
 pub overflow_add-to-in-loop-i : goal.overflow_add-to-in-loop-i
-overflow_add-to-in-loop-i c = let p = at c in omega arith
+overflow_add-to-in-loop-i c = let p = at (goal.at.overflow_add-to-in-loop-i c).After-first_node in omega arith
 
 pub overflow_mul-at : goal.overflow_mul-at
-overflow_mul-at c = (let p = at c in omega arith)
+overflow_mul-at c = (let p = at (goal.at.overflow_mul-at c).After-first_node in omega arith)
 
 pub overflow_add-root : goal.overflow_add-root
-overflow_add-root c = let p = at c in omega arith
+overflow_add-root c = let p = at (goal.at.overflow_add-root c).After-first_node in omega arith
 
 pub slice_bounds-root-end : goal.slice_bounds-root-end
-slice_bounds-root-end c = (at c).root
+slice_bounds-root-end c = (at (goal.at.slice_bounds-root-end c).After-first_node).root
 
 pub slice_bounds-grow_tree-end : goal.slice_bounds-grow_tree-end
-slice_bounds-grow_tree-end c = (at c.before).room
+slice_bounds-grow_tree-end c = (at (goal.at.slice_bounds-grow_tree-end c).After-first_node).room
 
 pub grow_tree-requires : goal.grow_tree-requires
 grow_tree-requires c =
@@ -81,11 +77,11 @@ grow_tree-requires c =
     let n = c.node_bytes-n in
     let e = c.entry_count-inner.result in
     let f = c.first_node.result in
-    let p = at c.before.before in
+    let p = at (goal.at.grow_tree-requires c).After-first_node in
     let w = widths g.s (shape-facts g.s start.requires.s_value.0) in
     let own = lent (n.result * l.i) (n.result * l.i + n.result) n.result g.roots.now refl p.root in
     let whole = lent (n.result * f) (n.result * f + n.result * (2 * (e - 1) + 1)) (n.result * (2 * (e - 1) + 1)) l.trees refl p.room in
-    (start.requires.sbox_table, (n.ensures.1, n.ensures.2, ap (λ (m : ℕ). m % 8) n.ensures.0 ∙ w.node-eight, own, whole, omega arith))
+    record { sbox_table = start.requires.sbox_table; le_n = (n.ensures.1, n.ensures.2, ap (λ (m : ℕ). m % 8) n.ensures.0 ∙ w.node-eight, own, whole, omega arith) }
 
 pub loop-i-preserved : goal.loop-i-preserved
 unfolding primitives_of
@@ -96,7 +92,7 @@ loop-i-preserved c =
     let n = c.node_bytes-n in
     let e = c.entry_count-inner in
     let f = c.first_node in
-    let p = at c.before.before.before.before.before in
+    let p = at (goal.at.loop-i-preserved c).After-first_node in
     let made = c.grow_tree in
     let y = made.new.tree in
     let from = n.result * f.result in
@@ -104,7 +100,7 @@ loop-i-preserved c =
     let whole = lent from (from + size) size l.trees refl p.room in
     let is = grown g.s g.roots.now g.iv l.i n.result e.result (n.result * l.i + n.result - n.result * l.i) y n.ensures.0 e.ensures.0 (omega arith) (made.ensures g.s start.requires.s_value.0 n.ensures.0) in (
       omega arith,
-      c.trees-1.given.1 ∙ l.invariant.1,
+      omega (arith, l.invariant.1),
       put-behind (tree g.s g.roots.now g.iv) from (node_bytes g.s * first_node g.s l.i) size _ l.i l.trees y _ (ap₂ ◌*◌ n.ensures.0 f.ensures.0) p.next p.room
           (made.auto.tree ∙ whole) is l.invariant.2,
     )

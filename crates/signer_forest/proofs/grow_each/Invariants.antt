@@ -1,23 +1,13 @@
 -- After i turns the trees of the first i vectors stand, one behind another.
-use borrow.Author.Rules.{rules}
-use mathlib.Core.Path.{◌≡◌, refl, sym, ap, ap₂, ◌∙◌}
+use mathlib.Core.Path.{◌≡◌}
 use mathlib.Core.List.{List}
-use Prim.Native.Nat.{ℕ, ◌+◌, ◌-◌, ◌*◌, ◌%◌, ◌≤◌}
-use native.Mathlib.Nat.{mul-zero}
-use native.Mathlib.Omega.{arith}
+use Prim.Native.Nat.{ℕ, ◌-◌, ◌*◌, ◌≤◌}
 use lib.ListN.{length, take}
-use lib.Seq.{take_all}
 use Rattle.spec.specs.declared.Shape.{Shape}
 use Rattle.spec.specs.Bytes.{part, concat}
 use Rattle.spec.specs.Tree.{expand_tree}
 use Rattle.spec.specs.Shapes.{node_bytes, entries_of}
-use Rattle.spec.specs.Primitives.{prg}
-use Rattle.spec.specs.Leaves.{children}
-use Rattle.spec.specs.Version1.{faest1, prg1, children1, first_node, trees1_bytes}
-use Rattle.job.specs.Versions.{primitives_of}
-use Rattle.planning_laws.proofs.ShapeFacts.{shape-facts, widths}
-use Rattle.planning_laws.proofs.Forest.{node-none, node-all}
-use Rattle.signer_forest.proofs.Places.{Placed, placed, lent, put-behind}
+use Rattle.spec.specs.Version1.{faest1, children1, first_node, trees1_bytes}
 use Rattle.signer_forest.proofs.grow_each.Given as goal
 
 abbrev pub tree : Shape → List ℕ → List ℕ → ℕ → List ℕ

@@ -1,5 +1,4 @@
 -- What `fill` writes is the output of the generator that the roots are parts of.
-use borrow.Author.Rules.{rules}
 use mathlib.Core.Path.{sym, ap, ◌∙◌}
 use mathlib.Core.List.{List}
 use Prim.Native.Nat.{ℕ, ◌+◌, ◌-◌, ◌*◌, ◌%◌}
@@ -27,13 +26,13 @@ fill-requires c =
     let most = mul-limit (node_bytes s) s.tau 32 32 w.node-max f.tau-max in
     let long = p.1 in
     let size = p.3 in
-    (start.requires.sbox_table, (omega arith, omega arith, ap (λ (m : ℕ). m % 8) p.1 ∙ w.node-eight, omega arith))
+    record { sbox_table = start.requires.sbox_table; in_bounds = (omega arith, omega arith, ap (λ (m : ℕ). m % 8) p.1 ∙ w.node-eight, omega arith) }
 
 pub grow_each-requires : goal.grow_each-requires
 grow_each-requires c =
     let start = c in
     let p = start.requires in
-    (p.sbox_table, (p.s_value.0, c.fill.auto.out ∙ p.s_value.3, p.s_value.2))
+    record { sbox_table = p.sbox_table; s_value = (p.s_value.0, c.fill.auto.out ∙ p.s_value.3, p.s_value.2) }
 
 pub returns : goal.returns
 unfolding prg prg1 vector_root vector_tree signer_trees primitives_of

@@ -1,23 +1,23 @@
 -- The buffer has room for the roots of every shape: 32 of 32 bytes.
-use borrow.Author.Rules.{rules}
-use mathlib.Core.Path.{ap, ◌∙◌}
+use mathlib.Core.Path.{◌≡◌, ap, ◌∙◌}
+use mathlib.Core.Bool.{true}
 use Prim.Native.Nat.{ℕ, ◌*◌, ◌≤◌}
 use native.Mathlib.Omega.{arith}
+use Rattle.spec.specs.declared.Shape.{Shape}
+use Rattle.spec.specs.Shapes.{shape_ok}
 use Rattle.laws.proofs.Concat.{mul-limit}
 use Rattle.planning_laws.proofs.ShapeFacts.{shape-facts}
 use Rattle.signer_forest.proofs.Places.{lent}
 use Rattle.signer_forest.proofs.grow_trees.Goals as goal
 
-room : (c : goal.After-struct-known) → c.before.node-bytes.result * c.before.before.before.before.args.s.tau ≤ 1024
-room c =
-    let start = c.before.before.before.before in
-    mul-limit c.before.node-bytes.result start.args.s.tau 32 32 c.before.node-bytes.ensures.2 (shape-facts start.args.s start.requires.s_value.0).tau-max
+room : (s : Shape) (n : ℕ) → shape_ok s ≡ true → n ≤ 32 → n * s.tau ≤ 1024
+room s n ok h = mul-limit n s.tau 32 32 h (shape-facts s ok).tau-max
 
 pub overflow_mul-end : goal.overflow_mul-end
-overflow_mul-end c = let r = room c in omega arith
+overflow_mul-end c = let r = room c.args.s c.node_bytes.result c.requires.s_value.0 c.node_bytes.ensures.2 in omega arith
 
 pub slice_bounds-roots-end : goal.slice_bounds-roots-end
-slice_bounds-roots-end c = let r = room c.before in omega arith
+slice_bounds-roots-end c = let r = room c.args.s c.node_bytes.result c.requires.s_value.0 c.node_bytes.ensures.2 in omega arith
 
 pub grow_through-requires : goal.grow_through-requires
 grow_through-requires c =
@@ -25,4 +25,4 @@ grow_through-requires c =
     let g = start.args in
     let n = c.node_bytes in
     let end = n.result * g.s.tau in
-    (start.requires.sbox_table, (start.requires.s_value.0, start.requires.s_value.1, start.requires.s_value.2, lent 0 end end _ (omega arith) (let r = room c.before.before in omega arith) ∙ ap (λ (m : ℕ). m * g.s.tau) n.ensures.0))
+    record { sbox_table = start.requires.sbox_table; s_value = (start.requires.s_value.0, start.requires.s_value.1, start.requires.s_value.2, lent 0 end end _ (omega arith) (let r = room c.args.s c.node_bytes.result c.requires.s_value.0 c.node_bytes.ensures.2 in omega arith) ∙ ap (λ (m : ℕ). m * g.s.tau) n.ensures.0) }

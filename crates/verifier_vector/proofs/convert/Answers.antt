@@ -1,5 +1,4 @@
 -- The promises of its parts, with the hidden commitment of the opening in its place.
-use borrow.Author.Rules.{rules}
 use mathlib.Core.Path.{◌≡◌, sym, ap, ap₂, ◌∙◌}
 use mathlib.Core.List.{List, ◌++◌}
 use Prim.Native.Nat.{ℕ, ◌+◌, ◌*◌}
@@ -22,7 +21,7 @@ use Rattle.verifier_vector.proofs.convert.Goals as goal
 pub add_visible-requires : goal.add_visible-requires
 add_visible-requires c =
     let p = c.requires in
-    ((p.lent.0, c.hash_multiples-m.ensures c.args.g.iv p.lent.1, p.lent.2, p.lent.3), (p.lent.4, p.lcs_len.0, p.lcs_len.1))
+    record { lent = (p.lent.0, c.hash_multiples-m.ensures c.args.g.iv p.lent.1, p.lent.2, p.lent.3); hidden_len = (p.lent.4, p.lcs_len.0, p.lcs_len.1) }
 
 pub hash_vector-requires : goal.hash_vector-requires
 hash_vector-requires c =

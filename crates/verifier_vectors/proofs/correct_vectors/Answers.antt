@@ -1,11 +1,7 @@
-use borrow.Author.Rules.{rules}
 use mathlib.Core.Path.{◌≡◌, refl, ◌∙◌, subst}
-use Prim.Native.Nat.{ℕ, ◌-◌, ◌≤◌}
+use Prim.Native.Nat.{ℕ}
 use native.Mathlib.Omega.{arith}
-use lib.ListN.{length}
-use Rattle.spec.specs.Rows.{matrix_of}
 use Rattle.planning_laws.proofs.ShapeFacts.{shape-facts}
-use Rattle.verifier_vector.specs.Vector.{uncorrected}
 use Rattle.verifier_vectors.specs.Corrections.{Corrected}
 use Rattle.verifier_vectors.proofs.Steps.{corrected-start, corrected-all}
 use Rattle.verifier_vectors.proofs.correct_vectors.Goals as goal

@@ -1,14 +1,10 @@
 -- After the turn of i the first i + 1 vectors have their corrections.
-use borrow.Author.Rules.{rules}
-use mathlib.Core.Path.{◌≡◌, refl, ◌∙◌, subst}
+use mathlib.Core.Path.{◌≡◌}
 use Prim.Native.Nat.{ℕ, ◌-◌, ◌≤◌}
-use native.Mathlib.Omega.{arith}
 use lib.ListN.{length}
 use Rattle.spec.specs.Rows.{matrix_of}
-use Rattle.planning_laws.proofs.ShapeFacts.{shape-facts}
 use Rattle.verifier_vector.specs.Vector.{uncorrected}
 use Rattle.verifier_vectors.specs.Corrections.{Corrected}
-use Rattle.verifier_vectors.proofs.Steps.{corrected-start, corrected-all}
 use Rattle.verifier_vectors.proofs.correct_vectors.Given as goal
 
 abbrev pub invariant-loop-i : goal.invariant-loop-i

@@ -1,5 +1,4 @@
 -- By the version: the law of each says that the place lies within an opening, and an opening's bytes are few.
-use borrow.Author.Rules.{rules}
 use Prim.Native.Nat.{ℕ, ◌+◌, ◌*◌, ◌≤◌}
 use mathlib.Core.Path.{ap, ap₂}
 use native.Mathlib.Omega.{arith}
@@ -9,14 +8,14 @@ use Rattle.verifier_vectors.proofs.HiddenPlaces.{within-one, within-two}
 use Rattle.verifier_vectors.proofs.hidden_from.Goals as goal
 
 -- the siblings of a vector, and the hidden leaf commitments of the vectors before it, have few bytes
-siblings-small : (c : goal.After-depth-of) → c.before.node-bytes.result * c.depth-of.result ≤ 32 * 12
-siblings-small c = mul-limit c.before.node-bytes.result c.depth-of.result 32 12 c.before.node-bytes.ensures.2 c.depth-of.ensures.1
+siblings-small : (w d : ℕ) → w ≤ 32 → d ≤ 12 → w * d ≤ 32 * 12
+siblings-small w d h k = mul-limit w d 32 12 h k
 
 pub overflow_mul-result : goal.overflow_mul-result
-overflow_mul-result c = let m = siblings-small c in omega arith
+overflow_mul-result c = let m = siblings-small c.node_bytes.result c.depth_of.result c.node_bytes.ensures.2 c.depth_of.ensures.1 in omega arith
 
 pub overflow_add-result : goal.overflow_add-result
-overflow_add-result c = (let m = siblings-small c in let d = c.decommitment_from.ensures.1 in omega arith)
+overflow_add-result c = (let m = siblings-small c.node_bytes.result c.depth_of.result c.node_bytes.ensures.2 c.depth_of.ensures.1 in let d = c.decommitment_from.ensures.1 in omega arith)
 
 pub overflow_mul-result-in-Two : goal.overflow_mul-result-in-Two
 overflow_mul-result-in-Two c =

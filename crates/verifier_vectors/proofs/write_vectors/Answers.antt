@@ -1,11 +1,7 @@
-use borrow.Author.Rules.{rules}
 use mathlib.Core.Path.{◌≡◌, sym, ◌∙◌, subst}
-use Prim.Native.Nat.{ℕ, ◌-◌, ◌*◌, ◌≤◌}
+use Prim.Native.Nat.{ℕ}
 use native.Mathlib.Nat.{le_refl}
 use native.Mathlib.Omega.{arith}
-use lib.ListN.{length}
-use Rattle.spec.specs.Shapes.{hash_bytes, leaf_commitments_bytes, matrix_bytes}
-use Rattle.spec.specs.Primitives.{faest}
 use Rattle.planning_laws.proofs.ShapeFacts.{shape-facts}
 use Rattle.job.specs.Jobs.{entry_byte, given_commitment}
 use Rattle.vector.specs.Vectors.{Before}
@@ -25,7 +21,7 @@ pub next_vector-requires : goal.next_vector-requires
 next_vector-requires c =
     let p = c.requires in
     let l = c.loop-i.invariant in
-    ((p.lent.0, p.lent.1, c.loop-i-test.true, c.hidden_index.ensures.1, p.lent.3), (l.1, l.2, l.3))
+    record { lent = (p.lent.0, p.lent.1, c.loop-i-test.true, c.hidden_index.ensures.1, p.lent.3); lcs_len = (l.1, l.2, l.3) }
 
 pub overflow_step-i : goal.overflow_step-i
 overflow_step-i c = let t = c.loop-i-test.true in let f = (shape-facts c.args.g.shape c.requires.lent.0.job.shape).tau-max in omega arith
@@ -37,9 +33,8 @@ pub loop-i-preserved : goal.loop-i-preserved
 loop-i-preserved c =
     let l = c.loop-i.invariant in
     let made = c.next_vector in
-    let kept = made.auto.1.1.1.1.1.1 in
     let t = c.loop-i-test.true in
-    (omega arith, kept.0 ∙ l.1, kept.1.0 ∙ l.2, kept.1.1.0 ∙ l.3, made.ensures c.args.ch.now c.hidden_index.ensures.0 l.4)
+    (omega arith, made.auto.lcs ∙ l.1, made.auto.q ∙ l.2, made.auto.hashes ∙ l.3, made.ensures c.args.ch.now c.hidden_index.ensures.0 l.4)
 
 pub columns_from-used-requires : goal.columns_from-used-requires
 columns_from-used-requires c = (let job = c.requires.lent.0.job in (job.shape, le_refl _, width_small _ job.row))
@@ -72,4 +67,4 @@ returns c =
     let col = uncorrected g.shape g.stretch.width (entry_byte g start.args.tree.now) start.args.ch.now in
     let whole = before-all g.shape g.stretch.width lc col start.requires.lent.0.job.shape _ l.lcs l.q _ l.hashes l.invariant.1 l.invariant.2 l.invariant.3 c.columns_from-used.ensures c.clear_from.ensures
     (subst (λ (n : ℕ). Before g.shape g.stretch.width lc col n l.lcs l.q l.hashes) all l.invariant.4) in
-    (whole.0, (whole.1, whole.2))
+    record { lcs_after = whole.0; q_after = whole.1; hashes_after = whole.2 }

@@ -1,18 +1,10 @@
 -- After i turns the first i vectors stand at the front of the buffers; at the end what is left of the matrix is cleared.
-use borrow.Author.Rules.{rules}
-use mathlib.Core.Path.{◌≡◌, sym, ◌∙◌, subst}
-use Prim.Native.Nat.{ℕ, ◌-◌, ◌*◌, ◌≤◌}
-use native.Mathlib.Nat.{le_refl}
-use native.Mathlib.Omega.{arith}
+use mathlib.Core.Path.{◌≡◌}
+use Prim.Native.Nat.{◌-◌, ◌*◌, ◌≤◌}
 use lib.ListN.{length}
 use Rattle.spec.specs.Shapes.{hash_bytes, leaf_commitments_bytes, matrix_bytes}
-use Rattle.spec.specs.Primitives.{faest}
-use Rattle.planning_laws.proofs.ShapeFacts.{shape-facts}
 use Rattle.job.specs.Jobs.{entry_byte, given_commitment}
 use Rattle.vector.specs.Vectors.{Before}
-use Rattle.vector.proofs.Buffers.{all-columns}
-use Rattle.vector.proofs.Numbers.{width_small}
-use Rattle.vector.proofs.Fronts.{before-none, before-all}
 use Rattle.verifier_vector.specs.Vector.{uncorrected}
 use Rattle.verifier_vectors.proofs.write_vectors.Given as goal
 
