@@ -3,15 +3,14 @@
 use mathlib.Core.Path.{◌≡◌, refl, sym, ap, ap₂, ◌∙◌, subst}
 use mathlib.Core.List.{List}
 use Prim.Native.Nat.{ℕ, zero, suc, ◌+◌, ◌-◌, ◌*◌, ◌/◌, ◌%◌, ◌^◌, ◌≤◌, ◌<◌}
-use native.Mathlib.Nat.{zero-mul, one-mul, mul-zero}
+use native.Mathlib.Nat.{zero-mul, mul-zero}
 use native.Mathlib.Numerals.{add-one}
 use native.Mathlib.Decide.{dec_lt}
 use native.Mathlib.Omega.{arith}
 use lib.Bits.{bit_xor, xor_self, xor_zero_r}
 use lib.ListN.{length, get_or}
-use Rattle.spec.specs.Bytes.{bit, part, tabulate, concat, xor_below}
+use Rattle.spec.specs.Bytes.{bit, tabulate, concat, xor_below}
 use Rattle.laws.proofs.Xor.{xor_assoc, xor-cancel}
-use Rattle.laws.proofs.Lists.{get_or-part}
 use Rattle.laws.proofs.Concat.{mul-within, is-concat}
 use Rattle.laws.proofs.Running.{bit-zero, bit-power, marked, marked_next, marked-highest}
 use Rattle.columns.specs.Columns.{Xored, Done, Running, Marked}

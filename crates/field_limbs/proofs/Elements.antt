@@ -1,8 +1,8 @@
 -- Elements of n limbs of 64 bits: what holds in each loop over limbs or bytes, and that it holds after one more. A loop's invariant is one of these at its n.
-use mathlib.Core.Path.{◌≡◌, refl, sym, ap, ◌∙◌}
+use mathlib.Core.Path.{◌≡◌, sym, ap, ◌∙◌}
 use mathlib.Core.List.{List, [], ◌∷◌, ◌++◌}
 use Prim.Native.Nat.{ℕ, zero, suc, ◌+◌, ◌-◌, ◌*◌, ◌/◌, ◌%◌, ◌^◌, ◌≤◌, ◌<◌}
-use native.Mathlib.Nat.{mod-lt, lt_of_lt_of_le, lt_of_mul-lt-mul_right, lt_trans, mul-one, add_comm}
+use native.Mathlib.Nat.{mod-lt, lt_of_lt_of_le, lt_of_mul-lt-mul_right, mul-one, add_comm}
 use native.Mathlib.Omega.{arith}
 use lib.Bits.{bit_xor, bit_or, xor_lt, or_lt}
 use lib.ListN.{length, get_or, take, set, length-set}

@@ -1,7 +1,7 @@
 -- What an exported call gives, from what the call beneath gives, which is lent the slice xs where the count slice has four bytes, and else nothing of it: then it refuses
 -- with a number that writes nothing. By these two cases.
 use Prim.Native.Nat.{ℕ}
-use mathlib.Core.Path.{◌≡◌, refl, sym, ap, ◌∙◌}
+use mathlib.Core.Path.{◌≡◌, refl, ap, ◌∙◌}
 use mathlib.Core.Bool.{Bool, true, false, cond}
 use mathlib.Core.List.{List, []}
 use lib.Dec.{eqb}

@@ -1,6 +1,6 @@
 -- What the listing prints of a plan: a refusal depends on the lent list only by its length, and of a plan that is let through at most 512 nodes are listed,
 -- each below 100,000 at level 128. By cases on the tests of plan, and by induction on the nodes that reveal.
-use Prim.Native.Nat.{ℕ, zero, suc, ◌+◌, ◌*◌, ◌≤◌, ◌<◌}
+use Prim.Native.Nat.{ℕ, ◌+◌, ◌*◌, ◌≤◌, ◌<◌}
 use mathlib.Core.Path.{◌≡◌, refl, sym, ap, ◌∙◌}
 use mathlib.Core.Bool.{Bool, true, false}
 use mathlib.Core.List.{List, [], ◌∷◌, ◌++◌, append_assoc}
@@ -12,7 +12,7 @@ use Rattle.spec.specs.declared.Shape.{Shape}
 use Rattle.spec.specs.declared.Answer.{Answer}
 use Rattle.spec.specs.Bytes.{zeros}
 use Rattle.spec.specs.Tree.{revealed}
-use Rattle.spec.specs.Shapes.{resolved, level, shape_ok, challenge_bytes, grinding_ok, planned, planned_count}
+use Rattle.spec.specs.Shapes.{resolved, level, shape_ok, grinding_ok, planned, planned_count}
 use Rattle.spec.specs.Calls.{first_refusal, fits, nodes_ok, count_with, plan_lengths, plan_number, Plan}
 use Rattle.laws.proofs.Lists.{length-zeros}
 use Rattle.planning_laws.proofs.Revealed.{revealed-below}

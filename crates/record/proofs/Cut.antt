@@ -1,6 +1,6 @@
 -- A record whose fields are there, cut behind the sixth, is read, and says the same. Each field ends within the part that is left.
 use Prim.Native.Nat.{ℕ, ◌+◌, ◌/◌, ◌≤◌, ◌<◌}
-use mathlib.Core.Path.{◌≡◌, refl, ap}
+use mathlib.Core.Path.{◌≡◌, refl}
 use mathlib.Core.Bool.{true, ◌&&◌}
 use mathlib.Core.List.{List, ◌++◌}
 use native.Mathlib.Omega.{arith}
@@ -8,11 +8,10 @@ use lib.ListN.{length, take, get_or}
 use lib.Seq.{length-take-le, get_or-take}
 use borrow.Author.Tests.{eq-eqb}
 use Rattle.spec.specs.declared.Shape.{Shape}
-use Rattle.spec.specs.Shapes.{resolved, challenge_bytes, hash_bytes, iv_bytes, opening_bytes, corrections_bytes, shape_ok}
-use Rattle.spec.specs.Calls.{row_ok}
+use Rattle.spec.specs.Shapes.{resolved, challenge_bytes, hash_bytes, iv_bytes, opening_bytes, corrections_bytes}
 use Rattle.laws.proofs.Refusals.{all-passed}
-use Rattle.record.specs.Fields.{field_ok, field_at}
-use Rattle.record.specs.Record.{version_of, head_bytes, version_ok, head_of, iv_place, challenge_place, corrections_place, opening_place, commitment_place, record_end, rest_ok, contents_of, head_tests, rest_tests, head_number, fields_number, end_of, read_number}
+use Rattle.record.specs.Fields.{field_ok}
+use Rattle.record.specs.Record.{version_of, head_bytes, version_ok, iv_place, challenge_place, corrections_place, opening_place, commitment_place, record_end, rest_ok, contents_of, head_tests, rest_tests, head_number, fields_number, end_of, read_number}
 use Rattle.record.proofs.Fields.{field_room, field_cut, field-kept}
 use Rattle.record.proofs.Reading.{Rest, front-version, front-head, front-said, front-row, fields-front, fields-rest}
 

@@ -4,13 +4,9 @@ use mathlib.Core.Path.{◌≡◌, sym, ap, ◌∙◌}
 use mathlib.Core.List.{List, [], ◌∷◌}
 use native.Mathlib.Omega.{arith}
 use native.Mathlib.Numerals.{add-one}
-use lib.ListN.{length, get_or, take, drop, length-reverse}
+use lib.ListN.{length, get_or, take, drop}
 use lib.Seq.{drop-cons}
 use Rattle.spec.specs.Bytes.{part, number, big_endian}
-use Rattle.laws.proofs.Lists.{length-tabulate}
-use Rattle.laws.proofs.Numbers.{Digits}
-use Rattle.laws.proofs.Strings.{digits-reverse}
-use Rattle.laws.proofs.Digits.{digits_number, number_digits}
 
 -- ---- two and four bytes of a string
 

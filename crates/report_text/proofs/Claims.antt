@@ -25,8 +25,8 @@ use Rattle.record.proofs.Reconstructing.{number-refused, number_read}
 use Rattle.report_text.specs.declared.Entry.{Entry}
 use Rattle.report_text.specs.Entries.{entry_number, stops, entry_of, entries_within, entries, sum_of}
 use Rattle.report_text.specs.Text.{report_text}
-use Rattle.report_text.specs.Claims.{begin_of, Consecutive, AsChecked, Claims}
-use Rattle.report_text.proofs.Entries.{Bounds, bounds, number-stops, number-opened, entry-stops, not-eleven, entry-stopping, entry-end, entries_next, stopped}
+use Rattle.report_text.specs.Claims.{begin_of, Consecutive, Claims}
+use Rattle.report_text.proofs.Entries.{bounds, number-stops, number-opened, entry-stops, not-eleven, entry-stopping, entry-end, entries_next, stopped}
 
 -- an entry that does not stop has its fields, and is read up to its end
 read_first : (xs : List ℕ) → stops (entry_of xs).number ≡ false

@@ -1,23 +1,22 @@
 -- An entry's numbers are small and it takes some bytes of those that are left, so that the entries of a string are its first and those of what is left behind it. By
 -- whether the fields are there, and by induction on the records allowed, which more than suffice.
 use Prim.Native.Nat.{ℕ, zero, suc, ◌+◌, ◌-◌, ◌/◌, ◌≤◌, ◌<◌}
-use mathlib.Core.Path.{◌≡◌, refl, sym, ap, ap₂, ◌∙◌}
+use mathlib.Core.Path.{◌≡◌, refl, sym, ap, ◌∙◌}
 use mathlib.Core.Bool.{Bool, true, false, cond, ◌&&◌}
 use mathlib.Core.List.{List, [], ◌∷◌, ◌++◌}
 use native.Mathlib.Omega.{arith}
 use native.Mathlib.Decide.{ℕ_discrete}
-use lib.Dec.{eqb, leb}
-use lib.ListN.{length, take, drop, length-drop}
-use lib.Seq.{length-take-le, drop-length}
+use lib.Dec.{eqb}
+use lib.ListN.{length, drop, length-drop}
+use lib.Seq.{drop-length}
 use borrow.Author.Tests.{leb-true, ne_eqb, eqb-true}
-use Rattle.spec.specs.declared.Shape.{Shape}
 use Rattle.spec.specs.Shapes.{resolved, grinding_ok, planned_count, shape_ok}
 use Rattle.spec.specs.Verifier.{slots_ok}
-use Rattle.spec.specs.Calls.{first_refusal, row_ok, nodes_ok, written}
+use Rattle.spec.specs.Calls.{first_refusal, row_ok, nodes_ok}
 use Rattle.laws.proofs.Refusals.{then}
 use Rattle.planning_laws.proofs.ShapeFacts.{shape-facts}
 use Rattle.record.specs.Fields.{field_ok}
-use Rattle.record.specs.Record.{version_of, head_bytes, version_ok, rest_ok, Contents, contents_of, fields_tests, fields_number, end_of, read_number, kind_fits}
+use Rattle.record.specs.Record.{version_of, head_bytes, version_ok, rest_ok, contents_of, fields_tests, fields_number, end_of, kind_fits}
 use Rattle.record.specs.RecordCalls.{opening_tests}
 use Rattle.record.proofs.Reading.{front-shape, fields-front}
 use Rattle.record.proofs.Cut.{end-least, end-within}

@@ -1,5 +1,4 @@
 -- `xor_word`, column by column.
-use borrow.Author.Rules.{rules}
 use Rattle.spec.specs.Aes.{add_round_key}
 use Rattle.aes.proofs.add_round_key.Goals as goal
 

@@ -1,9 +1,7 @@
 use mathlib.Core.Path.{◌≡◌}
-use mathlib.Core.List.{List}
 use Prim.Native.Nat.{ℕ, ◌+◌, ◌≤◌, ◌-◌, ◌%◌}
 use native.Mathlib.Omega.{arith}
 use borrow.Author.Rules.{rules}
-use Rattle.aes.specs.Rounded.{Rounded}
 use Rattle.aes.proofs.Rounds.{steps-round, rounded-none, rounded-more, rounded-two, rounded-cipher}
 use Rattle.aes.proofs.encrypt.Goals as goal
 

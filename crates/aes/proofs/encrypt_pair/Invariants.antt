@@ -1,14 +1,9 @@
 -- `aes::encrypt_pair` meets its contract. The loop's invariant: x and y are the two states after round i - 1, for any key whose round keys are at hand. The
 -- measure is the number of rounds left before round 10. Then both are the states before the last round, of either way of the branch.
-use mathlib.Core.Path.{◌≡◌, sym, ap, subst, ◌∙◌}
-use mathlib.Core.List.{List}
+use mathlib.Core.Path.{◌≡◌, ◌∙◌}
 use mathlib.Core.Logic.{⊎_elim}
 use Prim.Native.Nat.{ℕ, ◌+◌, ◌≤◌, ◌-◌}
-use native.Mathlib.Omega.{arith}
-use borrow.Author.Rules.{rules}
-use Rattle.spec.specs.Aes.{bytes_of}
 use Rattle.aes.specs.Rounded.{Rounded}
-use Rattle.aes.proofs.Rounds.{steps-round, rounded-none, rounded-more, rounded-cipher}
 use Rattle.aes.proofs.encrypt_pair.Given as goal
 
 abbrev pub invariant-loop-i : goal.invariant-loop-i

@@ -1,5 +1,4 @@
 -- The three steps, one after the other.
-use borrow.Author.Rules.{rules}
 use Rattle.spec.specs.Aes.{last_round}
 use Rattle.aes.proofs.last_round.Goals as goal
 

@@ -1,9 +1,7 @@
 use mathlib.Core.Path.{◌≡◌, refl}
-use mathlib.Core.List.{List}
 use Prim.Native.Nat.{ℕ, ◌+◌, ◌≤◌, ◌-◌, ◌%◌}
 use native.Mathlib.Omega.{arith}
 use borrow.Author.Rules.{rules}
-use Rattle.aes.specs.Rounded.{Rounded}
 use Rattle.aes.proofs.Rounds.{rounded-two}
 use Rattle.aes.proofs.later_rounds.Goals as goal
 

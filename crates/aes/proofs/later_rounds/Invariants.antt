@@ -1,11 +1,8 @@
 -- `aes::later_rounds` meets its contract. The loop's invariant: x is the state after round i - 1, and i is even. The measure is the number of rounds left.
-use mathlib.Core.Path.{◌≡◌, refl}
+use mathlib.Core.Path.{◌≡◌}
 use mathlib.Core.List.{List}
 use Prim.Native.Nat.{ℕ, ◌+◌, ◌≤◌, ◌-◌, ◌%◌}
-use native.Mathlib.Omega.{arith}
-use borrow.Author.Rules.{rules}
 use Rattle.aes.specs.Rounded.{Rounded}
-use Rattle.aes.proofs.Rounds.{rounded-two}
 use Rattle.aes.proofs.later_rounds.Given as goal
 
 abbrev pub invariant-loop-i : goal.invariant-loop-i

@@ -1,5 +1,4 @@
 -- The four steps of a round, twice, one after the other.
-use borrow.Author.Rules.{rules}
 use Rattle.spec.specs.Aes.{round_of}
 use Rattle.aes.proofs.two_rounds.Goals as goal
 

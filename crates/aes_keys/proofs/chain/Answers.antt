@@ -1,5 +1,4 @@
 -- Each word is the sum that the definition has.
-use borrow.Author.Rules.{rules}
 use Rattle.aes_keys.proofs.chain.Goals as goal
 
 pub returns : goal.returns

@@ -1,5 +1,4 @@
 -- The first four words by `next_key`, and each of the others as the definition has it.
-use borrow.Author.Rules.{rules}
 use Rattle.aes_keys.specs.RoundKeys.{next_six}
 use Rattle.aes_keys.proofs.next_six.Goals as goal
 

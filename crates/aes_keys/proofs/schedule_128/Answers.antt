@@ -2,7 +2,6 @@
 use mathlib.Core.Path.{refl, sym, ap₂, ◌∙◌}
 use mathlib.Core.List.{◌∷◌}
 use native.Mathlib.Omega.{arith}
-use borrow.Author.Rules.{rules}
 use Rattle.spec.specs.Bytes.{tabulate}
 use Rattle.spec.specs.Polynomials.{product, remainder, field_product}
 use Rattle.spec.specs.Gf256.{mul}

@@ -1,5 +1,4 @@
 -- Word by word.
-use borrow.Author.Rules.{rules}
 use Rattle.aes_keys.proofs.six_words.Goals as goal
 
 pub returns : goal.returns

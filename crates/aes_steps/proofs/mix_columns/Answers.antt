@@ -1,5 +1,4 @@
 -- `mix_column`, column by column.
-use borrow.Author.Rules.{rules}
 use Rattle.spec.specs.Aes.{mix_columns}
 use Rattle.aes_steps.proofs.mix_columns.Goals as goal
 

@@ -1,5 +1,4 @@
 -- `sub_word`, column by column.
-use borrow.Author.Rules.{rules}
 use Rattle.spec.specs.Aes.{sub_bytes}
 use Rattle.aes_steps.proofs.sub_bytes.Goals as goal
 

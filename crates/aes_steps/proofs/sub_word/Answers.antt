@@ -1,5 +1,4 @@
 -- `sub_byte`, four times.
-use borrow.Author.Rules.{rules}
 use Rattle.spec.specs.Aes.{sub_word}
 use Rattle.aes_steps.proofs.sub_word.Goals as goal
 

@@ -1,6 +1,5 @@
 -- `aes_steps::unpack` meets its contract by computation.
 use native.Mathlib.Nat.{div-one}
-use borrow.Author.Rules.{rules}
 use Rattle.spec.specs.Bytes.{tabulate, digits}
 use Rattle.aes_steps.proofs.unpack.Goals as goal
 

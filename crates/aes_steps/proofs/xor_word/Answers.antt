@@ -1,6 +1,5 @@
 -- `aes_steps::xor_word` meets its contract by computation.
 use mathlib.Core.Path.{refl}
-use borrow.Author.Rules.{rules}
 use Rattle.spec.specs.Aes.{xor_word}
 use Rattle.aes_steps.proofs.xor_word.Goals as goal
 

@@ -1,5 +1,4 @@
 -- The front is read, and the lengths are those of the resolved shape and its rows.
-use borrow.Author.Rules.{rules}
 use native.Mathlib.Omega.{arith}
 use mathlib.Core.Path.{refl, sym, ap, ap₂, ◌∙◌}
 use borrow.Author.Tests.{ne_eqb}
@@ -8,38 +7,30 @@ use Rattle.broker.proofs.work_lengths.Goals as goal
 
 pub returns-then-f-ne0 : goal.returns-then-f-ne0
 returns-then-f-ne0 c =
-    let f = c in
-    let z = ne_eqb f.front_of-f.result.number 0 c.if-f-ne0.true in
-    record { number = f.front_of-f.ensures.number; tree = rw z refl; leaf_commitments = rw z refl; q = rw z refl; most = (omega arith, omega arith, omega arith) }
+    let z = ne_eqb c.front_of-f.result.number 0 c.if-f-ne0.true in
+    record { number = c.front_of-f.ensures.number; tree = rw z refl; leaf_commitments = rw z refl; q = rw z refl; most = (omega arith, omega arith, omega arith) }
 
 pub tree_bytes-requires : goal.tree_bytes-requires
 tree_bytes-requires c =
-    let f = c in
-    (f.front_of-f.ensures.said (sym f.front_of-f.ensures.number ∙ c.if-f-ne0.false)).allowed
+    (c.front_of-f.ensures.said (sym c.front_of-f.ensures.number ∙ c.if-f-ne0.false)).allowed
 
 pub leaf_commitments_bytes-requires : goal.leaf_commitments_bytes-requires
 leaf_commitments_bytes-requires c =
-    let f = c in
-    (f.front_of-f.ensures.said (sym f.front_of-f.ensures.number ∙ c.if-f-ne0.false)).allowed
+    (c.front_of-f.ensures.said (sym c.front_of-f.ensures.number ∙ c.if-f-ne0.false)).allowed
 
 pub matrix_bytes-requires : goal.matrix_bytes-requires
 matrix_bytes-requires c =
-    let el = c in
-    let f = el in
-    let p = f.front_of-f.ensures.said (sym f.front_of-f.ensures.number ∙ el.if-f-ne0.false) in
+    let p = c.front_of-f.ensures.said (sym c.front_of-f.ensures.number ∙ c.if-f-ne0.false) in
     (p.allowed, p.few)
 
 pub returns : goal.returns
 returns c =
-    let t = c in
-    let el = t in
-    let f = el in
-    let n = sym f.front_of-f.ensures.number ∙ el.if-f-ne0.false in
-    let p = f.front_of-f.ensures.said n in
+    let n = sym c.front_of-f.ensures.number ∙ c.if-f-ne0.false in
+    let p = c.front_of-f.ensures.said n in
     record {
       number = sym n;
-      tree = t.tree_bytes.ensures.0 ∙ ap tree_bytes p.resolved;
+      tree = c.tree_bytes.ensures.0 ∙ ap tree_bytes p.resolved;
       leaf_commitments = c.leaf_commitments_bytes.ensures.0 ∙ ap leaf_commitments_bytes p.resolved;
       q = c.matrix_bytes.ensures.0 ∙ ap₂ matrix_bytes p.resolved p.bytes;
-      most = (t.tree_bytes.ensures.1, c.leaf_commitments_bytes.ensures.1, c.matrix_bytes.ensures.1);
+      most = (c.tree_bytes.ensures.1, c.leaf_commitments_bytes.ensures.1, c.matrix_bytes.ensures.1);
     }

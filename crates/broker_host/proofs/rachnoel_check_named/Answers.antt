@@ -1,5 +1,4 @@
 -- What the front refuses is one law of the sets' `Numbers`; of a named set it is what the exported check_record promises.
-use borrow.Author.Rules.{rules}
 use mathlib.Core.Path.{sym, ◌∙◌}
 use Rattle.spec.specs.Primitives.{faest}
 use Rattle.named_sets.proofs.Numbers.{front-passed, check-front-host, same-as-host}
@@ -10,6 +9,4 @@ returns-then-number-ne0 c = check-front-host faest _ _ _ c.front_number-number.e
 
 pub returns : goal.returns
 returns c =
-    let k = c in
-    let f = k in
-    same-as-host faest _ (front-passed _ (sym f.front_number-number.ensures ∙ f.if-number-ne0.false)) _ _ _ _ _ k.rachnoel_check_record.ensures
+    same-as-host faest _ (front-passed _ (sym c.front_number-number.ensures ∙ c.if-number-ne0.false)) _ _ _ _ _ c.rachnoel_check_record.ensures

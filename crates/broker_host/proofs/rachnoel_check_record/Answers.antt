@@ -2,7 +2,6 @@
 use Prim.Native.Nat.{ℕ}
 use mathlib.Core.Path.{sym, ap, ap₂, ◌∙◌}
 use lib.Seq.{length-take-le}
-use borrow.Author.Rules.{rules}
 use Rattle.spec.specs.Calls.{count_given}
 use Rattle.spec.specs.HostCalls.{count_slice}
 use Rattle.broker_host.proofs.Checked.{checked-sized, checked-host}
@@ -15,18 +14,15 @@ slice_bounds-check_record-end-2 c =
 
 pub give-requires : goal.give-requires
 give-requires c h =
-    let k = c in
-    let p = k.passed_on-n in
-    let g = k.args in
+    let p = c.passed_on-n in
+    let g = c.args in
     let n = c.answer-given.ensures.0 ∙ c.counting_number.ensures in
-    checked-sized _ (record { tree = g.tree.now; leaf_commitments = g.leaf_commitments.now; q = g.q.now }) g.count.now p.result p.ensures.0 _ _ k.check_record-a.ensures
+    checked-sized _ (record { tree = g.tree.now; leaf_commitments = g.leaf_commitments.now; q = g.q.now }) g.count.now p.result p.ensures.0 _ _ c.check_record-a.ensures
     (sym (ap count_given n) ∙ h)
 
 pub returns : goal.returns
 returns c =
-    let a = c in
-    let k = a in
-    let p = k.passed_on-n in
-    let n = a.answer-given.ensures.0 ∙ a.counting_number.ensures in
-    checked-host _ _ _ p.result p.ensures.0 _ _ k.check_record-a.ensures _
-    (c.give.ensures.1 ∙ ap₂ (λ (i j : ℕ). count_slice i j k.args.count.now) n a.answer-given.ensures.1)
+    let p = c.passed_on-n in
+    let n = c.answer-given.ensures.0 ∙ c.counting_number.ensures in
+    checked-host _ _ _ p.result p.ensures.0 _ _ c.check_record-a.ensures _
+    (c.give.ensures.1 ∙ ap₂ (λ (i j : ℕ). count_slice i j c.args.count.now) n c.answer-given.ensures.1)

@@ -1,5 +1,4 @@
 -- Each way out is one law of the record's `Host`.
-use borrow.Author.Rules.{rules}
 use Rattle.record.proofs.Host.{work-refused, work-three, work-given}
 use Rattle.broker_host.proofs.rachnoel_work_lengths.Goals as goal
 
@@ -11,5 +10,4 @@ returns-then-lengths-ne12 c = work-three _ _ _ c.work_lengths-l.ensures c.if-l-n
 
 pub returns : goal.returns
 returns c =
-    let el = c in
-    work-given _ _ _ el.work_lengths-l.ensures el.if-l-ne0.false el.if-lengths-ne12.false _ c.put_list.ensures
+    work-given _ _ _ c.work_lengths-l.ensures c.if-l-ne0.false c.if-lengths-ne12.false _ c.put_list.ensures

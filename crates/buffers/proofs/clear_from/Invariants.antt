@@ -1,14 +1,9 @@
 -- After some turns the bytes from `at` to p are zeros.
-use borrow.Author.Rules.{rules}
-use mathlib.Core.Path.{◌≡◌, refl, sym, ap, ◌∙◌}
-use mathlib.Core.List.{List, ◌++◌, append-nil}
+use mathlib.Core.Path.{◌≡◌, ◌∙◌}
+use mathlib.Core.List.{◌++◌}
 use Prim.Native.Nat.{ℕ, ◌+◌, ◌-◌, ◌≤◌}
-use native.Mathlib.Omega.{arith}
 use lib.ListN.{length, take}
-use lib.Seq.{take_all}
 use Rattle.spec.specs.Bytes.{tabulate, zeros}
-use Rattle.laws.proofs.Prefixes.{take-stored}
-use Rattle.laws.proofs.Strings.{zeros-tabulate}
 use Rattle.buffers.proofs.clear_from.Given as goal
 
 abbrev pub invariant-loop-p : goal.invariant-loop-p

@@ -1,11 +1,10 @@
 use mathlib.Core.Path.{◌≡◌, ap, subst}
-use mathlib.Core.List.{List}
 use Prim.Native.Nat.{ℕ, ◌+◌, ◌*◌, ◌-◌, ◌≤◌}
 use native.Mathlib.Omega.{arith}
 use lib.ListN.{get_or}
 use Rattle.spec.specs.Bytes.{bit}
 use Rattle.laws.proofs.Concat.{mul-within}
-use Rattle.columns.specs.Columns.{Xored, Added, Done}
+use Rattle.columns.specs.Columns.{Xored, Added}
 use Rattle.columns.proofs.Adding.{behind-start, done_none, done_more}
 use Rattle.columns.proofs.add_bytes.Invariants.{added}
 use Rattle.columns.proofs.add_bytes.Goals as goal

@@ -1,13 +1,10 @@
 -- The first j columns have the string added, the others are as they were.
-use mathlib.Core.Path.{◌≡◌, ap, subst}
+use mathlib.Core.Path.{◌≡◌}
 use mathlib.Core.List.{List}
 use Prim.Native.Nat.{ℕ, ◌+◌, ◌*◌, ◌-◌, ◌≤◌}
-use native.Mathlib.Omega.{arith}
 use lib.ListN.{get_or}
 use Rattle.spec.specs.Bytes.{bit}
-use Rattle.laws.proofs.Concat.{mul-within}
-use Rattle.columns.specs.Columns.{Xored, Added, Done}
-use Rattle.columns.proofs.Adding.{behind-start, done_none, done_more}
+use Rattle.columns.specs.Columns.{Done}
 use Rattle.columns.proofs.add_bytes.Given as goal
 
 abbrev pub added : ℕ → List ℕ → ℕ → ℕ → ℕ

@@ -1,15 +1,10 @@
 -- The first j columns have the last added where their bit is set, and those behind are as they were. The measure is the number of columns left.
-use mathlib.Core.Path.{◌≡◌, sym, ap, ◌∙◌, subst}
+use mathlib.Core.Path.{◌≡◌, ◌∙◌}
 use mathlib.Core.List.{List}
 use Prim.Native.Nat.{ℕ, ◌+◌, ◌-◌, ◌*◌, ◌≤◌}
-use native.Mathlib.Nat.{zero-mul, one-mul}
-use native.Mathlib.Omega.{arith}
 use lib.ListN.{get_or}
 use Rattle.spec.specs.Bytes.{bit}
-use Rattle.laws.proofs.Concat.{mul-within}
-use Rattle.laws.proofs.Digits.{bit-lt}
 use Rattle.columns.specs.Columns.{Done}
-use Rattle.columns.proofs.Adding.{behind-start, done_none, done_more, done-skip}
 use Rattle.columns.proofs.add_last.Given as goal
 
 abbrev pub added : ℕ → ℕ → ℕ → List ℕ → ℕ → ℕ → ℕ

@@ -2,7 +2,6 @@ use mathlib.Core.Path.{refl}
 use Prim.Native.Nat.{◌+◌, ◌-◌, ◌≤◌}
 use native.Mathlib.Omega.{arith}
 use lib.ListN.{get_or}
-use Rattle.laws.specs.Front.{Front}
 use Rattle.laws.proofs.Front.{front-none, front-set, front-all}
 use Rattle.columns.proofs.block_at.Goals as goal
 

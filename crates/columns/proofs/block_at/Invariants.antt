@@ -1,10 +1,7 @@
 -- The first i bytes have been read.
-use mathlib.Core.Path.{refl}
 use Prim.Native.Nat.{◌+◌, ◌-◌, ◌≤◌}
-use native.Mathlib.Omega.{arith}
 use lib.ListN.{get_or}
 use Rattle.laws.specs.Front.{Front}
-use Rattle.laws.proofs.Front.{front-none, front-set, front-all}
 use Rattle.columns.proofs.block_at.Given as goal
 
 abbrev pub invariant-loop-i : goal.invariant-loop-i

@@ -1,10 +1,8 @@
 -- The first i bytes of the block are xored in.
-use mathlib.Core.Path.{◌≡◌, ap, subst}
+use mathlib.Core.Path.{◌≡◌}
 use Prim.Native.Nat.{ℕ, ◌+◌, ◌-◌, ◌≤◌}
-use native.Mathlib.Omega.{arith}
 use lib.ListN.{get_or}
 use Rattle.columns.specs.Columns.{Xored}
-use Rattle.columns.proofs.Adding.{xored-none, xored-more, behind-start}
 use Rattle.columns.proofs.xor_16.Given as goal
 
 abbrev pub invariant-loop-i : goal.invariant-loop-i

@@ -1,11 +1,8 @@
 -- The first i bytes of the string are xored in.
-use mathlib.Core.Path.{◌≡◌, ap, subst}
+use mathlib.Core.Path.{◌≡◌}
 use Prim.Native.Nat.{ℕ, ◌+◌, ◌*◌, ◌-◌, ◌≤◌}
-use native.Mathlib.Omega.{arith}
-use lib.ListN.{length, get_or}
-use Rattle.laws.proofs.Xor.{digit-mul-lt}
+use lib.ListN.{get_or}
 use Rattle.columns.specs.Columns.{Xored}
-use Rattle.columns.proofs.Adding.{xored-none, xored-more, behind-start}
 use Rattle.columns.proofs.xor_bytes.Given as goal
 
 abbrev pub invariant-loop-i : goal.invariant-loop-i

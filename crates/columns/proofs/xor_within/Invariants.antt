@@ -1,12 +1,9 @@
 -- The first `at` bytes are xored in; where they are read from, nothing has changed. The measure is the number of bytes left.
-use mathlib.Core.Path.{◌≡◌, sym, ap, ◌∙◌, subst}
+use mathlib.Core.Path.{◌≡◌, ◌∙◌}
 use mathlib.Core.List.{List}
 use Prim.Native.Nat.{ℕ, ◌+◌, ◌-◌, ◌≤◌, ◌<◌}
-use native.Mathlib.Omega.{arith}
 use lib.ListN.{get_or}
-use Rattle.laws.proofs.Lists.{get_or-tabulate}
 use Rattle.columns.specs.Columns.{Xored}
-use Rattle.columns.proofs.Adding.{behind-start, xored-none, xored-more, xored-same, xored-then}
 use Rattle.columns.proofs.xor_within.Given as goal
 
 abbrev pub moved : ℕ → ℕ → List ℕ → ℕ → ℕ

@@ -5,10 +5,8 @@ use native.Mathlib.Omega.{arith}
 use native.Mathlib.Nat.{div-one}
 use lib.ListN.{replicate}
 use lib.Pow.{shr-shr}
-use borrow.Author.Rules.{rules}
 use Rattle.spec.specs.Bytes.{tabulate, digits}
 use Rattle.spec.specs.Shapes.{challenge_bytes}
-use Rattle.laws.specs.Front.{Front}
 use Rattle.laws.proofs.Front.{front-none, front-set, front-all}
 use Rattle.enumeration_text.specs.Listed.{challenge_at}
 use Rattle.enumeration.proofs.challenge_at.Invariants.{byte}

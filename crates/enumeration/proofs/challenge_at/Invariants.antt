@@ -1,17 +1,8 @@
 -- After i turns the first i bytes are digits of x, and what is left of x is its part above them.
 use Prim.Native.Nat.{ℕ, ◌+◌, ◌-◌, ◌*◌, ◌/◌, ◌%◌, ◌^◌, ◌≤◌}
-use mathlib.Core.Path.{◌≡◌, sym, ap, ◌∙◌}
-use mathlib.Core.List.{List}
-use native.Mathlib.Omega.{arith}
-use native.Mathlib.Nat.{div-one}
-use lib.ListN.{replicate}
-use lib.Pow.{shr-shr}
-use borrow.Author.Rules.{rules}
-use Rattle.spec.specs.Bytes.{tabulate, digits}
-use Rattle.spec.specs.Shapes.{challenge_bytes}
+use mathlib.Core.Path.{◌≡◌, ◌∙◌}
+use Rattle.spec.specs.Bytes.{digits}
 use Rattle.laws.specs.Front.{Front}
-use Rattle.laws.proofs.Front.{front-none, front-set, front-all}
-use Rattle.enumeration_text.specs.Listed.{challenge_at}
 use Rattle.enumeration.proofs.challenge_at.Given as goal
 
 abbrev pub byte : ℕ → ℕ → ℕ

@@ -3,7 +3,7 @@ use mathlib.Core.Path.{◌≡◌, ap, ◌∙◌}
 use native.Mathlib.Omega.{arith}
 use borrow.Author.Rules.{rules}
 use Rattle.spec.specs.Shapes.{planned_count}
-use Rattle.enumeration.proofs.Counts.{Counted, counted_none, counted-more, counted-all}
+use Rattle.enumeration.proofs.Counts.{counted_none, counted-more, counted-all}
 use Rattle.enumeration.proofs.Readings.{level-128}
 use Rattle.enumeration.proofs.count_all.Goals as goal
 

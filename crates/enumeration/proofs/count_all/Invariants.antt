@@ -1,11 +1,7 @@
 -- After x turns the first x challenges are counted.
 use Prim.Native.Nat.{◌-◌, ◌≤◌}
-use mathlib.Core.Path.{◌≡◌, ap, ◌∙◌}
-use native.Mathlib.Omega.{arith}
-use borrow.Author.Rules.{rules}
-use Rattle.spec.specs.Shapes.{planned_count}
-use Rattle.enumeration.proofs.Counts.{Counted, counted_none, counted-more, counted-all}
-use Rattle.enumeration.proofs.Readings.{level-128}
+use mathlib.Core.Path.{◌≡◌, ◌∙◌}
+use Rattle.enumeration.proofs.Counts.{Counted}
 use Rattle.enumeration.proofs.count_all.Given as goal
 
 abbrev pub invariant-loop-x : goal.invariant-loop-x

@@ -1,7 +1,6 @@
 -- By the number of the reading.
 use mathlib.Core.Path.{refl, ap}
 use Prim.Native.Nat.{ℕ, ◌+◌}
-use borrow.Author.Rules.{rules}
 use borrow.Author.Tests.{eq-eqb, ne_eqb}
 use Rattle.enumeration.specs.Pieces.{piece_count}
 use Rattle.enumeration.proofs.piece_count.Goals as goal

@@ -1,5 +1,4 @@
 -- The line of the challenge's bytes and of their count.
-use borrow.Author.Rules.{rules}
 use Rattle.enumeration.proofs.Counts.{line-is}
 use Rattle.enumeration.proofs.put_line.Goals as goal
 

@@ -2,12 +2,9 @@ use Prim.Native.Nat.{◌-◌, ◌*◌, ◌≤◌}
 use mathlib.Core.Path.{◌≡◌, ◌∙◌}
 use native.Mathlib.Omega.{arith}
 use native.Mathlib.Numerals.{add-one}
-use lib.ListN.{length}
 use borrow.Author.Rules.{rules}
 use Rattle.spec.specs.Bytes.{concat}
-use Rattle.listing_text.specs.Put.{Put}
 use Rattle.listing_text.proofs.Writing.{put-none, put_next}
-use Rattle.enumeration.specs.Pieces.{lines_from}
 use Rattle.enumeration.proofs.put_lines.Goals as goal
 
 pub loop-i-init : goal.loop-i-init

@@ -1,5 +1,4 @@
 -- The refusal, or a piece of the list.
-use borrow.Author.Rules.{rules}
 use borrow.Author.Tests.{eq-eqb, ne_eqb}
 use Rattle.listing_text.proofs.Writing.{put_front}
 use Rattle.enumeration.specs.Pieces.{piece_text}

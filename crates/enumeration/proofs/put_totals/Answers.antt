@@ -2,7 +2,6 @@
 use Prim.Native.Nat.{ℕ}
 use mathlib.Core.Path.{◌≡◌, ap₂, subst}
 use mathlib.Core.List.{List}
-use borrow.Author.Rules.{rules}
 use Rattle.listing_text.specs.Text.{pair_text}
 use Rattle.listing_text.specs.Put.{Put}
 use Rattle.enumeration.proofs.put_totals.Goals as goal

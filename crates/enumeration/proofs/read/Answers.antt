@@ -1,7 +1,6 @@
 -- An input that is no line gives 7, any other what the tests of its shape give.
 use mathlib.Core.Path.{sym, ap, ◌∙◌}
 use native.Mathlib.Omega.{arith}
-use borrow.Author.Rules.{rules}
 use Rattle.spec.specs.Shapes.{resolved}
 use Rattle.laws.proofs.Tests.{failed, passed}
 use Rattle.listing_line.proofs.Lines.{shape-line-numbers}

@@ -1,7 +1,6 @@
 -- By the test of the definition.
 use mathlib.Core.Path.{refl}
 use native.Mathlib.Omega.{arith}
-use borrow.Author.Rules.{rules}
 use borrow.Author.Tests.{lt-ltb, le-ltb}
 use Rattle.enumeration_text.proofs.hex_digit.Goals as goal
 

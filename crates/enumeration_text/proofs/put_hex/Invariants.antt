@@ -1,14 +1,10 @@
 -- After i turns the first i bytes are put, two digits for each.
 use Prim.Native.Nat.{◌+◌, ◌-◌, ◌*◌, ◌≤◌}
 use mathlib.Core.Path.{◌≡◌, ◌∙◌}
-use native.Mathlib.Omega.{arith}
-use native.Mathlib.Numerals.{add-one}
 use lib.ListN.{length, get_or}
-use borrow.Author.Rules.{rules}
 use Rattle.spec.specs.Bytes.{concat}
 use Rattle.listing_text.specs.Put.{Put}
-use Rattle.listing_text.proofs.Writing.{put-none, put_next}
-use Rattle.enumeration_text.specs.Text.{hex_byte, hex_text}
+use Rattle.enumeration_text.specs.Text.{hex_byte}
 use Rattle.enumeration_text.proofs.put_hex.Given as goal
 
 abbrev pub invariant-loop-i : goal.invariant-loop-i

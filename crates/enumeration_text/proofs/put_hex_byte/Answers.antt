@@ -1,5 +1,4 @@
 -- One digit, and behind it another.
-use borrow.Author.Rules.{rules}
 use Rattle.listing_text.proofs.Writing.{put_next}
 use Rattle.enumeration_text.proofs.put_hex_byte.Goals as goal
 

@@ -1,6 +1,5 @@
 -- 32 digits, a space, and the line with the count, of at most six bytes.
 use native.Mathlib.Omega.{arith}
-use borrow.Author.Rules.{rules}
 use Rattle.listing_text.proofs.Decimal.{line-short}
 use Rattle.listing_text.proofs.Writing.{put_next}
 use Rattle.enumeration_text.specs.Text.{line_text}

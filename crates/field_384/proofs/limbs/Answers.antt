@@ -1,5 +1,4 @@
 -- A number that fits 6 limbs is that of the first 6.
-use borrow.Author.Rules.{rules}
 use Rattle.spec.specs.Bytes.{number, tabulate}
 use Rattle.field_limbs.proofs.Elements.{number-first}
 use Rattle.field_384.proofs.limbs.Goals as goal

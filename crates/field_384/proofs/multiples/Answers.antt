@@ -9,7 +9,7 @@ use lib.ListN.{length, get_or, set, replicate}
 use Rattle.spec.specs.Bytes.{number}
 use Rattle.spec.specs.Polynomials.{remainder}
 use Rattle.laws.proofs.Limbs.{number-below}
-use Rattle.field_limbs.proofs.Products.{Entries, entries-first, entries_next}
+use Rattle.field_limbs.proofs.Products.{entries-first, entries_next}
 use Rattle.field_384.specs.Field.{p384}
 use Rattle.field_384.proofs.multiples.Goals as goal
 

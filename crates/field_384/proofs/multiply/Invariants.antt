@@ -1,11 +1,6 @@
 -- `field_384::multiply` meets its contract. The loop's invariant: `r` is the product with the bytes from `j` on.
-use borrow.Author.Rules.{rules}
-use mathlib.Core.Path.{refl}
-use native.Mathlib.Omega.{arith}
 use lib.Dec.{lit<, lit≤}
-use lib.ListN.{replicate}
-use Rattle.spec.specs.Bytes.{number}
-use Rattle.field_limbs.proofs.Products.{Multiplied, multiplied-none, multiplied-next, multiplied-all}
+use Rattle.field_limbs.proofs.Products.{Multiplied}
 use Rattle.field_384.specs.Field.{p384}
 use Rattle.field_384.proofs.multiply.Given as goal
 

@@ -1,11 +1,10 @@
-use borrow.Author.Rules.{rules}
 use mathlib.Core.Path.{refl}
 use Prim.Native.Nat.{◌-◌}
 use native.Mathlib.Omega.{arith}
 use lib.Seq.{take_all}
 use Rattle.spec.specs.Bytes.{zeros, number}
 use Rattle.laws.proofs.Strings.{digits-zeros}
-use Rattle.field_limbs.proofs.Elements.{Joined, joined-next}
+use Rattle.field_limbs.proofs.Elements.{joined-next}
 use Rattle.field_576.proofs.element.Goals as goal
 
 pub loop-p-init : goal.loop-p-init

@@ -1,5 +1,4 @@
 -- A number that fits 9 limbs is that of the first 9.
-use borrow.Author.Rules.{rules}
 use Rattle.spec.specs.Bytes.{number, tabulate}
 use Rattle.field_limbs.proofs.Elements.{number-first}
 use Rattle.field_576.proofs.limbs.Goals as goal

@@ -1,15 +1,9 @@
 -- `field_576::multiples` meets its contract. The loop's invariant: the entries below `d` are right.
-use borrow.Author.Rules.{rules}
-use mathlib.Core.Path.{refl, ap, ◌∙◌}
+use mathlib.Core.Path.{◌∙◌}
 use Prim.Native.Nat.{ℕ, ◌-◌, ◌*◌, ◌^◌, ◌<◌}
-use native.Mathlib.Omega.{arith}
-use lib.Bits.{bit_xor}
 use lib.Dec.{lit<, lit≤}
-use lib.ListN.{set, replicate}
 use Rattle.spec.specs.Bytes.{number}
-use Rattle.spec.specs.Polynomials.{remainder}
-use Rattle.laws.proofs.Limbs.{number-below}
-use Rattle.field_limbs.proofs.Products.{Entries, entries-first, entries_next}
+use Rattle.field_limbs.proofs.Products.{Entries}
 use Rattle.field_576.specs.Field.{p576}
 use Rattle.field_576.proofs.multiples.Given as goal
 

@@ -9,7 +9,7 @@ use mir.Syntax.{w64}
 use Rattle.spec.specs.Bytes.{zeros, number}
 use Rattle.laws.proofs.Limbs.{fits-digits}
 use Rattle.laws.proofs.Strings.{digits-zeros}
-use Rattle.field_limbs.proofs.Elements.{Shifted, shifted_next, shifted-all}
+use Rattle.field_limbs.proofs.Elements.{shifted_next, shifted-all}
 use Rattle.field_576.specs.Field.{low576}
 use Rattle.field_576.proofs.times_alpha.Goals as goal
 

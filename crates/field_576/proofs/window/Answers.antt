@@ -1,5 +1,4 @@
 -- What `times_alpha`, `limbs` and `xor` ensure, put together.
-use borrow.Author.Rules.{rules}
 use mathlib.Core.Path.{ap₂, ◌∙◌}
 use lib.Bits.{bit_xor}
 use Rattle.field_576.proofs.window.Goals as goal

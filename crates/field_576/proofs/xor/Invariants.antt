@@ -1,12 +1,6 @@
 -- `field_576::xor` meets its contract. The loop's invariant: the limbs written so far are those of the sum.
-use borrow.Author.Rules.{rules}
-use mathlib.Core.Path.{refl}
 use Prim.Native.Nat.{◌-◌}
-use native.Mathlib.Omega.{arith}
-use mir.Syntax.{w64}
-use Rattle.spec.specs.Bytes.{number}
-use Rattle.laws.proofs.Limbs.{fits-digits}
-use Rattle.field_limbs.proofs.Elements.{Summed, summed-next, summed-all}
+use Rattle.field_limbs.proofs.Elements.{Summed}
 use Rattle.field_576.proofs.xor.Given as goal
 
 abbrev pub invariant-loop-i : goal.invariant-loop-i

@@ -7,7 +7,7 @@ use lib.Dec.{lit<, lit≤}
 use lib.ListN.{length, get_or, set, replicate}
 use Rattle.spec.specs.Bytes.{number}
 use Rattle.laws.proofs.Limbs.{number-below}
-use Rattle.field_limbs.proofs.Products.{Entries, entries-first, entries_next}
+use Rattle.field_limbs.proofs.Products.{entries-first, entries_next}
 use Rattle.field_768.specs.Field.{p768}
 use Rattle.field_768.proofs.multiples.Goals as goal
 

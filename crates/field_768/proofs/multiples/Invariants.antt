@@ -1,13 +1,8 @@
 -- `field_768::multiples` meets its contract. The loop's invariant: the entries below `d` are right.
-use borrow.Author.Rules.{rules}
-use mathlib.Core.Path.{refl}
 use Prim.Native.Nat.{◌-◌, ◌^◌, ◌<◌}
-use native.Mathlib.Omega.{arith}
 use lib.Dec.{lit<, lit≤}
-use lib.ListN.{set, replicate}
 use Rattle.spec.specs.Bytes.{number}
-use Rattle.laws.proofs.Limbs.{number-below}
-use Rattle.field_limbs.proofs.Products.{Entries, entries-first, entries_next}
+use Rattle.field_limbs.proofs.Products.{Entries}
 use Rattle.field_768.specs.Field.{p768}
 use Rattle.field_768.proofs.multiples.Given as goal
 

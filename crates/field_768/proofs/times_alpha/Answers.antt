@@ -9,7 +9,7 @@ use mir.Syntax.{w64}
 use Rattle.spec.specs.Bytes.{zeros, number}
 use Rattle.laws.proofs.Limbs.{fits-digits}
 use Rattle.laws.proofs.Strings.{digits-zeros}
-use Rattle.field_limbs.proofs.Elements.{Shifted, shifted_next, shifted-all}
+use Rattle.field_limbs.proofs.Elements.{shifted_next, shifted-all}
 use Rattle.field_768.specs.Field.{low768}
 use Rattle.field_768.proofs.times_alpha.Goals as goal
 

@@ -5,7 +5,7 @@ use native.Mathlib.Omega.{arith}
 use mir.Syntax.{w64}
 use Rattle.spec.specs.Bytes.{tabulate}
 use Rattle.laws.proofs.Limbs.{fits-digits}
-use Rattle.field_limbs.proofs.Elements.{Written, written_next, written_all}
+use Rattle.field_limbs.proofs.Elements.{written_next, written_all}
 use Rattle.field_768.proofs.write.Goals as goal
 
 pub loop-i-init : goal.loop-i-init

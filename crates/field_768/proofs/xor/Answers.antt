@@ -5,7 +5,7 @@ use native.Mathlib.Omega.{arith}
 use mir.Syntax.{w64}
 use Rattle.spec.specs.Bytes.{number}
 use Rattle.laws.proofs.Limbs.{fits-digits}
-use Rattle.field_limbs.proofs.Elements.{Summed, summed-next, summed-all}
+use Rattle.field_limbs.proofs.Elements.{summed-next, summed-all}
 use Rattle.field_768.proofs.xor.Goals as goal
 
 pub loop-i-init : goal.loop-i-init

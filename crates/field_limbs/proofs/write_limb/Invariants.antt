@@ -1,14 +1,10 @@
 -- `field_limbs::write_limb` meets its contract. The loop's invariant: after the bytes below `at`, which stay, `b` bytes are right.
-use borrow.Author.Rules.{rules}
-use mathlib.Core.Path.{◌≡◌, refl, sym, ap, ◌∙◌}
-use mathlib.Core.List.{List, ◌++◌, append-nil}
+use mathlib.Core.Path.{◌≡◌, ◌∙◌}
+use mathlib.Core.List.{List, ◌++◌}
 use Prim.Native.Nat.{ℕ, ◌+◌, ◌*◌, ◌/◌, ◌%◌, ◌^◌, ◌-◌, ◌≤◌}
-use native.Mathlib.Nat.{add-zero}
-use native.Mathlib.Omega.{arith}
 use lib.Bits.{bit_xor}
-use lib.ListN.{length, get_or, take, set, length-set}
+use lib.ListN.{length, get_or, take}
 use Rattle.spec.specs.Bytes.{tabulate}
-use Rattle.laws.proofs.Prefixes.{take-stored}
 use Rattle.field_limbs.proofs.write_limb.Given as goal
 
 abbrev pub byte_at : ℕ → List ℕ → ℕ → ℕ → ℕ

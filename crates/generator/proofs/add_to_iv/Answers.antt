@@ -1,7 +1,6 @@
-use Rattle.std.proofs.Common.{◌≡◌, ℕ, ◌+◌, ◌-◌, ◌*◌, ◌/◌, ◌%◌, ◌^◌, ◌<◌, ◌≤◌, List, length, get_or, sym, refl, ap, ◌∙◌, zero-mul, arith, length-set, w8, Fits, rules}
+use Rattle.std.proofs.Common.{◌≡◌, ℕ, ◌+◌, ◌-◌, ◌*◌, ◌/◌, ◌%◌, ◌^◌, ◌<◌, ◌≤◌, length, get_or, sym, refl, ap, ◌∙◌, zero-mul, arith, length-set, w8, Fits, rules}
 use Rattle.spec.specs.Bytes.{big_endian}
-use Rattle.laws.proofs.Numbers.{Digits}
-use Rattle.generator.proofs.Carrying.{Carried, carry-on, byte-stored, all-carried}
+use Rattle.generator.proofs.Carrying.{carry-on, byte-stored, all-carried}
 use Rattle.generator.proofs.add_to_iv.Goals as goal
 
 pub loop-i-init : goal.loop-i-init

@@ -1,8 +1,7 @@
 -- `generator::add_to_iv` meets its contract. The loop's invariant: the IV plus n is the number in out and what is to be carried to byte i - 1. The measure is i.
-use Rattle.std.proofs.Common.{◌≡◌, ℕ, ◌+◌, ◌-◌, ◌*◌, ◌/◌, ◌%◌, ◌^◌, ◌<◌, ◌≤◌, List, length, get_or, sym, refl, ap, ◌∙◌, zero-mul, arith, length-set, w8, Fits, rules}
-use Rattle.spec.specs.Bytes.{big_endian}
+use Rattle.std.proofs.Common.{◌≡◌, ℕ, ◌+◌, ◌-◌, ◌*◌, ◌/◌, ◌%◌, ◌^◌, ◌<◌, ◌≤◌, ◌∙◌}
 use Rattle.laws.proofs.Numbers.{Digits}
-use Rattle.generator.proofs.Carrying.{Carried, carry-on, byte-stored, all-carried}
+use Rattle.generator.proofs.Carrying.{Carried}
 use Rattle.generator.proofs.add_to_iv.Given as goal
 
 abbrev pub invariant-loop-i : goal.invariant-loop-i

@@ -1,5 +1,4 @@
 -- The sum of the number that the word writes, written out again.
-use Rattle.std.proofs.Common.{rules}
 use Rattle.spec.specs.Generator.{add_to_word}
 use Rattle.generator.proofs.add_to_word.Goals as goal
 

@@ -1,5 +1,4 @@
 -- `add_to_word` on the first and the last column.
-use Rattle.std.proofs.Common.{rules}
 use Rattle.generator.proofs.add_to_words.Goals as goal
 
 pub returns : goal.returns

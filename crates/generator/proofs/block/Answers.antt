@@ -1,5 +1,5 @@
 -- The counter's state, encrypted.
-use Rattle.std.proofs.Common.{ap, ◌∙◌, rules}
+use Rattle.std.proofs.Common.{ap, ◌∙◌}
 use Rattle.spec.specs.Aes.{bytes_of}
 use Rattle.generator.proofs.Blocks.{block-is}
 use Rattle.generator.proofs.block.Goals as goal

@@ -1,5 +1,5 @@
 -- Two counters' states, encrypted; in version 1 one block after the other.
-use Rattle.std.proofs.Common.{◌+◌, rules}
+use Rattle.std.proofs.Common.{◌+◌}
 use Rattle.generator.proofs.Blocks.{counter-two, block-is}
 use Rattle.generator.proofs.block_pair.Goals as goal
 

@@ -1,5 +1,4 @@
 -- By the version.
-use Rattle.std.proofs.Common.{rules}
 use Rattle.generator.proofs.Blocks.{counter-one, counter-two}
 use Rattle.generator.proofs.counter.Goals as goal
 

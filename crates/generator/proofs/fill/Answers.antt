@@ -1,5 +1,5 @@
 -- The round keys of the key.
-use Rattle.std.proofs.Common.{◌≡◌, ℕ, ◌+◌, ◌*◌, ◌/◌, length, ap, subst, arith, rules}
+use Rattle.std.proofs.Common.{◌≡◌, ℕ, ◌+◌, ◌*◌, ◌/◌, length, ap, subst, arith}
 use Rattle.aes_keys.specs.RoundKeys.{Keyed}
 use Rattle.generator.proofs.fill.Goals as goal
 

@@ -1,7 +1,5 @@
-use Rattle.std.proofs.Common.{◌≡◌, ℕ, ◌+◌, ◌-◌, ◌≤◌, List, length, refl, arith, rules}
+use Rattle.std.proofs.Common.{◌≡◌, ℕ, ◌+◌, ◌-◌, ◌≤◌, refl, arith, rules}
 use Rattle.job.specs.Versions.{byte_of}
-use Rattle.aes_keys.specs.RoundKeys.{Keyed}
-use Rattle.laws.specs.Front.{Front}
 use Rattle.laws.proofs.Front.{front-none, front-all}
 use Rattle.generator.proofs.Blocks.{block-byte}
 use Rattle.generator.proofs.fill_keyed.Goals as goal

@@ -1,11 +1,9 @@
 -- `generator::fill_keyed` meets its contract. The loop's invariant: the first p bytes of out are the output's from byte `first` on, of every key that the round keys
 -- are those of. The measure is the number of bytes left.
-use Rattle.std.proofs.Common.{◌≡◌, ℕ, ◌+◌, ◌-◌, ◌≤◌, List, length, refl, arith, rules}
+use Rattle.std.proofs.Common.{◌≡◌, ℕ, ◌+◌, ◌-◌, ◌≤◌, List, length}
 use Rattle.job.specs.Versions.{byte_of}
 use Rattle.aes_keys.specs.RoundKeys.{Keyed}
 use Rattle.laws.specs.Front.{Front}
-use Rattle.laws.proofs.Front.{front-none, front-all}
-use Rattle.generator.proofs.Blocks.{block-byte}
 use Rattle.generator.proofs.fill_keyed.Given as goal
 
 abbrev pub invariant-loop-p : goal.invariant-loop-p

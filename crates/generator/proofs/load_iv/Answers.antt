@@ -1,5 +1,5 @@
 -- A list of 16 elements is these elements.
-use Rattle.std.proofs.Common.{get_or, sym, refl, ap, ◌∙◌, rules}
+use Rattle.std.proofs.Common.{get_or, sym, refl, ap, ◌∙◌}
 use Rattle.spec.specs.Bytes.{tabulate}
 use Rattle.spec.specs.Aes.{bytes_of}
 use Rattle.laws.proofs.Lists.{is-tabulate}

@@ -1,5 +1,4 @@
 -- Where `from` is 0 the whole block is stored, else byte by byte; the test says which.
-use Rattle.std.proofs.Common.{rules}
 use Rattle.generator.proofs.store.Goals as goal
 
 pub returns-then-out-p-ge16 : goal.returns-then-out-p-ge16

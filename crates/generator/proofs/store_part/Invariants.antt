@@ -1,7 +1,6 @@
 -- `generator::store_part` meets its contract. The loop's invariant: k bytes of the block are stored. The measure is the number of bytes left.
-use Rattle.std.proofs.Common.{◌≡◌, ◌+◌, ◌-◌, ◌≤◌, length, refl, arith, length-set, rules}
+use Rattle.std.proofs.Common.{◌≡◌, ◌+◌, ◌-◌, ◌≤◌, length}
 use Rattle.generator.specs.Stored.{Continued}
-use Rattle.generator.proofs.Storing.{continued-none, continued-more}
 use Rattle.generator.proofs.store_part.Given as goal
 
 abbrev pub invariant-loop-k : goal.invariant-loop-k

@@ -1,7 +1,6 @@
 -- `generator::store_whole` meets its contract. The loop's invariant: k bytes of the block are stored. The measure is the number of bytes left.
-use Rattle.std.proofs.Common.{◌≡◌, ℕ, ◌+◌, ◌-◌, ◌≤◌, length, get_or, sym, ap, zero-add, arith, length-set, rules}
+use Rattle.std.proofs.Common.{◌≡◌, ℕ, ◌+◌, ◌-◌, ◌≤◌, length}
 use Rattle.generator.specs.Stored.{Continued}
-use Rattle.generator.proofs.Storing.{continued-none, continued-more}
 use Rattle.generator.proofs.store_whole.Given as goal
 
 abbrev pub invariant-loop-k : goal.invariant-loop-k

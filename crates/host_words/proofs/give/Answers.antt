@@ -1,6 +1,5 @@
 -- By the test whether the count is given.
 use mathlib.Core.Path.{refl, sym, ◌∙◌}
-use borrow.Author.Rules.{rules}
 use Rattle.spec.specs.HostCalls.{count_slice}
 use Rattle.host_words.proofs.give.Goals as goal
 

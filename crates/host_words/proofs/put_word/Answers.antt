@@ -1,5 +1,4 @@
 -- Four stores write the four digits.
-use borrow.Author.Rules.{rules}
 use Rattle.host_words.proofs.Words.{stored}
 use Rattle.host_words.proofs.put_word.Goals as goal
 

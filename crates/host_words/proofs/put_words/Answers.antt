@@ -5,7 +5,7 @@ use native.Mathlib.Omega.{arith}
 use lib.ListN.{length, take, drop, length-drop}
 use lib.Seq.{take-length, length-take-le}
 use Rattle.spec.specs.HostCalls.{word_bytes}
-use Rattle.host_words.proofs.Words.{words_to, words-to-length, words-next}
+use Rattle.host_words.proofs.Words.{words-to-length, words-next}
 use Rattle.host_words.proofs.put_words.Goals as goal
 
 pub loop-i-init : goal.loop-i-init

@@ -1,12 +1,9 @@
 -- After i turns the first i numbers stand at the front.
 use Prim.Native.Nat.{ℕ, ◌+◌, ◌-◌, ◌*◌, ◌≤◌}
-use mathlib.Core.Path.{◌≡◌, refl, ap, ap₂, ◌∙◌}
-use mathlib.Core.List.{List, ◌++◌}
-use native.Mathlib.Omega.{arith}
-use lib.ListN.{length, take, drop, length-drop}
-use lib.Seq.{take-length, length-take-le}
-use Rattle.spec.specs.HostCalls.{word_bytes}
-use Rattle.host_words.proofs.Words.{words_to, words-to-length, words-next}
+use mathlib.Core.Path.{◌≡◌, ◌∙◌}
+use mathlib.Core.List.{◌++◌}
+use lib.ListN.{length}
+use Rattle.host_words.proofs.Words.{words_to}
 use Rattle.host_words.proofs.put_words.Given as goal
 
 abbrev pub invariant-loop-i : goal.invariant-loop-i

@@ -2,7 +2,6 @@
 use mathlib.Core.List.{[], ◌∷◌}
 use lib.Bits.{bit_xor}
 use lib.ListN.{get_or}
-use borrow.Author.Rules.{rules}
 use Rattle.spec.specs.Bytes.{tabulate}
 use Rattle.spec.specs.Keccak.{beside_columns}
 use Rattle.keccak.proofs.beside_columns.Goals as goal

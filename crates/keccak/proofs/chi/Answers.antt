@@ -2,7 +2,6 @@
 use mathlib.Core.List.{List, [], ◌∷◌}
 use Prim.Native.Nat.{ℕ}
 use lib.ListN.{get_or}
-use borrow.Author.Rules.{rules}
 use Rattle.spec.specs.Bytes.{tabulate}
 use Rattle.spec.specs.Keccak.{chi}
 use Rattle.keccak.proofs.chi.Goals as goal

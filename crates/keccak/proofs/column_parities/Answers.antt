@@ -1,6 +1,5 @@
 -- The array and the definition compute to one list.
 use mathlib.Core.Path.{refl}
-use borrow.Author.Rules.{rules}
 use Rattle.spec.specs.Bytes.{tabulate}
 use Rattle.spec.specs.Keccak.{column_parities}
 use Rattle.keccak.proofs.column_parities.Goals as goal

@@ -1,6 +1,5 @@
 -- `keccak::iota` meets its contract, by computing.
 use mathlib.Core.Path.{refl}
-use borrow.Author.Rules.{rules}
 use Rattle.spec.specs.Keccak.{iota}
 use Rattle.keccak.proofs.iota.Goals as goal
 

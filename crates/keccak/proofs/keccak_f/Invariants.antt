@@ -1,12 +1,7 @@
 -- `keccak::keccak_f` meets its contract. The loop's invariant: after i turns the state is that of the first i rounds. The measure is the number of rounds left.
-use mathlib.Core.Path.{◌≡◌, refl}
+use mathlib.Core.Path.{◌≡◌}
 use Prim.Native.Nat.{◌-◌, ◌≤◌}
-use native.Mathlib.Numerals.{add-one}
-use native.Mathlib.Omega.{arith}
-use borrow.Author.Rules.{rules}
-use lib.ListN.{get_or}
-use Rattle.laws.proofs.Lists.{get_or-tabulate}
-use Rattle.spec.specs.Keccak.{round_constant, first_rounds, keccak_f}
+use Rattle.spec.specs.Keccak.{first_rounds, keccak_f}
 use Rattle.keccak.proofs.keccak_f.Given as goal
 
 abbrev pub invariant-loop-i : goal.invariant-loop-i

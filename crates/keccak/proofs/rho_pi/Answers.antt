@@ -2,7 +2,6 @@
 -- which a row's last lane is made.
 use mathlib.Core.List.{[], ◌∷◌}
 use lib.ListN.{get_or}
-use borrow.Author.Rules.{rules}
 use Rattle.spec.specs.Bytes.{tabulate, zeros}
 use Rattle.spec.specs.Keccak.{rotl, walk_offsets, rho_offsets, rho, pi}
 use Rattle.keccak.proofs.rho_pi.Goals as goal

@@ -1,5 +1,4 @@
 -- `keccak::round` meets its contract, by those of its four steps.
-use borrow.Author.Rules.{rules}
 use Rattle.spec.specs.Keccak.{round}
 use Rattle.keccak.proofs.round.Goals as goal
 

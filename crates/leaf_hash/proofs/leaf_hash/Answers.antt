@@ -1,5 +1,4 @@
 -- In each branch the field is that of the level which led there.
-use borrow.Author.Rules.{rules}
 use native.Mathlib.Omega.{arith}
 use Rattle.leaf_hash.proofs.Levels.{field-128, field-192, field-256}
 use Rattle.leaf_hash.proofs.leaf_hash.Goals as goal

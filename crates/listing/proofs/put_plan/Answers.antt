@@ -5,12 +5,11 @@ use Prim.Native.Nat.{ℕ, ◌≤◌, min}
 use native.Mathlib.Omega.{arith}
 use lib.ListN.{length, take}
 use lib.Seq.{length-take-le, length_front}
-use borrow.Author.Rules.{rules}
 use Rattle.spec.specs.declared.Shape.{Shape}
 use Rattle.spec.specs.declared.Answer.{Answer}
 use Rattle.spec.specs.Shapes.{resolved}
 use Rattle.spec.specs.Calls.{Plan}
-use Rattle.listing.proofs.Planned.{Listed, Printed, printed}
+use Rattle.listing.proofs.Planned.{Printed, printed}
 use Rattle.listing.proofs.put_plan.Goals as goal
 
 -- the part of a list of 512 numbers that is lent has T elements unless T is over 512

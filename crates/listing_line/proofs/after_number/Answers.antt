@@ -2,7 +2,6 @@
 use Prim.Native.Nat.{ℕ, ◌+◌}
 use mathlib.Core.Path.{ap, ◌∙◌}
 use lib.ListN.{drop}
-use borrow.Author.Rules.{rules}
 use Rattle.laws.proofs.Parts.{to_the_end}
 use Rattle.listing_line.specs.Line.{after_number}
 use Rattle.listing_line.proofs.Numbers.{after-end}

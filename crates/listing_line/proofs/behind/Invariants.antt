@@ -1,10 +1,7 @@
 -- After i turns the text is what stands behind i numbers.
 use Prim.Native.Nat.{ℕ, ◌-◌, ◌≤◌}
-use mathlib.Core.Path.{◌≡◌, sym, ap, ◌∙◌}
-use native.Mathlib.Omega.{arith}
-use borrow.Author.Rules.{rules}
-use Rattle.listing_line.specs.Line.{after_number, behind}
-use Rattle.listing_line.proofs.Numbers.{behind_more}
+use mathlib.Core.Path.{◌≡◌, ◌∙◌}
+use Rattle.listing_line.specs.Line.{behind}
 use Rattle.listing_line.proofs.behind.Given as goal
 
 abbrev pub invariant-loop-i : goal.invariant-loop-i

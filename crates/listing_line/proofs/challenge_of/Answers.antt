@@ -4,7 +4,6 @@ use mathlib.Core.Bool.{true}
 use mathlib.Core.List.{List}
 use native.Mathlib.Omega.{arith}
 use lib.ListN.{get_or, replicate}
-use Rattle.laws.specs.Front.{Front}
 use Rattle.laws.proofs.Front.{front-none, front-set, front-all}
 use Rattle.listing_line.specs.Line.{is_hex_digit, hex_value, challenge_ok, challenge_of}
 use Rattle.listing_line.proofs.Challenge.{challenge-facts, hex-at}

@@ -1,14 +1,10 @@
 -- The first i bytes are those that the first 2 i digits write.
 use Prim.Native.Nat.{ℕ, ◌+◌, ◌-◌, ◌*◌, ◌≤◌, ◌<◌}
-use mathlib.Core.Path.{◌≡◌, ap₂}
-use mathlib.Core.Bool.{true}
+use mathlib.Core.Path.{◌≡◌}
 use mathlib.Core.List.{List}
-use native.Mathlib.Omega.{arith}
-use lib.ListN.{get_or, replicate}
+use lib.ListN.{get_or}
 use Rattle.laws.specs.Front.{Front}
-use Rattle.laws.proofs.Front.{front-none, front-set, front-all}
-use Rattle.listing_line.specs.Line.{is_hex_digit, hex_value, challenge_ok, challenge_of}
-use Rattle.listing_line.proofs.Challenge.{challenge-facts, hex-at}
+use Rattle.listing_line.specs.Line.{hex_value}
 use Rattle.listing_line.proofs.challenge_of.Given as goal
 
 abbrev pub byte : List ℕ → ℕ → ℕ

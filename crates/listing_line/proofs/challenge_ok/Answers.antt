@@ -1,6 +1,5 @@
 -- By the length of the text: 32, 33, or another.
 use mathlib.Core.Path.{◌∙◌}
-use borrow.Author.Rules.{rules}
 use Rattle.listing_line.proofs.Challenge.{challenge-32, challenge-33, challenge-else}
 use Rattle.listing_line.proofs.challenge_ok.Goals as goal
 

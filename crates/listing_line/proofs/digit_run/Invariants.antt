@@ -2,12 +2,9 @@
 use Prim.Native.Nat.{ℕ, ◌-◌, ◌≤◌, ◌<◌}
 use mathlib.Core.Path.{◌≡◌}
 use mathlib.Core.Bool.{true}
-use native.Mathlib.Omega.{arith}
 use lib.ListN.{length, get_or}
-use borrow.Author.Count.{below_none, below_more}
-use Rattle.laws.proofs.Tests.{failed, passed}
+use Rattle.laws.proofs.Tests.{passed}
 use Rattle.listing_line.specs.Line.{is_digit}
-use Rattle.listing_line.proofs.Numbers.{run_is, end-no-digit}
 use Rattle.listing_line.proofs.digit_run.Given as goal
 
 abbrev pub invariant-loop-i : goal.invariant-loop-i

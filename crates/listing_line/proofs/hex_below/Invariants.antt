@@ -1,12 +1,9 @@
 -- Each byte passed is a hexadecimal digit, and one that is none settles it.
 use Prim.Native.Nat.{◌-◌, ◌≤◌}
-use mathlib.Core.Path.{◌≡◌, sym, ap, ◌∙◌}
+use mathlib.Core.Path.{◌≡◌, ◌∙◌}
 use mathlib.Core.Bool.{true}
-use native.Mathlib.Omega.{arith}
-use borrow.Author.Rules.{rules}
-use Rattle.laws.proofs.Tests.{failed, passed}
+use Rattle.laws.proofs.Tests.{passed}
 use Rattle.listing_line.specs.Line.{hex_below}
-use Rattle.listing_line.proofs.Challenge.{hex-stop, hex-more}
 use Rattle.listing_line.proofs.hex_below.Given as goal
 
 abbrev pub invariant-loop-i : goal.invariant-loop-i

@@ -1,7 +1,6 @@
 -- A hexadecimal digit is a decimal one or lies from `a` to `f`.
 use mathlib.Core.Path.{sym, ◌∙◌}
 use native.Mathlib.Omega.{arith}
-use borrow.Author.Rules.{rules}
 use Rattle.listing_line.proofs.Numbers.{digit-bounds}
 use Rattle.listing_line.proofs.Challenge.{hex-bounds}
 use Rattle.listing_line.proofs.hex_value.Goals as goal

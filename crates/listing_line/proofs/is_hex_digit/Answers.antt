@@ -1,6 +1,5 @@
 -- A decimal digit is what `is_digit` says.
 use mathlib.Core.Path.{refl}
-use borrow.Author.Rules.{rules}
 use Rattle.listing_line.proofs.is_hex_digit.Goals as goal
 
 pub returns : goal.returns

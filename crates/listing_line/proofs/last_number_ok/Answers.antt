@@ -1,5 +1,4 @@
 -- With nothing behind the digits two tests are left, else the definition's four.
-use borrow.Author.Rules.{rules}
 use Rattle.listing_line.proofs.Numbers.{last_end, last_more}
 use Rattle.listing_line.proofs.last_number_ok.Goals as goal
 

@@ -1,5 +1,4 @@
 -- Each test is the definition's, of the text behind as many numbers.
-use borrow.Author.Rules.{rules}
 use Rattle.listing_line.specs.Line.{behind, line_ok}
 use Rattle.listing_line.proofs.line_ok.Goals as goal
 

@@ -1,6 +1,5 @@
 -- Digits up to the end of the text are no number; else the three tests are the definition's.
 use mathlib.Core.Path.{refl, sym, ◌∙◌}
-use borrow.Author.Rules.{rules}
 use Rattle.listing_line.specs.Line.{number_ok}
 use Rattle.listing_line.proofs.Numbers.{no-space}
 use Rattle.listing_line.proofs.number_ok.Goals as goal

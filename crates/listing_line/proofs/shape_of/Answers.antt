@@ -1,5 +1,4 @@
 -- Each number is read of the text behind as many numbers.
-use borrow.Author.Rules.{rules}
 use Rattle.listing_line.specs.Line.{behind, shape_of}
 use Rattle.listing_line.proofs.shape_of.Goals as goal
 

@@ -1,5 +1,4 @@
 -- One store.
-use borrow.Author.Rules.{rules}
 use Rattle.listing_text.proofs.Writing.{put_one}
 use Rattle.listing_text.proofs.put_byte.Goals as goal
 

@@ -2,10 +2,8 @@ use Prim.Native.Nat.{◌+◌, ◌-◌, ◌≤◌}
 use mathlib.Core.Path.{◌≡◌, ◌∙◌}
 use native.Mathlib.Omega.{arith}
 use native.Mathlib.Numerals.{add-one}
-use lib.ListN.{length, take}
 use lib.Seq.{take-suc, take_all}
 use borrow.Author.Rules.{rules}
-use Rattle.listing_text.specs.Put.{Put}
 use Rattle.listing_text.proofs.Writing.{put-none, put_next}
 use Rattle.listing_text.proofs.put_bytes.Goals as goal
 

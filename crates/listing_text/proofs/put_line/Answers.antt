@@ -1,6 +1,5 @@
 -- The digits, at most five, and behind them the line feed.
 use native.Mathlib.Omega.{arith}
-use borrow.Author.Rules.{rules}
 use Rattle.listing_text.proofs.Decimal.{decimal-short}
 use Rattle.listing_text.proofs.Writing.{put_next}
 use Rattle.listing_text.proofs.put_line.Goals as goal

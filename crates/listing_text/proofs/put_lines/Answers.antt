@@ -5,7 +5,6 @@ use native.Mathlib.Numerals.{add-one}
 use lib.ListN.{length, get_or}
 use borrow.Author.Rules.{rules}
 use Rattle.spec.specs.Bytes.{concat}
-use Rattle.listing_text.specs.Put.{Put, number_lines}
 use Rattle.listing_text.proofs.Decimal.{line-short}
 use Rattle.listing_text.proofs.Writing.{put-none, put_next}
 use Rattle.listing_text.proofs.put_lines.Goals as goal

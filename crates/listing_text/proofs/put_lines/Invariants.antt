@@ -1,14 +1,8 @@
 -- After i turns the first i lines are put, each of at most six bytes.
 use Prim.Native.Nat.{◌+◌, ◌-◌, ◌*◌, ◌≤◌}
 use mathlib.Core.Path.{◌≡◌, ◌∙◌}
-use native.Mathlib.Omega.{arith}
-use native.Mathlib.Numerals.{add-one}
-use lib.ListN.{length, get_or}
-use borrow.Author.Rules.{rules}
-use Rattle.spec.specs.Bytes.{concat}
+use lib.ListN.{length}
 use Rattle.listing_text.specs.Put.{Put, number_lines}
-use Rattle.listing_text.proofs.Decimal.{line-short}
-use Rattle.listing_text.proofs.Writing.{put-none, put_next}
 use Rattle.listing_text.proofs.put_lines.Given as goal
 
 abbrev pub invariant-loop-i : goal.invariant-loop-i

@@ -1,7 +1,6 @@
 -- The word, the line with the count, and a line for each node.
 use native.Mathlib.Omega.{arith}
 use lib.ListN.{length}
-use borrow.Author.Rules.{rules}
 use Rattle.listing_text.specs.Text.{nodes_text}
 use Rattle.listing_text.proofs.Decimal.{line-short}
 use Rattle.listing_text.proofs.Writing.{put_next}

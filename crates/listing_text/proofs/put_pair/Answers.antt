@@ -1,6 +1,5 @@
 -- A number, a space, a number and a line feed; the numbers have at most ten digits each.
 use native.Mathlib.Omega.{arith}
-use borrow.Author.Rules.{rules}
 use Rattle.listing_text.proofs.Decimal.{decimal-length}
 use Rattle.listing_text.proofs.Writing.{put_next}
 use Rattle.listing_text.specs.Text.{pair_text}

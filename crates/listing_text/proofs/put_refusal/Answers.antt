@@ -1,6 +1,5 @@
 -- The word, and behind it the line with the number.
 use native.Mathlib.Omega.{arith}
-use borrow.Author.Rules.{rules}
 use Rattle.listing_text.specs.Text.{refused_text}
 use Rattle.listing_text.proofs.Decimal.{line-short}
 use Rattle.listing_text.proofs.Writing.{put_next}

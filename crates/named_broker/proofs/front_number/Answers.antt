@@ -1,5 +1,4 @@
 -- The number of what reading the front gives.
-use borrow.Author.Rules.{rules}
 use Rattle.named_broker.proofs.front_number.Goals as goal
 
 pub returns : goal.returns

@@ -1,5 +1,4 @@
 -- The code's rows are those of the table, their depths and row lengths computed: it asks for the sets of FAEST-EM, the last six, first.
-use borrow.Author.Rules.{rules}
 use mathlib.Core.Path.{sym, ap₂, ◌∙◌}
 use mathlib.Core.Bool.{◌||◌, or-false}
 use Rattle.named_sets.specs.NamedSets.{sets, shape_of_set, row_of_set, named_in, named_ok}

@@ -5,7 +5,6 @@ use Prim.Native.Nat.{ℕ, ◌+◌, ◌-◌, ◌*◌, ◌≤◌}
 use native.Mathlib.Omega.{arith}
 use native.Mathlib.Nat.{mul-zero}
 use lib.ListN.{length, take, drop}
-use Rattle.spec.specs.declared.Shape.{Shape}
 use Rattle.spec.specs.Bytes.{part, concat}
 use Rattle.spec.specs.Shapes.{leaf_commitment_bytes, leaves, first_entry, hidden_index, leaf_commitments_bytes}
 use Rattle.spec.specs.Signer.{leaf_commitment_at}

@@ -1,19 +1,12 @@
 -- After i turns the leaf commitments of the first i vectors stand at the front.
-use borrow.Author.Rules.{rules}
-use mathlib.Core.Path.{◌≡◌, refl, sym, ap, ap₂, ◌∙◌}
+use mathlib.Core.Path.{◌≡◌, ◌∙◌}
 use mathlib.Core.List.{List, [], ◌++◌}
 use Prim.Native.Nat.{ℕ, ◌+◌, ◌-◌, ◌*◌, ◌≤◌}
-use native.Mathlib.Omega.{arith}
-use native.Mathlib.Nat.{mul-zero}
-use lib.ListN.{length, take, drop}
+use lib.ListN.{length, take}
 use Rattle.spec.specs.declared.Shape.{Shape}
-use Rattle.spec.specs.Bytes.{part, concat}
-use Rattle.spec.specs.Shapes.{leaf_commitment_bytes, leaves, first_entry, hidden_index, leaf_commitments_bytes}
+use Rattle.spec.specs.Bytes.{concat}
+use Rattle.spec.specs.Shapes.{hidden_index}
 use Rattle.spec.specs.Signer.{leaf_commitment_at}
-use Rattle.laws.proofs.Concat.{mul_next, mul-within, mul-limit}
-use Rattle.laws.proofs.Lists.{length_part}
-use Rattle.laws.proofs.Putting.{put_next}
-use Rattle.planning_laws.proofs.ShapeFacts.{shape-facts}
 use Rattle.opening.proofs.write_hidden.Given as goal
 
 abbrev pub hidden : Shape → List ℕ → List ℕ → ℕ → List ℕ

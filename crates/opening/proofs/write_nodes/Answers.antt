@@ -1,11 +1,11 @@
 use borrow.Author.Rules.{rules}
 use mathlib.Core.Path.{◌≡◌, refl, sym, ap, ◌∙◌}
-use mathlib.Core.List.{List, ◌++◌, append-nil}
+use mathlib.Core.List.{◌++◌, append-nil}
 use Prim.Native.Nat.{ℕ, ◌+◌, ◌-◌, ◌*◌, ◌≤◌}
 use native.Mathlib.Nat.{add-zero, mul-zero, le_refl}
 use native.Mathlib.Omega.{arith}
 use lib.ListN.{length, get_or, take, drop}
-use Rattle.spec.specs.Bytes.{part, concat}
+use Rattle.spec.specs.Bytes.{concat}
 use Rattle.laws.proofs.Concat.{mul_next, mul-within, mul-limit}
 use Rattle.laws.proofs.Lists.{length_part}
 use Rattle.laws.proofs.Putting.{put_next}

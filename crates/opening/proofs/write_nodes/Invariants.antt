@@ -1,15 +1,9 @@
 -- After m turns the first m nodes stand behind the bytes before `at`.
-use borrow.Author.Rules.{rules}
-use mathlib.Core.Path.{◌≡◌, refl, sym, ap, ◌∙◌}
-use mathlib.Core.List.{List, ◌++◌, append-nil}
+use mathlib.Core.Path.{◌≡◌, ◌∙◌}
+use mathlib.Core.List.{List, ◌++◌}
 use Prim.Native.Nat.{ℕ, ◌+◌, ◌-◌, ◌*◌, ◌≤◌}
-use native.Mathlib.Nat.{add-zero, mul-zero, le_refl}
-use native.Mathlib.Omega.{arith}
-use lib.ListN.{length, get_or, take, drop}
+use lib.ListN.{length, get_or, take}
 use Rattle.spec.specs.Bytes.{part, concat}
-use Rattle.laws.proofs.Concat.{mul_next, mul-within, mul-limit}
-use Rattle.laws.proofs.Lists.{length_part}
-use Rattle.laws.proofs.Putting.{put_next}
 use Rattle.opening.proofs.write_nodes.Given as goal
 
 abbrev pub listed : ℕ → List ℕ → List ℕ → ℕ → List ℕ

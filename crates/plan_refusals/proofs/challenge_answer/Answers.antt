@@ -1,5 +1,4 @@
 -- Where the grinding bits are 0 the allowance decides; a list with room for T nodes has room for as many as are let through.
-use borrow.Author.Rules.{rules}
 use native.Mathlib.Omega.{arith}
 use mathlib.Core.Path.{ap, ◌∙◌}
 use lib.ListN.{take}

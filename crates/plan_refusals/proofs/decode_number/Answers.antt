@@ -1,5 +1,4 @@
 -- Where the shape and the lengths are passed the grinding bits decide.
-use borrow.Author.Rules.{rules}
 use Rattle.refusals.proofs.Numbers.{sizes-passed, decode-stops, grinding-decides}
 use Rattle.plan_refusals.proofs.decode_number.Goals as goal
 

@@ -1,5 +1,4 @@
 -- A challenge has as many bytes as a node.
-use borrow.Author.Rules.{rules}
 use mathlib.Core.Path.{refl}
 use Rattle.spec.specs.Shapes.{node_bytes, challenge_bytes}
 use Rattle.plan_refusals.proofs.list_fits.Goals as goal

@@ -1,5 +1,4 @@
 -- Where the shape is allowed the lengths decide.
-use borrow.Author.Rules.{rules}
 use Rattle.laws.proofs.Tests.{failed, passed}
 use Rattle.refusals.proofs.Numbers.{shape-stops, sizes-decide}
 use Rattle.plan_refusals.proofs.list_number.Goals as goal

@@ -1,5 +1,4 @@
 -- Where the shape and the lengths are passed the challenge decides.
-use borrow.Author.Rules.{rules}
 use mathlib.Core.Path.{sym, ◌∙◌}
 use Rattle.refusals.proofs.Numbers.{sizes-passed, plan-stops, challenge-decides}
 use Rattle.plan_refusals.proofs.plan_answer.Goals as goal

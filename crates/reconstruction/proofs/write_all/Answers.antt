@@ -20,28 +20,25 @@ use Rattle.reconstruction.proofs.write_all.Goals as goal
 
 pub reconstruct_tree-requires : goal.reconstruct_tree-requires
 reconstruct_tree-requires c =
-    let start = c in
-    let p = start.requires.s_value in
-    let q = start.requires.iv_len in
-    record { sbox_table = c.table-t.ensures; s_value = (p.0, q.1, p.2, p.3, q.3, start.requires.commitment_len.1) }
+    let p = c.requires.s_value in
+    let q = c.requires.iv_len in
+    record { sbox_table = c.table-t.ensures; s_value = (p.0, q.1, p.2, p.3, q.3, c.requires.commitment_len.1) }
 
 pub write_vectors-requires : goal.write_vectors-requires
 unfolding nodes_bytes opening_length
 write_vectors-requires c =
-    let start = c in
-    let g = start.args in
-    let p = start.requires.s_value in
-    let q = start.requires.iv_len in
-    let o = start.requires.commitment_len in
+    let g = c.args in
+    let p = c.requires.s_value in
+    let q = c.requires.iv_len in
+    let o = c.requires.commitment_len in
     let keys = keys-same g.s _ _ _ c.load_iv-x.ensures c.hash_keys.ensures in
     let lent-tree = c.reconstruct_tree.auto.tree ∙ o.1 in
     record { lent = (record { job = record { shape = p.0; kind = two_fits g.s; row = p.1 }; table = c.table-t.ensures; tree = lent-tree }, keys, q.1, q.3); lcs_len = (o.2, o.3, p.5) }
 
 pub correct_vectors-requires : goal.correct_vectors-requires
 correct_vectors-requires c =
-    let start = c in
-    let q = start.requires.iv_len in
-    (start.requires.s_value.0, width_small start.args.z start.requires.s_value.1, q.1, q.2, c.write_vectors.auto.q ∙ start.requires.commitment_len.3)
+    let q = c.requires.iv_len in
+    (c.requires.s_value.0, width_small c.args.z c.requires.s_value.1, q.1, q.2, c.write_vectors.auto.q ∙ c.requires.commitment_len.3)
 
 pub h1-requires : goal.h1-requires
 h1-requires c = (let r = c.rate_bytes-r.ensures in (r.2, r.1))
@@ -49,13 +46,12 @@ h1-requires c = (let r = c.rate_bytes-r.ensures in (r.2, r.1))
 pub returns : goal.returns
 unfolding faest leaf_key commitment_of row_byte stretch_byte hidden_leaf_commitment verifier_leaf_commitment primitives_of leaf_node leaf_seed_of leaf_commitment_of hidden_from entry_commitment entry_byte given_commitment
 returns c =
-    let start = c in
-    let g = start.args in
+    let g = c.args in
     let x = c.load_iv-x in
     let vectors = c.write_vectors in
     let made = vectors.ensures in
     let hash =
     c.h1.ensures ∙ ap (λ (r : ℕ). hash1 r vectors.new.hashes (length g.commitment.now)) c.rate_bytes-r.ensures.0
-    ∙ ap₂ (λ (m : List ℕ) (n : ℕ). hash1 (rate g.s) m n) made.hashes_after start.requires.commitment_len.0 in
+    ∙ ap₂ (λ (m : List ℕ) (n : ℕ). hash1 (rate g.s) m n) made.hashes_after c.requires.commitment_len.0 in
     reconstruct-writes g.s g.z x.result g.ch.now g.corrections.now g.opening.now _ _ _ _ c.reconstruct_tree.ensures hash made.lcs_after (c.correct_vectors.ensures _ made.q_after)
     ∙ ap (λ (i : List ℕ). reconstructed faest g.s g.z i g.ch.now g.corrections.now g.opening.now) x.ensures

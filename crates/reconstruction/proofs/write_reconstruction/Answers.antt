@@ -30,14 +30,13 @@ slice_bounds-hashes-end c = hashes-end (goal.at.slice_bounds-hashes-end c).After
 
 pub write_all-requires : goal.write_all-requires
 write_all-requires c =
-    let start = c in
-    let p = start.requires.s_value in
-    let tau = start.args.s.tau in
+    let p = c.requires.s_value in
+    let tau = c.args.s.tau in
     let w = c.commitment_bytes-w in
     let h = c.hash_bytes-h in
     let keys = lent 0 (w.result * tau) _ (replicate 3072 0) (ap (λ (n : ℕ). n * tau) w.ensures.0 ∙ sym (zero-add _)) (keys-end (goal.at.write_all-requires c).After-commitment_bytes-w) in
     let hashes = lent 0 (h.result * tau) _ (replicate 2048 0) (ap (λ (n : ℕ). n * tau) h.ensures.0 ∙ sym (zero-add _)) (hashes-end (goal.at.write_all-requires c).After-hash_bytes-h) in
-    record { s_value = (p.0, p.1, p.2, p.3, keys, hashes); iv_len = start.requires.iv_len; commitment_len = start.requires.commitment_len }
+    record { s_value = (p.0, p.1, p.2, p.3, keys, hashes); iv_len = c.requires.iv_len; commitment_len = c.requires.commitment_len }
 
 pub returns : goal.returns
 returns c = c.write_all.ensures

@@ -1,5 +1,4 @@
 -- What is not read is one law of `Answers`, by the front's number or by what the reader found; the rest is what `check_fields` promises.
-use borrow.Author.Rules.{rules}
 use native.Mathlib.Omega.{arith}
 use Prim.Native.Nat.{ℕ}
 use mathlib.Core.Path.{refl, sym, ap, ◌∙◌}
@@ -26,23 +25,18 @@ sizes_of-z-requires c =
 
 pub is_read-requires : goal.is_read-requires
 is_read-requires c =
-    let el = c in
-    let pre = el.requires in
-    c.sizes_of-z.ensures _ (pre.said (sym pre.number ∙ el.if-f-ne0.false))
+    let pre = c.requires in
+    c.sizes_of-z.ensures _ (pre.said (sym pre.number ∙ c.if-f-ne0.false))
 
 pub returns-then-not-is_read : goal.returns-then-not-is_read
 returns-then-not-is_read c =
-    let ir = c in
-    check-read _ _ _ 10 (sym (ir.is_read.ensures ∙ ap number_by {x = ir.is_read.result} {y = false} (failed refl c.if-not-is_read.true))) (λ z. omega arith) c.answer-then-not-is_read.ensures
+    check-read _ _ _ 10 (sym (c.is_read.ensures ∙ ap number_by {x = c.is_read.result} {y = false} (failed refl c.if-not-is_read.true))) (λ z. omega arith) c.answer-then-not-is_read.ensures
 
 pub check_fields-requires : goal.check_fields-requires
 check_fields-requires c =
-    let ir = c in
-    let sz = ir in
-    let el = sz in
-    let pre = el.requires in
-    let p = pre.said (sym pre.number ∙ el.if-f-ne0.false) in
-    (p, sz.sizes_of-z.ensures _ p, ir.is_read.ensures ∙ ap number_by {x = ir.is_read.result} {y = true} (passed refl c.if-not-is_read.false))
+    let pre = c.requires in
+    let p = pre.said (sym pre.number ∙ c.if-f-ne0.false) in
+    (p, c.sizes_of-z.ensures _ p, c.is_read.ensures ∙ ap number_by {x = c.is_read.result} {y = true} (passed refl c.if-not-is_read.false))
 
 pub returns : goal.returns
 returns c = c.check_fields.ensures

@@ -1,5 +1,4 @@
 -- The part of the buffer that is lent has the commitment's length.
-use borrow.Author.Rules.{rules}
 use lib.Seq.{length-take-le}
 use mathlib.Core.Path.{sym, ap, ◌∙◌}
 use Rattle.spec.specs.Shapes.{hash_bytes}
@@ -11,9 +10,8 @@ slice_bounds-compared-end c = sym (length-take-le c.hash_bytes-n.result _ c.hash
 
 pub compared-requires : goal.compared-requires
 compared-requires c =
-    let hb = c in
-    let pre = hb.requires in
-    length-take-le hb.hash_bytes-n.result _ hb.hash_bytes-n.ensures.1 ∙ hb.hash_bytes-n.ensures.0 ∙ ap hash_bytes pre.1
+    let pre = c.requires in
+    length-take-le c.hash_bytes-n.result _ c.hash_bytes-n.ensures.1 ∙ c.hash_bytes-n.ensures.0 ∙ ap hash_bytes pre.1
 
 pub returns : goal.returns
 returns c = c.compared.ensures

@@ -1,5 +1,4 @@
 -- A challenge is as long as a node.
-use borrow.Author.Rules.{rules}
 use Rattle.spec.specs.Shapes.{node_bytes, challenge_bytes}
 use Rattle.record_fields.proofs.challenge_length.Goals as goal
 

@@ -1,5 +1,4 @@
 -- Each way out by the length: the field is there, or its end lies behind the record's.
-use borrow.Author.Rules.{rules}
 use native.Mathlib.Omega.{arith}
 use borrow.Author.Tests.{le-leb, lt-leb}
 use mathlib.Core.Path.{refl}

@@ -1,5 +1,4 @@
 -- The kind has a byte in version 3; any other means ordinary leaves.
-use borrow.Author.Rules.{rules}
 use native.Mathlib.Omega.{arith}
 use mathlib.Core.Path.{refl}
 use borrow.Author.Tests.{eq-eqb, ne_eqb}

@@ -1,5 +1,4 @@
 -- Version 1 means level 128; in any other the level has a byte.
-use borrow.Author.Rules.{rules}
 use native.Mathlib.Omega.{arith}
 use mathlib.Core.Path.{refl, ap}
 use Prim.Native.Nat.{ℕ, ◌*◌}

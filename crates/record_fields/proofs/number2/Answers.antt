@@ -1,5 +1,4 @@
 -- The law of two bytes.
-use borrow.Author.Rules.{rules}
 use native.Mathlib.Omega.{arith}
 use Rattle.record.proofs.Numbers.{two_bytes}
 use Rattle.record_fields.proofs.number2.Goals as goal

@@ -1,5 +1,4 @@
 -- The law of four bytes.
-use borrow.Author.Rules.{rules}
 use native.Mathlib.Omega.{arith}
 use Rattle.record.proofs.Numbers.{four_bytes}
 use Rattle.record_fields.proofs.number4.Goals as goal

@@ -1,5 +1,4 @@
 -- The lengths of the fields, in the order of the places; the bound is a law.
-use borrow.Author.Rules.{rules}
 use native.Mathlib.Omega.{arith}
 use mathlib.Core.Path.{◌≡◌, ap, ◌∙◌}
 use Rattle.record.specs.Record.{head_bytes, corrections_place, opening_place, commitment_place, record_end, record_bytes}

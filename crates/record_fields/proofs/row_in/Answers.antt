@@ -1,5 +1,4 @@
 -- The row length is what `number4` reads.
-use borrow.Author.Rules.{rules}
 use Rattle.record.specs.Record.{row_in}
 use Rattle.record_fields.proofs.row_in.Goals as goal
 

@@ -1,15 +1,7 @@
 -- The invariant: the bytes passed are the same. A byte or a length that differs would be the same in equal strings.
-use borrow.Author.Rules.{rules}
-use borrow.Author.Count.{below_more}
-use mathlib.Core.Path.{◌≡◌, sym, ap, ◌∙◌}
-use mathlib.Core.List.{List}
+use mathlib.Core.Path.{◌≡◌, ◌∙◌}
 use Prim.Native.Nat.{ℕ, ◌-◌, ◌≤◌, ◌<◌}
-use native.Mathlib.Omega.{arith}
 use lib.ListN.{length, get_or}
-use lib.Seq.{ext_get_or}
-use Rattle.laws.proofs.Conjunctions.{refuted}
-use Rattle.record.specs.RecordCalls.{same_bytes}
-use Rattle.record.proofs.SameBytes.{same_refl, same-equal}
 use Rattle.record_fields.proofs.same_bytes.Given as goal
 
 abbrev pub invariant-loop-p : goal.invariant-loop-p

@@ -1,5 +1,4 @@
 -- Each number is the one read.
-use borrow.Author.Rules.{rules}
 use native.Mathlib.Omega.{arith}
 use Rattle.record.specs.Record.{shape_in}
 use Rattle.record.proofs.Bounds.{head-nine}

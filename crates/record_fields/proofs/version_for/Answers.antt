@@ -1,5 +1,4 @@
 -- Version 2 is written for ordinary leaves, and 3 for others.
-use borrow.Author.Rules.{rules}
 use mathlib.Core.Path.{refl, sym, ◌∙◌}
 use Rattle.record.specs.Record.{version_for}
 use Rattle.record_fields.proofs.version_for.Goals as goal

@@ -1,5 +1,4 @@
 -- A missing byte reads as 0.
-use borrow.Author.Rules.{rules}
 use native.Mathlib.Omega.{arith}
 use mathlib.Core.Path.{refl}
 use lib.ListN.{get_or-eq_default}

@@ -1,5 +1,4 @@
 -- The head says the shape, by the version, and the row length; the number is that of both.
-use borrow.Author.Rules.{rules}
 use mathlib.Core.Path.{refl}
 use Rattle.record.proofs.Bounds.{head-nine}
 use Rattle.record_reading.proofs.front_in.Goals as goal

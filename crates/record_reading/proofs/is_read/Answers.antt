@@ -1,5 +1,4 @@
 -- Behind a front that is read the fields and the end decide.
-use borrow.Author.Rules.{rules}
 use Rattle.record.proofs.Reading.{end-decides}
 use Rattle.record_reading.proofs.is_read.Goals as goal
 

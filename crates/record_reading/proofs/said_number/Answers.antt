@@ -1,5 +1,4 @@
 -- Each way out by the tests that led there.
-use borrow.Author.Rules.{rules}
 use mathlib.Core.Path.{◌≡◌, refl, ap₂}
 use mathlib.Core.Bool.{false, ◌&&◌}
 use Rattle.spec.specs.Shapes.{shape_ok}

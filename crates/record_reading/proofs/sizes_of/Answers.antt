@@ -1,5 +1,4 @@
 -- The lengths are those of the version, the resolved shape and the rows, which the front says.
-use borrow.Author.Rules.{rules}
 use native.Mathlib.Omega.{arith}
 use mathlib.Core.Path.{ap, ap₂, ◌∙◌}
 use Rattle.spec.specs.Shapes.{challenge_bytes, hash_bytes, opening_bytes, corrections_bytes}

@@ -1,5 +1,4 @@
 -- The four quotients, each modulo 256.
-use borrow.Author.Rules.{rules}
 use Rattle.record_writer.proofs.Putting.{four-of}
 use Rattle.record_writer.proofs.four_bytes.Goals as goal
 

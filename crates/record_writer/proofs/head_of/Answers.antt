@@ -1,5 +1,4 @@
 -- The head's numbers fit their bytes.
-use borrow.Author.Rules.{rules}
 use Rattle.record_writer.proofs.Putting.{head_bytes_lem}
 use Rattle.record_writer.proofs.head_of.Goals as goal
 

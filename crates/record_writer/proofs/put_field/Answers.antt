@@ -1,5 +1,4 @@
 -- The length, then the bytes.
-use borrow.Author.Rules.{rules}
 use mathlib.Core.Path.{refl}
 use native.Mathlib.Omega.{arith}
 use Rattle.record_writer.proofs.Putting.{put_then, put-copied}

@@ -1,5 +1,4 @@
 -- The version, then the head as a field. The part of the head's array that is lent is the head.
-use borrow.Author.Rules.{rules}
 use native.Mathlib.Omega.{arith}
 use mathlib.Core.Path.{sym, ap, ◌∙◌}
 use Prim.Native.Nat.{ℕ}

@@ -1,5 +1,4 @@
 -- The first byte is set.
-use borrow.Author.Rules.{rules}
 use Rattle.record_writer.proofs.Putting.{put_first}
 use Rattle.record_writer.proofs.put_version.Goals as goal
 

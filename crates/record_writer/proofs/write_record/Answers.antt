@@ -1,5 +1,4 @@
 -- Each way out is one law of `Answers`, by the tests that led there.
-use borrow.Author.Rules.{rules}
 use mathlib.Core.Path.{ap, ◌∙◌, sym}
 use Rattle.record_writer.proofs.Answers.{room, write-1, write-2, write-3, write-0}
 use Rattle.rules.proofs.RowLength.{row-max}

@@ -1,5 +1,4 @@
 -- A number of the front or of the fields stops; else the fields are there, and their entry is the record's.
-use borrow.Author.Rules.{rules}
 use borrow.Author.Tests.{not-true, not-false}
 use native.Mathlib.Omega.{arith}
 use Prim.Native.Nat.{ℕ}

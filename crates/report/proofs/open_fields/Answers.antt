@@ -1,5 +1,4 @@
 -- The five fields are those that the record says, so they have its lengths, and the entry of two of them is the record's.
-use borrow.Author.Rules.{rules}
 use Prim.Native.Nat.{ℕ}
 use mathlib.Core.Path.{◌≡◌, sym, ap, ◌∙◌}
 use mathlib.Core.List.{List}

@@ -1,5 +1,4 @@
 -- Each way out is one law of `Answers`, by the tests that led there.
-use borrow.Author.Rules.{rules}
 use native.Mathlib.Omega.{arith}
 use mathlib.Core.Path.{◌∙◌}
 use Rattle.laws.proofs.Tests.{failed, passed}

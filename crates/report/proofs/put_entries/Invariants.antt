@@ -1,15 +1,8 @@
 -- After each turn the records up to `at` are reported: the laws of `Reported`.
 use Prim.Native.Nat.{ℕ, ◌-◌, ◌≤◌}
-use mathlib.Core.Path.{◌≡◌, refl, ap, ◌∙◌}
-use mathlib.Core.List.{List}
-use native.Mathlib.Omega.{arith}
-use lib.ListN.{length, drop, length-drop}
-use borrow.Author.Rules.{rules}
-use Rattle.laws.proofs.Parts.{to_the_end}
-use Rattle.listing_text.proofs.Writing.{rest-further}
-use Rattle.report_text.specs.Entries.{entry_of}
-use Rattle.report_text.proofs.Entries.{Bounds}
-use Rattle.report.proofs.Reported.{Reported, reported-none, entry-sized, reported-more, reported-all}
+use mathlib.Core.Path.{◌≡◌, ◌∙◌}
+use lib.ListN.{length, drop}
+use Rattle.report.proofs.Reported.{Reported}
 use Rattle.report.proofs.put_entries.Given as goal
 
 abbrev pub invariant-loop-at : goal.invariant-loop-at

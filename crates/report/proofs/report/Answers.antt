@@ -1,6 +1,4 @@
 -- More than 65,536 bytes are refused, and else the entries are put.
-use native.Mathlib.Omega.{arith}
-use borrow.Author.Rules.{rules}
 use borrow.Author.Tests.{le-leb, lt-leb}
 use lib.ListN.{length}
 use Rattle.listing_text.proofs.Writing.{put_front}

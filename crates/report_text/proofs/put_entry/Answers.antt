@@ -1,6 +1,5 @@
 -- The place, at most five digits, a space, and by the number the pair or the refusal.
 use native.Mathlib.Omega.{arith}
-use borrow.Author.Rules.{rules}
 use borrow.Author.Tests.{eq-eqb, ne_eqb}
 use Rattle.listing_text.proofs.Decimal.{decimal-short}
 use Rattle.listing_text.proofs.Writing.{put_next}

@@ -1,5 +1,4 @@
 -- The word, and behind it the pair.
-use borrow.Author.Rules.{rules}
 use Rattle.listing_text.proofs.Writing.{put_next}
 use Rattle.report_text.specs.Text.{total_text}
 use Rattle.report_text.proofs.put_total.Goals as goal

@@ -1,5 +1,4 @@
 -- The contracts of the three calls make the claim.
-use borrow.Author.Rules.{rules}
 use Rattle.round_trip.proofs.Claim.{claim}
 use Rattle.round_trip.proofs.round_trip.Goals as goal
 

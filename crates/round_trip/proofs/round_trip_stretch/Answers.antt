@@ -1,5 +1,4 @@
 -- The contracts of the three calls make the claim, as in `round_trip`.
-use borrow.Author.Rules.{rules}
 use Rattle.round_trip.proofs.Claim.{claim-stretch}
 use Rattle.round_trip.proofs.round_trip_stretch.Goals as goal
 

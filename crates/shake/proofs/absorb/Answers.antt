@@ -1,10 +1,7 @@
 use mathlib.Core.Path.{◌≡◌}
 use Prim.Native.Nat.{◌+◌, ◌-◌, ◌≤◌}
 use native.Mathlib.Omega.{arith}
-use borrow.Author.Rules.{rules}
-use lib.ListN.{length, take}
 use lib.Seq.{take-add, take_all}
-use Rattle.shake.specs.Absorbing.{Took}
 use Rattle.shake.proofs.Absorbing.{took-none, took_more}
 use Rattle.shake.proofs.absorb.Goals as goal
 

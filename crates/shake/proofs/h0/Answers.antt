@@ -1,6 +1,5 @@
 -- What `hash` ensures of the sponge that has absorbed the message.
 use mathlib.Core.List.{[]}
-use borrow.Author.Rules.{rules}
 use Rattle.spec.specs.Hashes.{hash0}
 use Rattle.shake.proofs.h0.Goals as goal
 

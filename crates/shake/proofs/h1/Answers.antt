@@ -1,6 +1,5 @@
 -- What `h1_finish` ensures, of one part.
 use mathlib.Core.List.{[]}
-use borrow.Author.Rules.{rules}
 use Rattle.shake.proofs.h1.Goals as goal
 
 pub returns : goal.returns

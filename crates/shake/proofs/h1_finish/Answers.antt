@@ -1,5 +1,4 @@
 -- What `hash` ensures, with the byte of H1.
-use borrow.Author.Rules.{rules}
 use Rattle.spec.specs.Hashes.{hash1}
 use Rattle.shake.proofs.h1_finish.Goals as goal
 

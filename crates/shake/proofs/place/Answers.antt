@@ -4,9 +4,7 @@ use mathlib.Core.List.{List, ◌++◌, append-nil}
 use Prim.Native.Nat.{ℕ, ◌+◌, ◌-◌, ◌≤◌}
 use native.Mathlib.Nat.{sub_self}
 use native.Mathlib.Omega.{arith}
-use borrow.Author.Rules.{rules}
 use lib.ListN.{length, take, drop}
-use lib.Seq.{take-length}
 use Rattle.laws.proofs.Strings.{take-zeros, drop-zeros}
 use Rattle.spec.specs.Bytes.{zeros}
 use Rattle.shake.proofs.place.Goals as goal

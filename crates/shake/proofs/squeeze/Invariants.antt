@@ -1,15 +1,10 @@
 -- `shake::squeeze` meets its contract. The loop's invariant: the first `at` bytes are squeezed, and where there are more to come the state is that of the block
 -- that begins there. The measure is the number of bytes left.
-use mathlib.Core.Path.{◌≡◌, refl, sym, ap, ◌∙◌}
-use Prim.Native.Nat.{ℕ, suc, ◌+◌, ◌-◌, ◌*◌, ◌<◌}
-use native.Mathlib.Nat.{mul-zero, mul-suc}
-use native.Mathlib.Omega.{arith}
-use borrow.Author.Rules.{rules}
-use borrow.Rule.Slice.PartMut.{put_mid}
+use mathlib.Core.Path.{◌≡◌, ◌∙◌}
+use Prim.Native.Nat.{ℕ, ◌+◌, ◌-◌, ◌*◌, ◌<◌}
 use lib.ListN.{length}
-use Rattle.spec.specs.Keccak.{keccak_f}
 use Rattle.spec.specs.Sponge.{permuted}
-use Rattle.shake.proofs.Squeezing.{Squeezed, squeezed-none, squeezed-more, squeezed-all}
+use Rattle.shake.proofs.Squeezing.{Squeezed}
 use Rattle.shake.proofs.squeeze.Given as goal
 
 abbrev pub invariant-loop-at : goal.invariant-loop-at

@@ -3,9 +3,8 @@ use mathlib.Core.Path.{◌≡◌, sym, ap, ◌∙◌}
 use mathlib.Core.List.{List, append-nil}
 use Prim.Native.Nat.{ℕ, ◌≤◌}
 use native.Mathlib.Omega.{arith}
-use borrow.Author.Rules.{rules}
 use lib.ListN.{length, take}
-use lib.Seq.{take-length, drop-length}
+use lib.Seq.{drop-length}
 use Rattle.laws.proofs.Filling.{take-tabulate}
 use Rattle.laws.proofs.Lists.{length-tabulate}
 use Rattle.spec.specs.Bytes.{tabulate}

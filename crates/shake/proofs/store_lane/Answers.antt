@@ -2,9 +2,8 @@ use mathlib.Core.Path.{◌≡◌, sym, ap, ◌∙◌}
 use mathlib.Core.List.{List}
 use Prim.Native.Nat.{ℕ, ◌-◌, ◌*◌, ◌/◌, ◌%◌, ◌^◌, ◌≤◌}
 use native.Mathlib.Omega.{arith}
-use borrow.Author.Rules.{rules}
 use lib.ListN.{length, set}
-use Rattle.laws.proofs.Filling.{filled, filled_none, filled-set, filled-end, length-filled}
+use Rattle.laws.proofs.Filling.{filled_none, filled-set, filled-end, length-filled}
 use Rattle.spec.specs.Bytes.{tabulate, digits}
 use Rattle.shake.proofs.store_lane.Invariants.{byte}
 use Rattle.shake.proofs.store_lane.Goals as goal

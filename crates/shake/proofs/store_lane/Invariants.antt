@@ -1,12 +1,8 @@
 -- `shake::store_lane` meets its contract. The loop's invariant: the first i bytes are filled by the digits of x. The measure is the number of bytes left.
-use mathlib.Core.Path.{◌≡◌, sym, ap, ◌∙◌}
-use mathlib.Core.List.{List}
+use mathlib.Core.Path.{◌≡◌, ◌∙◌}
 use Prim.Native.Nat.{ℕ, ◌-◌, ◌*◌, ◌/◌, ◌%◌, ◌^◌, ◌≤◌}
-use native.Mathlib.Omega.{arith}
-use borrow.Author.Rules.{rules}
-use lib.ListN.{length, set}
-use Rattle.laws.proofs.Filling.{filled, filled_none, filled-set, filled-end, length-filled}
-use Rattle.spec.specs.Bytes.{tabulate, digits}
+use Rattle.laws.proofs.Filling.{filled}
+use Rattle.spec.specs.Bytes.{digits}
 use Rattle.shake.proofs.store_lane.Given as goal
 
 -- byte k of the lane x

@@ -1,16 +1,13 @@
 -- `shake::xor_block` meets its contract. The loop's invariant: the first j lanes are filled by the rule of `xor_in`, the others are as they were. Past the
 -- block's 21 lanes its string has ended, so that the rule leaves them. The measure is the number of lanes left.
-use mathlib.Core.Path.{◌≡◌, sym, ap, ap₂, ◌∙◌}
+use mathlib.Core.Path.{◌≡◌, ◌∙◌}
 use mathlib.Core.List.{List}
 use Prim.Native.Nat.{ℕ, ◌+◌, ◌-◌, ◌*◌, ◌≤◌}
-use native.Mathlib.Omega.{arith}
-use borrow.Author.Rules.{rules}
-use lib.Bits.{bit_xor, xor_zero_r}
-use lib.ListN.{length, get_or, set, take, drop}
-use Rattle.laws.proofs.Filling.{filled, filled_none, filled-set, filled-rest}
-use Rattle.spec.specs.Bytes.{tabulate, number}
+use lib.Bits.{bit_xor}
+use lib.ListN.{get_or}
+use Rattle.laws.proofs.Filling.{filled}
+use Rattle.spec.specs.Bytes.{number}
 use Rattle.spec.specs.Sponge.{lane_of, xor_in}
-use Rattle.shake.proofs.XorIn.{lane-none}
 use Rattle.shake.proofs.xor_block.Given as goal
 
 -- lane k of the state s xored with the block

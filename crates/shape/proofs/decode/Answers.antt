@@ -1,5 +1,4 @@
 -- With a number nothing is written; with 0 every test is passed, and the list is.
-use borrow.Author.Rules.{rules}
 use Rattle.refusals.proofs.Numbers.{decode-accepted}
 use Rattle.shape.proofs.Answers.{decode-refused, decode-written}
 use Rattle.shape.proofs.decode.Goals as goal

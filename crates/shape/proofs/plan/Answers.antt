@@ -1,5 +1,4 @@
 -- With a number nothing is written; with 0 every test is passed, and the nodes, which the call's own list has room for, are copied.
-use borrow.Author.Rules.{rules}
 use mathlib.Core.Path.{◌≡◌}
 use native.Mathlib.Omega.{arith}
 use lib.ListN.{length, length-replicate}

@@ -1,9 +1,8 @@
 -- The laws of decode in `Decode`.
 use mathlib.Core.Path.{◌≡◌, sym, ◌∙◌}
 use native.Mathlib.Omega.{arith}
-use lib.ListN.{length, take, length-append}
+use lib.ListN.{length-append}
 use lib.Seq.{length-take-le}
-use borrow.Author.Rules.{rules}
 use Rattle.shape_host.proofs.Decode.{decode-sized, decode-room, decode-host}
 use Rattle.shape_host.proofs.decode_by.Goals as goal
 

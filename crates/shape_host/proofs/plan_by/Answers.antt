@@ -1,9 +1,7 @@
 -- The laws of plan in `Plan`.
 use mathlib.Core.Path.{◌≡◌, sym, ◌∙◌}
 use native.Mathlib.Omega.{arith}
-use lib.ListN.{length, take}
 use lib.Seq.{length-take-le}
-use borrow.Author.Rules.{rules}
 use Rattle.shape_host.proofs.Plan.{plan-sized, plan-room, plan-host}
 use Rattle.shape_host.proofs.plan_by.Goals as goal
 

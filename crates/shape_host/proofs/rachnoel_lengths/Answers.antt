@@ -1,5 +1,4 @@
 -- Each way out is one law of `Lengths`.
-use borrow.Author.Rules.{rules}
 use Rattle.rules.proofs.RowLength.{row-max}
 use Rattle.laws.proofs.Tests.{failed, passed}
 use Rattle.shape_host.proofs.Lengths.{no-shape, no_row, other-slice, given}

@@ -1,5 +1,4 @@
 -- With a number nothing is written; with 0 every test is passed, and everything is.
-use borrow.Author.Rules.{rules}
 use Rattle.refusals.proofs.Numbers.{lengths-passed}
 use Rattle.signer_commit.proofs.Answers.{refused, written}
 use Rattle.signer_commit.proofs.commit_stretch.Goals as goal

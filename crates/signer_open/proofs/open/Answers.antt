@@ -1,5 +1,4 @@
 -- With a number nothing is written; with 0 every test is passed, and the opening is: the call's own list has room for every count that is let through.
-use borrow.Author.Rules.{rules}
 use mathlib.Core.Path.{◌≡◌, refl, ◌∙◌}
 use native.Mathlib.Omega.{arith}
 use lib.ListN.{length, length-replicate}

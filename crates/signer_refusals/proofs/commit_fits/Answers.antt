@@ -1,5 +1,4 @@
 -- Each length is that of its name.
-use borrow.Author.Rules.{rules}
 use mathlib.Core.Path.{refl}
 use Rattle.signer_refusals.proofs.commit_fits.Goals as goal
 

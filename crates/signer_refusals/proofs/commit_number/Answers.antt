@@ -1,5 +1,4 @@
 -- Where the front is passed the lengths decide.
-use borrow.Author.Rules.{rules}
 use Rattle.refusals.proofs.Numbers.{front-passed, front-stops, lengths-decide}
 use Rattle.signer_refusals.proofs.commit_number.Goals as goal
 

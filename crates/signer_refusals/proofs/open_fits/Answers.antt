@@ -1,5 +1,4 @@
 -- Each length is that of its name; a challenge has as many bytes as a node.
-use borrow.Author.Rules.{rules}
 use mathlib.Core.Path.{refl}
 use Rattle.spec.specs.Shapes.{node_bytes, challenge_bytes}
 use Rattle.signer_refusals.proofs.open_fits.Goals as goal

@@ -1,5 +1,4 @@
 -- Where the challenge is passed the slots behind its nodes decide.
-use borrow.Author.Rules.{rules}
 use Rattle.refusals.proofs.Numbers.{challenge-passed, challenge-stops, slots-decide}
 use Rattle.slots.proofs.opening_answer.Goals as goal
 

@@ -3,7 +3,6 @@ use Prim.Native.Nat.{ℕ, ◌+◌, ◌*◌}
 use mathlib.Core.Path.{◌≡◌, ap, ap₂, ◌∙◌}
 use native.Mathlib.Omega.{arith}
 use lib.ListN.{drop}
-use borrow.Author.Rules.{rules}
 use Rattle.spec.specs.Bytes.{all_zero}
 use Rattle.spec.specs.Shapes.{node_bytes, leaf_commitment_bytes, opening_bytes}
 use Rattle.laws.proofs.Concat.{mul-limit, mul-rest}

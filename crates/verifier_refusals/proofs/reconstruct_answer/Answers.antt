@@ -1,5 +1,4 @@
 -- Where the front and the lengths are passed the opening decides.
-use borrow.Author.Rules.{rules}
 use mathlib.Core.Path.{sym, ◌∙◌}
 use Rattle.refusals.proofs.Numbers.{lengths-passed, reconstruct-stops, opening-decides}
 use Rattle.verifier_refusals.proofs.reconstruct_answer.Goals as goal

@@ -1,5 +1,4 @@
 -- Where the front is passed the lengths decide.
-use borrow.Author.Rules.{rules}
 use Rattle.refusals.proofs.Numbers.{front-passed, front-stops, lengths-decide}
 use Rattle.verifier_refusals.proofs.reconstruct_number.Goals as goal
 

@@ -48,15 +48,14 @@ add_bytes-requires c =
 
 pub returns : goal.returns
 returns c row =
-    let start = c in
-    let g = start.args in
+    let g = c.args in
     let s = g.s in
     let at = g.b * (g.i - 1) in
     let d = c.hidden_index-d in
     let v = c.columns_from-from.result in
     let w = c.columns_from-to.result in
     let made = c.add_bytes in
-    corrected-more s g.b row g.ch.now g.corrections.now g.i v w g.q.now made.new.cols start.requires.2 c.columns_from-from.ensures (q-size (goal.at.returns c).After-columns_from-to) (q-end (goal.at.returns c).After-columns_from-to)
-    (corrected s g.b g.ch.now g.corrections.now g.i d.result (part g.q.now v (w - v)) made.new.cols start.requires.1 d.ensures.0
+    corrected-more s g.b row g.ch.now g.corrections.now g.i v w g.q.now made.new.cols c.requires.2 c.columns_from-from.ensures (q-size (goal.at.returns c).After-columns_from-to) (q-end (goal.at.returns c).After-columns_from-to)
+    (corrected s g.b g.ch.now g.corrections.now g.i d.result (part g.q.now v (w - v)) made.new.cols c.requires.1 d.ensures.0
     (subst (λ (n : ℕ). Added g.b (depth_of s g.i) (λ j p. bit j d.result * get_or (part g.corrections.now at n) p 0) (part g.q.now v (w - v)) made.new.cols) (part-size at g.b)
     (subst (λ (k : ℕ). Added g.b k (λ j p. bit j d.result * get_or (part g.corrections.now at (at + g.b - at)) p 0) (part g.q.now v (w - v)) made.new.cols) c.depth_of.ensures.0 made.ensures)))

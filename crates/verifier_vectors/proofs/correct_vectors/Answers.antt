@@ -8,9 +8,8 @@ use Rattle.verifier_vectors.proofs.correct_vectors.Goals as goal
 
 pub loop-i-init : goal.loop-i-init
 loop-i-init c =
-    let start = c in
-    let g = start.args in
-    (omega arith, (shape-facts g.s start.requires.0).tau-pos, refl, λ row e. corrected-start g.s g.b row g.ch.now g.corrections.now start.requires.0 g.q.now start.requires.4 e)
+    let g = c.args in
+    (omega arith, (shape-facts g.s c.requires.0).tau-pos, refl, λ row e. corrected-start g.s g.b row g.ch.now g.corrections.now c.requires.0 g.q.now c.requires.4 e)
 
 pub correct_vector-requires : goal.correct_vector-requires
 correct_vector-requires c =

@@ -19,23 +19,20 @@ overflow_add-result c = (let m = siblings-small c.node_bytes.result c.depth_of.r
 
 pub overflow_mul-result-in-Two : goal.overflow_mul-result-in-Two
 overflow_mul-result-in-Two c =
-    let start = c in
-    let f = shape-facts start.args.g.shape start.requires.0.shape in
-    let i : start.args.i ≤ 32 = (let l = f.tau-max in let p = start.requires.1 in omega arith) in
-    let m = mul-limit c.commitment_bytes.result start.args.i 96 32 c.commitment_bytes.ensures.1 i in
+    let f = shape-facts c.args.g.shape c.requires.0.shape in
+    let i : c.args.i ≤ 32 = (let l = f.tau-max in let p = c.requires.1 in omega arith) in
+    let m = mul-limit c.commitment_bytes.result c.args.i 96 32 c.commitment_bytes.ensures.1 i in
     omega arith
 
 pub returns-in-One : goal.returns-in-One
 returns-in-One c =
-    let start = c in
-    let ready = start.requires.0 in
-    let s = start.args.g.shape in
-    within-one _ s (shape-facts s ready.shape) ready.kind start.args.i _ start.requires.1 c.in-One.is
+    let ready = c.requires.0 in
+    let s = c.args.g.shape in
+    within-one _ s (shape-facts s ready.shape) ready.kind c.args.i _ c.requires.1 c.in-One.is
     (ap₂ ◌+◌ c.decommitment_from.ensures.0 (ap₂ ◌*◌ c.node_bytes.ensures.0 c.depth_of.ensures.0))
 
 pub returns-in-Two : goal.returns-in-Two
 returns-in-Two c =
-    let start = c in
-    let ready = start.requires.0 in
-    let s = start.args.g.shape in
-    within-two _ s (shape-facts s ready.shape) ready.kind start.args.i _ start.requires.1 c.in-Two.is (ap (λ (w : ℕ). w * start.args.i) c.commitment_bytes.ensures.0)
+    let ready = c.requires.0 in
+    let s = c.args.g.shape in
+    within-two _ s (shape-facts s ready.shape) ready.kind c.args.i _ c.requires.1 c.in-Two.is (ap (λ (w : ℕ). w * c.args.i) c.commitment_bytes.ensures.0)

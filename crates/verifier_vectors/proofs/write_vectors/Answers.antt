@@ -41,8 +41,7 @@ columns_from-used-requires c = (let job = c.requires.lent.0.job in (job.shape, l
 
 pub clear_from-requires : goal.clear_from-requires
 clear_from-requires c =
-    let start = c in
-    let k = all-columns start.args.g.shape start.requires.lent.0.job.shape start.args.g.stretch.width in
+    let k = all-columns c.args.g.shape c.requires.lent.0.job.shape c.args.g.stretch.width in
     let used = c.columns_from-used.ensures in
     let long = c.loop-i.invariant.2 in
     omega arith
@@ -58,13 +57,12 @@ shape_of-hashes c = c.loop-i.invariant.3 ∙ sym c.requires.lcs_len.2
 
 pub returns : goal.returns
 returns c =
-    let start = c in
-    let g = start.args.g in
+    let g = c.args.g in
     let l = c.loop-i in
     let out = c.loop-i-test.false in
     let all : l.i ≡ g.shape.tau = (let i = l.invariant.0 in omega arith) in
-    let lc = given_commitment g start.args.ch.now start.args.opening.now start.args.tree.now in
-    let col = uncorrected g.shape g.stretch.width (entry_byte g start.args.tree.now) start.args.ch.now in
-    let whole = before-all g.shape g.stretch.width lc col start.requires.lent.0.job.shape _ l.lcs l.q _ l.hashes l.invariant.1 l.invariant.2 l.invariant.3 c.columns_from-used.ensures c.clear_from.ensures
+    let lc = given_commitment g c.args.ch.now c.args.opening.now c.args.tree.now in
+    let col = uncorrected g.shape g.stretch.width (entry_byte g c.args.tree.now) c.args.ch.now in
+    let whole = before-all g.shape g.stretch.width lc col c.requires.lent.0.job.shape _ l.lcs l.q _ l.hashes l.invariant.1 l.invariant.2 l.invariant.3 c.columns_from-used.ensures c.clear_from.ensures
     (subst (λ (n : ℕ). Before g.shape g.stretch.width lc col n l.lcs l.q l.hashes) all l.invariant.4) in
     record { lcs_after = whole.0; q_after = whole.1; hashes_after = whole.2 }
