@@ -1,5 +1,5 @@
-// The program that lists all challenges of a small shape (document 02, E10): reads at most 64 bytes, which decide what it lists, and writes the output piece after piece. A
-// failed read is said on standard error, and nothing is listed.
+// The program that lists all challenges of a small shape (document 02, E10): reads at most 64 bytes, which decide what it lists, and writes the output piece
+// after piece. A failed read is said on standard error, and nothing is listed.
 #![tactic(auto)]
 
 ghost use Rattle.enumeration.specs.Pieces.{Readable};

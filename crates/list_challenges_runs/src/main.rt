@@ -1,4 +1,5 @@
-// Runs the program that lists all challenges on fixed inputs and writes the outputs one after another, of long ones the SHAKE128 digest. `stdout` holds what reference/ derives.
+// Runs the program that lists all challenges on fixed inputs and writes the outputs one after another, of long ones the SHAKE128 digest. `stdout` holds what
+// reference/ derives.
 #![tactic(auto)]
 
 use std::io;

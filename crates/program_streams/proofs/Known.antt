@@ -1,5 +1,6 @@
 -- What a read puts behind the bytes that earlier reads put into a buffer.
-use Rattle.std.proofs.Common.{◌≡◌, ℕ, ◌+◌, ◌≤◌, List, ◌++◌, Option, None, Some, sym, ap, subst, ◌∙◌, append_assoc, length, take, drop, drop_at, length-take-le, take_all, arith}
+use Rattle.std.proofs.Common.{◌≡◌, ℕ, ◌+◌, ◌≤◌, List, ◌++◌, Option, None, Some, sym, ap, subst, ◌∙◌, append_assoc, length, take, drop}
+use Rattle.std.proofs.Common.{drop_at, length-take-le, take_all, arith}
 use lib.Seq.{take-add, take-append-le}
 use borrow.Rule.Slice.PartMut.{put_mid, post_of}
 use Rattle.std.specs.Io.KnownBytes.{Consumes}
@@ -20,7 +21,8 @@ take_behind n m front part rest long fits =
     take-add n m all ∙ ap (λ l. l ++ take m (drop n all)) begin ∙ ap (λ l. front ++ take m l) behind ∙ ap (λ l. front ++ l) (take-append-le m part rest fits)
 
 -- a buffer of which n bytes were read, and m more
-pub consumes_more : (a b c : Option (List ℕ)) (n m room : ℕ) (old part : List ℕ) → n ≤ length old → m ≤ length part → Consumes a b (take n old) → Consumes b c (take m part)
-    → Consumes a c (take (n + m) (put_mid n room old part))
+pub consumes_more : (a b c : Option (List ℕ)) (n m room : ℕ) (old part : List ℕ) → n ≤ length old → m ≤ length part
+    → Consumes a b (take n old) → Consumes b c (take m part) → Consumes a c (take (n + m) (put_mid n room old part))
 consumes_more a b c n m room old part within fits before read =
-    subst (Consumes a c) (sym (take_behind n m (take n old) part (post_of n room old) (length-take-le n old within) fits)) (consumes_both a b c (take n old) (take m part) before read)
+    let all = take_behind n m (take n old) part (post_of n room old) (length-take-le n old within) fits in
+    subst (Consumes a c) (sym all) (consumes_both a b c (take n old) (take m part) before read)

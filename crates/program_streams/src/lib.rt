@@ -1,5 +1,5 @@
-// What the programs share that list or report what they read: whether they were given arguments, the start of standard input, and a failed read or write, which is said on
-// standard error.
+// What the programs share that list or report what they read: whether they were given arguments, the start of standard input, and a failed read or write,
+// which is said on standard error.
 #![tactic(auto)]
 
 ghost use Rattle.std.specs.Prelude.{◌≡◌, ◌≤◌, length, take, IfOk, IfSome};
@@ -32,8 +32,8 @@ pub fn has_arguments(rt: &impl Env) -> bool {
     !matches!(rt.arg(1, &mut argument), Err(FillError::NotPresent))
 }
 
-// Reads until the buffer is full or the input ends, and answers how many bytes of the buffer were read: the first bytes of the input, all that it has or as many as the
-// buffer has room for.
+// Reads until the buffer is full or the input ends, and answers how many bytes of the buffer were read: the first bytes of the input, all that it has or as
+// many as the buffer has room for.
 pub fn read_start<R: Read>(input: &mut R, buffer: &mut [u8]) -> Result<usize, Failure>
     ensures within { IfOk result (λ n. n ≤ length buffer.new) }
     ensures bytes { IfOk result (λ n. IfSome (R.remaining input.old) (λ xs. take n buffer.new ≡ take (length buffer.old) xs)) }

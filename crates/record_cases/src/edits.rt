@@ -1,5 +1,5 @@
-// A small record that is changed and checked. The check is printed in a few characters: number, slash, count, and a plus where a byte of a work buffer was written,
-// otherwise a minus.
+// A small record that is changed and checked. The check is printed in a few characters: number, slash, count, and a plus where a byte of a work buffer was
+// written, otherwise a minus.
 ghost use Rattle.std.specs.Prelude.{◌≤◌, ◌<◌, length};
 
 use crate::whole::call_check;
@@ -76,8 +76,8 @@ pub fn flips(rt: &impl Print, bytes: &mut [u8; 512], n: usize) -> io::Result<()>
     Ok(())
 }
 
-// ---- edits: 0 of the version, 1 of the length of the first field, 2 of tau, 3 of the row length, 4 of the length of the IV, 5 a byte left over, 6, 7, 8 of the lengths
-// of the work buffers, 9 of the last byte of the challenge, 10 of the last byte of the opening, 11 of the first byte of the commitment
+// ---- edits: 0 of the version, 1 of the length of the first field, 2 of tau, 3 of the row length, 4 of the length of the IV, 5 a byte left over, 6, 7, 8 of
+// the lengths of the work buffers, 9 of the last byte of the challenge, 10 of the last byte of the opening, 11 of the first byte of the commitment
 
 fn wide(b: u8) -> usize
     ensures { result < 256 }

@@ -1,5 +1,5 @@
-// Cases of records: what commit and open make is written as a record, and the record, or what is made of it, is checked. Printed is what the command line of reference/
-// prints.
+// Cases of records: what commit and open make is written as a record, and the record, or what is made of it, is checked. Printed is what the command line of
+// reference/ prints.
 #![tactic(auto)]
 
 ghost use Rattle.std.specs.Prelude.{◌<◌, ◌≤◌, length};
@@ -12,8 +12,8 @@ use std::io;
 use test_support::lengths::at_most;
 use vectors_calls::{Call, Inputs, print_answer};
 
-// What is done with the record: it is checked with its bytes and the work buffers printed; every prefix of it is checked, each of its bits flipped, each edit and every two
-// of them; it is checked for named sets alone.
+// What is done with the record: it is checked with its bytes and the work buffers printed; every prefix of it is checked, each of its bits flipped, each edit
+// and every two of them; it is checked for named sets alone.
 pub const WHOLE: usize = 0;
 
 pub const PREFIXES: usize = 1;

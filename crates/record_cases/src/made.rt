@@ -29,8 +29,35 @@ fn write_made(
     )
 }
 
-// Writes the record to the front of the buffer, and lends the tree, the leaf commitments and V of commit. The answer is that of the first call that is refused, or of the
-// last. Where open is refused, the record is written with zeros for an opening.
+// Open, and the record of what it wrote. The answer is that of the first call that is refused, or of the last. Where open is refused, the record is written
+// with zeros for an opening.
+fn open_made(
+    c: Call,
+    x: Inputs,
+    tree: &[u8],
+    leaf_commitments: &[u8],
+    corrections: &[u8],
+    commitment: &[u8],
+    out: &mut [u8],
+) -> Answer {
+    let challenge = x.challenge.bytes;
+    let mut opening = [0u8; 19456];
+    let opened = vectors_calls::call_open(
+        c,
+        first_bytes(&challenge, x.challenge.length),
+        tree,
+        leaf_commitments,
+        &mut opening,
+    );
+    let wrote = write_made(c, x, corrections, &opening, commitment, out);
+    if opened.number != 0 {
+        return opened;
+    }
+    wrote
+}
+
+// Writes the record to the front of the buffer, and lends the tree, the leaf commitments and V of commit. The answer is that of the first call that is
+// refused, or of the last. Where commit is refused, nothing is written.
 pub fn make(
     alloc: Global,
     c: Call,
@@ -42,11 +69,9 @@ pub fn make(
 ) -> Result<Answer, AllocError> {
     let root = x.root.bytes;
     let iv = x.iv.bytes;
-    let challenge = x.challenge.bytes;
     let mut commitment = [0u8; 64];
     let mut u = [0u8; 8192];
     let mut corrections = vec![in alloc; 0u8; 253952]?;
-    let mut opening = [0u8; 19456];
     let made = vectors_calls::call_commit(
         c,
         first_bytes(&root, x.root.length),
@@ -61,16 +86,5 @@ pub fn make(
     if made.number != 0 {
         return Ok(made);
     }
-    let opened = vectors_calls::call_open(
-        c,
-        first_bytes(&challenge, x.challenge.length),
-        tree,
-        leaf_commitments,
-        &mut opening,
-    );
-    let wrote = write_made(c, x, &corrections, &opening, &commitment, out);
-    if opened.number != 0 {
-        return Ok(opened);
-    }
-    Ok(wrote)
+    Ok(open_made(c, x, tree, leaf_commitments, &corrections, &commitment, out))
 }

@@ -1,5 +1,5 @@
-// The opening report (document 02, E14): reads at most 65,537 bytes, one more than is reported, so that longer input is seen, and writes the report. A failed read is said
-// on standard error, and nothing is reported: a report of half an input would look whole.
+// The opening report (document 02, E14): reads at most 65,537 bytes, one more than is reported, so that longer input is seen, and writes the report. A failed
+// read is said on standard error, and nothing is reported: a report of half an input would look whole.
 #![tactic(auto)]
 
 use program_streams::{Failure, ended, has_arguments, read_start, used_otherwise, write};

@@ -1,5 +1,5 @@
-// Runs the opening report on fixed inputs and writes the outputs one after another. An input is made in a buffer of zeros: records, of which the numbers of the head and the
-// lengths of the fields are given, and single bytes. `stdout` holds what reference/ derives from the same lines.
+// Runs the opening report on fixed inputs and writes the outputs one after another. An input is made in a buffer of zeros: records, of which the numbers of
+// the head and the lengths of the fields are given, and single bytes. `stdout` holds what reference/ derives from the same lines.
 #![tactic(auto)]
 
 use std::io;

@@ -1,5 +1,5 @@
-// A file of cases on standard input, one a line: each is read, its calls are made, and what the command line of reference/ prints of them is printed. A line that is
-// empty, or that begins with #, is none. A line that cannot be read is said, and ends the run. reference/README.md has the forms.
+// A file of cases on standard input, one a line: each is read, its calls are made, and what the command line of reference/ prints of them is printed. A line
+// that is empty, or that begins with #, is none. A line that cannot be read is said, and ends the run. reference/README.md has the forms.
 #![tactic(auto)]
 
 ghost use Rattle.std.specs.Prelude.{◌≤◌, length};

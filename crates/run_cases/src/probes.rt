@@ -1,5 +1,5 @@
-// The cases of one call on buffers of which one may have a wrong length. Each has numbers alone: VERSION TAU K W T LEVEL KIND, ROWBITS and for a stretch FIRST WIDTH
-// where the call has rows, BYTE where it is lent a challenge, WHICH MORE, and SET where it is lent an opening.
+// The cases of one call on buffers of which one may have a wrong length. Each has numbers alone: VERSION TAU K W T LEVEL KIND, ROWBITS and for a stretch
+// FIRST WIDTH where the call has rows, BYTE where it is lent a challenge, WHICH MORE, and SET where it is lent an opening.
 use crate::forms::is_version;
 use case_text::{Line, Numbers, ended, is_word, read_numbers, shape_behind};
 use std::io;

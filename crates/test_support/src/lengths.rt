@@ -3,7 +3,8 @@ ghost use Rattle.std.specs.Prelude.{◌≤◌};
 
 use spec::{Shape, Stretch};
 
-// The rows of a case: their length in bits, and the stretch that is asked for. Where `whole` is true the calls are those of whole rows, and the stretch is the row.
+// The rows of a case: their length in bits, and the stretch that is asked for. Where `whole` is true the calls are those of whole rows, and the stretch is
+// the row.
 #[derive(Clone, Copy)]
 pub struct Rows {
     pub bits: usize,

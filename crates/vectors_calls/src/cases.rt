@@ -118,8 +118,8 @@ fn reconstruct_case(rt: &impl Print, c: Call, x: Inputs, b: &mut Buffers) -> io:
     Ok(())
 }
 
-// The three calls, with the byte `at` of the opening flipped before reconstruct. Each is made, also behind one that is refused: it is lent what the buffers hold
-// then.
+// The three calls, with the byte `at` of the opening flipped before reconstruct. Each is made, also behind one that is refused: it is lent what the buffers
+// hold then.
 pub fn run_case(rt: &(impl Print + AllocGlobal), c: Call, x: Inputs, at: usize) -> io::Result<()> {
     let mut b = Buffers::new(rt.alloc())?;
     commit_case(rt, c, x, &mut b)?;

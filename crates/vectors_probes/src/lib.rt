@@ -1,6 +1,6 @@
-// A call on buffers of which one may be a byte (a list: a number) shorter or longer than the exact length, with 0xa5 in each byte of the outputs and zeros in the
-// inputs. Printed are the answer, and whether every byte of the outputs still is 0xa5. A shape that is not refused must have small trees: of version 2 those of
-// two vectors of depth 2, of version 1 those of 32 vectors of depth 4 at level 128.
+// A call on buffers of which one may be a byte (a list: a number) shorter or longer than the exact length, with 0xa5 in each byte of the outputs and zeros in
+// the inputs. Printed are the answer, and whether every byte of the outputs still is 0xa5. A shape that is not refused must have small trees: of version 2
+// those of two vectors of depth 2, of version 1 those of 32 vectors of depth 4 at level 128.
 #![tactic(auto)]
 
 use spec::Shape;
@@ -13,8 +13,8 @@ use vectors_calls::{Call, call_decode, call_plan, index_count, node_limit, print
 // The place of a buffer that the call has not.
 const NONE: usize = 9;
 
-// Which buffer has another length, by its place among those of the call, and whether it is longer; the first byte of the challenge, and the place of a byte of the
-// opening that is 1.
+// Which buffer has another length, by its place among those of the call, and whether it is longer; the first byte of the challenge, and the place of a byte
+// of the opening that is 1.
 #[derive(Clone, Copy)]
 pub struct Probe {
     pub which: usize,

@@ -1,4 +1,5 @@
-// Runs the cases of `stdin`: commit and reconstruct of a stretch of the rows, with open between them. `stdout` holds what the second implementation prints of the same file: `reference cases`.
+// Runs the cases of `stdin`: commit and reconstruct of a stretch of the rows, with open between them. `stdout` holds what the second implementation prints of
+// the same file: `reference cases`.
 #![tactic(auto)]
 
 use std::io;
