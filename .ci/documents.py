@@ -3,8 +3,8 @@
 
 Every link leads to a file, and to a heading where it names one. Every path in backquotes that begins with a folder of the repository is there.
 ARCHITECTURE.md has a row for every crate and for nothing else. Every must-fail edit that CONTRACTS.md names is there. The files of TRUST.md have as many
-lines as it says. No line but those of tables and of code is longer than 160 characters. Then the script tests itself: each of EDITS, made in a copy of the
-documents in memory, must fail for the reason beside it.
+lines as it says, and its sections (`--sizes` writes these numbers first). No line but those of tables and of code is longer than 160 characters. Then the
+script tests itself: each of EDITS, made in a copy of the documents in memory, must fail for the reason beside it.
 """
 import re
 import sys
@@ -78,16 +78,38 @@ def check_edits(text):
                 raise Refused(f'docs/CONTRACTS.md:{number}: no edit {crate}/{label}')
 
 
+SIZE = re.compile(r'^(\| \[[^]]*\]\(\.\./(crates/[^)]+)\) \| )(\d+)( \|)', re.M)
+
+
+def lines_of(path):
+    return len((TOP / path).read_text().splitlines())
+
+
 def check_sizes(text):
-    """TRUST.md: the lines of each file of definitions, and of all."""
-    sizes = [(path, int(size)) for path, size in re.findall(r'^\| \[[^]]*\]\(\.\./(crates/[^)]+)\) \| (\d+) \|', text, re.M)]
-    for path, size in sizes:
-        found = len((TOP / path).read_text().splitlines())
-        if found != size:
-            raise Refused(f'docs/TRUST.md: {path} has {found} lines, not {size}')
-    total = sum(size for _, size in sizes)
-    if not sizes or f'{total:,} lines in all' not in text:
+    """TRUST.md: the lines of each file of definitions, of each section, and of all."""
+    total = 0
+    for section in re.split(r'^(?=##)', text, flags=re.M):
+        sizes = [(path, int(size)) for _, path, size, _ in SIZE.findall(section)]
+        for path, size in sizes:
+            if lines_of(path) != size:
+                raise Refused(f'docs/TRUST.md: {path} has {lines_of(path)} lines, not {size}')
+        here = sum(size for _, size in sizes)
+        if sizes and not re.match(rf'### [^\n]*: {here:,} lines\n', section):
+            raise Refused(f'docs/TRUST.md: a section has {here:,} lines: ' + section.split('\n')[0])
+        total += here
+    if not total or f'{total:,} lines in all' not in text:
         raise Refused(f'docs/TRUST.md: the files have {total:,} lines in all')
+
+
+def with_sizes(text):
+    """TRUST.md with the lines that the files have now."""
+    sections, total = re.split(r'^(?=##)', text, flags=re.M), 0
+    for at, section in enumerate(sections):
+        here = sum(lines_of(path) for _, path, _, _ in SIZE.findall(section))
+        total += here
+        section = SIZE.sub(lambda m: f'{m[1]}{lines_of(m[2])}{m[4]}', section)
+        sections[at] = re.sub(r'\A(### [^\n]*: )[\d,]+( lines\n)', rf'\g<1>{here:,}\g<2>', section) if here else section
+    return re.sub(r'^[\d,]+ lines in all', f'{total:,} lines in all', ''.join(sections), flags=re.M)
 
 
 def check(texts):
@@ -101,6 +123,7 @@ def check(texts):
     check_sizes(texts['docs/TRUST.md'])
 
 
+LISTED = 'crates/spec/specs/Lib.antt'
 # document, what is put at its end, the reason
 EDITS = [
     ('README.md', '[a](docs/NOTHING.md)', 'no file docs/NOTHING.md'),
@@ -111,11 +134,14 @@ EDITS = [
     ('docs/ARCHITECTURE.md', '| `nothing` | | |', 'no row, or no crate: nothing'),
     ('docs/CONTRACTS.md', '| a | rules/nothing |', 'no edit rules/nothing'),
     ('docs/TRUST.md', '| [a](../crates/spec/specs/Aes.antt) | 1 | |', 'lines, not 1'),
-    ('docs/TRUST.md', '| [a](../crates/spec/specs/Lib.antt) | 35 | |', 'lines in all'),
+    ('docs/TRUST.md', f'### More: 7 lines\n| [a](../{LISTED}) | {lines_of(LISTED)} | |', 'a section has'),
+    ('docs/TRUST.md', f'### More: {lines_of(LISTED)} lines\n| [a](../{LISTED}) | {lines_of(LISTED)} | |', 'lines in all'),
 ]
 
 
 def main():
+    if sys.argv[1:] == ['--sizes']:
+        (TOP / 'docs/TRUST.md').write_text(with_sizes((TOP / 'docs/TRUST.md').read_text()))
     texts = {name: (TOP / name).read_text() for name in DOCUMENTS}
     try:
         check(texts)
