@@ -1,5 +1,4 @@
 -- The call of the stretch that is the whole row.
-use borrow.Author.Rules.{rules}
 use Rattle.spec.specs.Primitives.{faest}
 use Rattle.laws.proofs.Calls.{reconstruct-whole}
 use Rattle.verifier.proofs.reconstruct.Goals as goal

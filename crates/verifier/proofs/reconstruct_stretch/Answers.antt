@@ -1,5 +1,4 @@
 -- With a number nothing is written; with 0 every test is passed, and everything is.
-use borrow.Author.Rules.{rules}
 use mathlib.Core.Path.{refl}
 use Rattle.refusals.proofs.Numbers.{reconstruct-accepted}
 use Rattle.verifier.proofs.Answers.{refused, written}
@@ -18,7 +17,7 @@ write_reconstruction-requires c =
     let passed = c in
     let p = reconstruct-accepted _ _ _ _ _ _ _ passed.reconstruct_answer-r.ensures passed.if-r-ne0.false in
     let l = p.1 in
-    (p.0, ((l.0, l.1.0, l.1.1.0, l.1.1.1.0), (l.1.1.1.1.0, l.1.1.1.1.1.0, l.1.1.1.1.1.1.0, l.1.1.1.1.1.1.1.0)))
+    record { s_value = p.0; iv_len = (l.0, l.1.0, l.1.1.0, l.1.1.1.0); commitment_len = (l.1.1.1.1.0, l.1.1.1.1.1.0, l.1.1.1.1.1.1.0, l.1.1.1.1.1.1.1.0) }
 
 pub returns : goal.returns
 returns c =
