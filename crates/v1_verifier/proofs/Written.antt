@@ -11,7 +11,7 @@ use Rattle.spec.specs.Hashes.{hash1}
 use Rattle.spec.specs.Shapes.{level, node_bytes, challenge_bytes, leaf_commitment_bytes, hash_bytes, key_words, rate, deeper, depth_of, entries_of, first_bit, first_entry, leaves, hidden_index, leaf_commitments_bytes, matrix_bytes}
 use Rattle.spec.specs.Primitives.{faest}
 use Rattle.spec.specs.Leaves.{node_at, vector_commitments, leaf_commitments, vector_hash, commitment_of}
-use Rattle.spec.specs.Rows.{u_byte, column_byte, matrix_of}
+use Rattle.spec.specs.Rows.{column_byte, matrix_of}
 use Rattle.spec.specs.Verifier.{verifier_column}
 use Rattle.spec.specs.Calls.{Reconstructed}
 use Rattle.spec.specs.Version1.{faest1, first_node, leaf_in, leaf_key1, leaf_commitment_bytes1, hashed_leaf, leaf_seed1, leaf_commitment1, row1_byte, decommitment_from, hidden_leaf_commitment1, reconstructed_trees, verifier_leaf_commitment1, leaf_commitments1_bytes, opening1_bytes}

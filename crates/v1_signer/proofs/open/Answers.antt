@@ -1,5 +1,4 @@
 -- With a number nothing is written; with 0 every test is passed, and the opening is.
-use borrow.Author.Rules.{rules}
 use mathlib.Core.Path.{sym, ◌∙◌}
 use Rattle.v1_rules.proofs.Numbers.{shape-parts, open-accepted}
 use Rattle.v1_signer.proofs.Written.{open-refused, open-written}
@@ -13,7 +12,7 @@ write_opening-requires c =
     let q = open-accepted _ _ (sym c.open_number-number.ensures ∙ c.if-number-ne0.false) in
     let p = shape-parts _ q.0 in
     let l = q.1 in
-    ((p.0, p.1, l.0), (l.1.0, l.1.1.0, l.1.1.1.0))
+    record { s_value = (p.0, p.1, l.0); trees_len = (l.1.0, l.1.1.0, l.1.1.1.0) }
 
 pub returns : goal.returns
 returns c = open-written _ _ _ _ _ _ _ _ c.open_number-number.ensures c.if-number-ne0.false c.write_opening.ensures c.answer-2.ensures

@@ -1,6 +1,5 @@
 -- Where the shape is allowed the lengths decide.
-use borrow.Author.Rules.{rules}
-use mathlib.Core.Path.{refl, sym, ap, ◌∙◌}
+use mathlib.Core.Path.{refl, ap, ◌∙◌}
 use mathlib.Core.Bool.{Bool, cond}
 use Rattle.spec.specs.Version1Calls.{open1_number}
 use Rattle.laws.proofs.Tests.{failed, passed}

@@ -1,5 +1,4 @@
 -- Each buffer by what its callee ensures.
-use borrow.Author.Rules.{rules}
 use Prim.Native.Nat.{ℕ}
 use mathlib.Core.Path.{ap, ap₂, ◌∙◌}
 use mathlib.Core.List.{List}
@@ -17,7 +16,7 @@ pub rate_bytes-r-requires : goal.rate_bytes-r-requires
 rate_bytes-r-requires c = (shape-parts _ c.requires.s_value.0).0
 
 pub grow_trees-requires : goal.grow_trees-requires
-grow_trees-requires c = (let start = c in (c.table-t.ensures, ((shape-parts _ start.requires.s_value.0).0, start.requires.s_value.2, start.requires.commitment_len.1)))
+grow_trees-requires c = (let start = c in record { sbox_table = c.table-t.ensures; s_value = ((shape-parts _ start.requires.s_value.0).0, start.requires.s_value.2, start.requires.commitment_len.1) })
 
 pub write_vectors-requires : goal.write_vectors-requires
 write_vectors-requires c =
@@ -30,7 +29,7 @@ write_vectors-requires c =
     let box = c.table-t.ensures in
     let trees = c.grow_trees.auto.trees ∙ q.1 in
     let l = lent-lengths g.s g.b x job.result job.ensures g.lcs.now g.hashes.now g.u.now g.v.now g.corrections.now q.2 p.5 q.3 q.4 q.5 in
-    ((lent-job g.s g.b x job.result job.ensures _ _ p.0 p.1 box trees, no_keys g.s g.b x job.result job.ensures g.keys.now p.4, l.0, l.1), (l.2, l.3, l.4))
+    record { lent = (lent-job g.s g.b x job.result job.ensures _ _ p.0 p.1 box trees, no_keys g.s g.b x job.result job.ensures g.keys.now p.4, l.0, l.1); u_len = (l.2, l.3, l.4) }
 
 pub h1-requires : goal.h1-requires
 h1-requires c = (let r = c.rate_bytes-r.ensures in (r.2, r.1))
@@ -45,6 +44,6 @@ returns c =
     let made = vectors.ensures in
     let hash =
     c.h1.ensures ∙ ap (λ (r : ℕ). hash1 r vectors.new.hashes (length g.commitment.now)) c.rate_bytes-r.ensures.0
-    ∙ ap₂ (λ (m : List ℕ) (n : ℕ). hash1 (rate g.s) m n) made.1.1.1.1 start.requires.commitment_len.0 in
-    commit-writes g.s g.b x.result job.result job.ensures g.root.now _ _ _ _ _ _ c.grow_trees.ensures hash made.0 made.1.0 made.1.1.0 made.1.1.1.0
+    ∙ ap₂ (λ (m : List ℕ) (n : ℕ). hash1 (rate g.s) m n) made.hashes_after start.requires.commitment_len.0 in
+    commit-writes g.s g.b x.result job.result job.ensures g.root.now _ _ _ _ _ _ c.grow_trees.ensures hash made.lcs_after made.u_after made.v_after made.corrections_after
     ∙ ap (committed1 faest1 g.s g.b g.root.now) x.ensures

@@ -1,5 +1,4 @@
 -- With a number nothing is written; with 0 every test is passed, and everything is.
-use borrow.Author.Rules.{rules}
 use mathlib.Core.Path.{sym, ◌∙◌}
 use Rattle.rules.proofs.RowLength.{row-max}
 use Rattle.v1_rules.proofs.Numbers.{accepted}
@@ -13,7 +12,7 @@ pub write_reconstruction-requires : goal.write_reconstruction-requires
 write_reconstruction-requires c =
     let q = accepted _ _ _ (sym c.reconstruct_number-number.ensures ∙ c.if-number-ne0.false) in
     let l = q.2 in
-    ((q.0, row-max _ q.1), ((l.0, l.1.0, l.1.1.0, l.1.1.1.0), (l.1.1.1.1.0, l.1.1.1.1.1.0, l.1.1.1.1.1.1.0, l.1.1.1.1.1.1.1.0)))
+    record { s_value = (q.0, row-max _ q.1); iv_len = (l.0, l.1.0, l.1.1.0, l.1.1.1.0); commitment_len = (l.1.1.1.1.0, l.1.1.1.1.1.0, l.1.1.1.1.1.1.0, l.1.1.1.1.1.1.1.0) }
 
 pub returns : goal.returns
 returns c = written _ _ _ _ _ _ _ _ _ _ c.reconstruct_number-number.ensures c.if-number-ne0.false c.write_reconstruction.ensures c.answer-2.ensures

@@ -1,5 +1,4 @@
 -- Each length is that of its name.
-use borrow.Author.Rules.{rules}
 use mathlib.Core.Path.{refl}
 use Rattle.spec.specs.Shapes.{node_bytes, challenge_bytes}
 use Rattle.v1_verifier.proofs.reconstruct_fits.Goals as goal

@@ -1,5 +1,4 @@
 -- Where the front is passed the lengths decide.
-use borrow.Author.Rules.{rules}
 use mathlib.Core.Path.{ap, ◌∙◌}
 use mathlib.Core.Bool.{Bool, cond}
 use Rattle.rules.proofs.RowLength.{row-max}

@@ -1,5 +1,4 @@
 -- Each buffer by what its callee ensures.
-use borrow.Author.Rules.{rules}
 use Prim.Native.Nat.{ℕ}
 use mathlib.Core.Path.{ap, ap₂, ◌∙◌}
 use mathlib.Core.List.{List}
@@ -20,7 +19,7 @@ pub reconstruct_trees-requires : goal.reconstruct_trees-requires
 reconstruct_trees-requires c =
     let start = c in
     let p = start.requires.iv_len in
-    (c.table-t.ensures, ((shape-parts _ start.requires.s_value.0).0, p.1, p.3, start.requires.commitment_len.1))
+    record { sbox_table = c.table-t.ensures; s_value = ((shape-parts _ start.requires.s_value.0).0, p.1, p.3, start.requires.commitment_len.1) }
 
 pub write_vectors-requires : goal.write_vectors-requires
 write_vectors-requires c =
@@ -34,7 +33,7 @@ write_vectors-requires c =
     let box = c.table-t.ensures in
     let trees = c.reconstruct_trees.auto.trees ∙ o.1 in
     let l = lent-lengths g.s g.b x job.result job.ensures g.ch.now g.opening.now g.lcs.now g.q.now g.hashes.now q.1 q.3 o.2 o.3 p.3 in
-    ((lent-job g.s g.b x job.result job.ensures _ _ p.0 p.1 box trees, no_keys g.s g.b x job.result job.ensures g.keys.now p.2, l.0, l.1), (l.2, l.3, l.4))
+    record { lent = (lent-job g.s g.b x job.result job.ensures _ _ p.0 p.1 box trees, no_keys g.s g.b x job.result job.ensures g.keys.now p.2, l.0, l.1); lcs_len = (l.2, l.3, l.4) }
 
 pub correct_vectors-requires : goal.correct_vectors-requires
 correct_vectors-requires c =
@@ -56,7 +55,7 @@ returns c =
     let made = vectors.ensures in
     let hash =
     c.h1.ensures ∙ ap (λ (r : ℕ). hash1 r vectors.new.hashes (length g.commitment.now)) c.rate_bytes-r.ensures.0
-    ∙ ap₂ (λ (m : List ℕ) (n : ℕ). hash1 (rate g.s) m n) made.1.1 start.requires.commitment_len.0 in
-    let rows = uncorrected-rows g.s g.b x.result job.result job.ensures g.ch.now trees.new.trees _ made.1.0 in
-    reconstruct-writes g.s g.b x.result job.result job.ensures g.ch.now g.corrections.now g.opening.now _ _ _ _ trees.ensures hash made.0 (c.correct_vectors.ensures (row1_byte faest1 g.s x.result trees.new.trees) rows)
+    ∙ ap₂ (λ (m : List ℕ) (n : ℕ). hash1 (rate g.s) m n) made.hashes_after start.requires.commitment_len.0 in
+    let rows = uncorrected-rows g.s g.b x.result job.result job.ensures g.ch.now trees.new.trees _ made.q_after in
+    reconstruct-writes g.s g.b x.result job.result job.ensures g.ch.now g.corrections.now g.opening.now _ _ _ _ trees.ensures hash made.lcs_after (c.correct_vectors.ensures (row1_byte faest1 g.s x.result trees.new.trees) rows)
     ∙ ap (λ (i : List ℕ). reconstructed1 faest1 g.s g.b i g.ch.now g.corrections.now g.opening.now) x.ensures

@@ -1,5 +1,4 @@
 -- The local arrays have room for 32 vectors.
-use borrow.Author.Rules.{rules}
 use Prim.Native.Nat.{ℕ, ◌+◌, ◌*◌, ◌≤◌}
 use mathlib.Core.Path.{◌≡◌, sym, ap, ◌∙◌}
 use native.Mathlib.Nat.{zero-add}
@@ -12,23 +11,22 @@ use Rattle.planning_laws.proofs.ShapeFacts.{shape-facts}
 use Rattle.vector.proofs.Buffers.{lent}
 use Rattle.v1_rules.proofs.Numbers.{shape-parts}
 use Rattle.v1_verifier.proofs.write_reconstruction.Goals as goal
+use Rattle.v1_verifier.proofs.write_reconstruction.Goals.{After-hash_bytes}
 
-room : (c : goal.After-struct-known) → c.before.hash-bytes.result * c.before.before.before.before.before.before.before.before.before.before.args.s.tau ≤ 64 * 32
-room c =
-    let start = c.before.before.before.before.before.before.before.before.before.before in
-    mul-limit c.before.hash-bytes.result start.args.s.tau 64 32 c.before.hash-bytes.ensures.1 (shape-facts start.args.s (shape-parts _ start.requires.s_value.0).0).tau-max
+room : (c : After-hash_bytes) → c.hash_bytes.result * c.args.s.tau ≤ 64 * 32
+room c = mul-limit c.hash_bytes.result c.args.s.tau 64 32 c.hash_bytes.ensures.1 (shape-facts c.args.s (shape-parts _ c.requires.s_value.0).0).tau-max
 
 pub hash_bytes-requires : goal.hash_bytes-requires
 hash_bytes-requires c = (shape-parts _ c.requires.s_value.0).0
 
 pub overflow_mul-n : goal.overflow_mul-n
-overflow_mul-n c = let m = room c in omega arith
+overflow_mul-n c = let m = room (goal.at.overflow_mul-n c).After-hash_bytes in omega arith
 
 pub slice_bounds-write_all-end : goal.slice_bounds-write_all-end
-slice_bounds-write_all-end c = let m = room c.before in omega arith
+slice_bounds-write_all-end c = let m = room (goal.at.slice_bounds-write_all-end c).After-hash_bytes in omega arith
 
 pub slice_bounds-hashes-end : goal.slice_bounds-hashes-end
-slice_bounds-hashes-end c = let m = room c.before.before in omega arith
+slice_bounds-hashes-end c = let m = room (goal.at.slice_bounds-hashes-end c).After-hash_bytes in omega arith
 
 pub write_all-requires : goal.write_all-requires
 unfolding hash_bytes leaf_commitment_bytes1
@@ -37,10 +35,10 @@ write_all-requires c =
     let p = start.requires.s_value in
     let tau = start.args.s.tau in
     let h = c.hash_bytes in
-    let m = room c.before.before.before.before.before.before.before in
+    let m = room (goal.at.write_all-requires c).After-hash_bytes in
     let part : h.result * tau ≡ 0 + hash_bytes start.args.s * tau = ap (λ (n : ℕ). n * tau) h.ensures.0 ∙ sym (zero-add _) in
     let keys = lent 0 (h.result * tau) _ (replicate 2048 0) part (omega arith) in
-    ((p.0, p.1, keys, keys), start.requires.1)
+    record { s_value = (p.0, p.1, keys, keys); iv_len = start.requires.iv_len; commitment_len = start.requires.commitment_len }
 
 pub returns : goal.returns
 returns c = c.write_all.ensures

@@ -1,38 +1,28 @@
 use borrow.Author.Rules.{rules}
-use Prim.Native.Nat.{ℕ, ◌-◌, ◌*◌, ◌%◌, ◌≤◌, ◌<◌}
-use mathlib.Core.Path.{◌≡◌, refl, ap, ◌∙◌}
+use Prim.Native.Nat.{ℕ, ◌*◌, ◌%◌, ◌<◌}
+use mathlib.Core.Path.{refl, ap, ◌∙◌}
 use native.Mathlib.Nat.{mul-zero}
 use native.Mathlib.Omega.{arith}
-use lib.ListN.{length, take}
+use lib.ListN.{take}
 use Rattle.spec.specs.Bytes.{concat}
-use Rattle.spec.specs.Version1.{faest1, first_node, reconstructed_vector_tree, reconstructed_trees}
+use Rattle.spec.specs.Version1.{faest1, reconstructed_vector_tree, reconstructed_trees}
 use Rattle.laws.proofs.Concat.{mul-limit}
 use Rattle.planning_laws.proofs.ShapeFacts.{shape-facts, widths}
 use Rattle.planning_laws.proofs.Forest.{node-none}
 use Rattle.verifier_forest.proofs.Laid.{Lent, lent, all-stand}
 use Rattle.verifier_forest.proofs.reconstruct_trees.Goals as goal
+use Rattle.verifier_forest.proofs.reconstruct_trees.Goals.{After-first_node-in-loop-i}
 
 -- what is lent for vector i, once all of it is computed
-module _ (c : goal.After-first-node2) where
-  abbrev head : goal.At-loop-i invariant-loop decreases-loop
-  head = c.before.before.before.before.before.before
-
-  abbrev start : goal.Start invariant-loop decreases-loop
-  start = head.before.before.before.before.before
-
-  abbrev width : ℕ
-  width = head.before.node-bytes.result
-
-  abbrev depth : ℕ
-  depth = c.before.before.before.before.depth-of.result
-
-  here : Lent start.args.s width head.loop.i depth c.before.before.before.hidden-index.result c.before.before.decommitment-from.result c.before.first-node.result c.first-node2.result
-      start.args.ch.now start.args.opening.now head.loop.trees
-  here =
-      let p = start.pre.1 in
-      lent start.args.s width head.loop.i depth _ _ _ _ start.args.ch.now start.args.opening.now head.loop.trees p.0 head.before.node-bytes.ensures.0
-      c.before.before.before.before.before.loop-test.true c.before.before.before.before.depth-of.ensures.0 c.before.before.before.hidden-index.ensures.0
-      c.before.before.decommitment-from.ensures.0 c.before.first-node.ensures.0 c.first-node2.ensures.0 p.2 (head.loop.inv.1 ∙ p.3)
+here : (c : After-first_node-in-loop-i) →
+    Lent c.args.s c.node_bytes-w.result c.loop-i.i c.depth_of-d.result c.hidden_index-j.result c.decommitment_from-from.result c.first_node.result c.first_node-in-loop-i.result
+    c.args.ch.now c.args.opening.now c.loop-i.trees
+here c =
+    let g = c.args in
+    let p = c.requires.s_value in
+    lent g.s c.node_bytes-w.result c.loop-i.i c.depth_of-d.result _ _ _ _ g.ch.now g.opening.now c.loop-i.trees p.0 c.node_bytes-w.ensures.0
+    c.loop-i-test.true c.depth_of-d.ensures.0 c.hidden_index-j.ensures.0
+    c.decommitment_from-from.ensures.0 c.first_node.ensures.0 c.first_node-in-loop-i.ensures.0 p.2 (c.loop-i.invariant.1 ∙ p.3)
 
 pub node_bytes-w-requires : goal.node_bytes-w-requires
 node_bytes-w-requires c = c.requires.s_value.0
@@ -74,37 +64,37 @@ overflow_mul-end c =
     omega arith
 
 pub slice_bounds-write_tree-count : goal.slice_bounds-write_tree-count
-slice_bounds-write_tree-count c = (here c).start
+slice_bounds-write_tree-count c = (here (goal.at.slice_bounds-write_tree-count c).After-first_node-in-loop-i).start
 
 pub slice_bounds-write_tree-start : goal.slice_bounds-write_tree-start
-slice_bounds-write_tree-start c = (here c).start
+slice_bounds-write_tree-start c = (here (goal.at.slice_bounds-write_tree-start c).After-first_node-in-loop-i).start
 
 pub slice_bounds-write_tree-count-in-loop-i : goal.slice_bounds-write_tree-count-in-loop-i
-slice_bounds-write_tree-count-in-loop-i c = (here c.before).order
+slice_bounds-write_tree-count-in-loop-i c = (here (goal.at.slice_bounds-write_tree-count-in-loop-i c).After-first_node-in-loop-i).order
 
 pub slice_bounds-write_tree-start-in-loop-i : goal.slice_bounds-write_tree-start-in-loop-i
-slice_bounds-write_tree-start-in-loop-i c = (here c.before).order
+slice_bounds-write_tree-start-in-loop-i c = (here (goal.at.slice_bounds-write_tree-start-in-loop-i c).After-first_node-in-loop-i).order
 
 pub slice_bounds-write_tree-end-in-loop-i : goal.slice_bounds-write_tree-end-in-loop-i
-slice_bounds-write_tree-end-in-loop-i c = (here c.before).end
+slice_bounds-write_tree-end-in-loop-i c = (here (goal.at.slice_bounds-write_tree-end-in-loop-i c).After-first_node-in-loop-i).end
 
 pub write_tree-requires : goal.write_tree-requires
 write_tree-requires c =
-    let k = c in
-    let w = (head k).before.node-bytes.ensures in
-    let s = (start k).args.s in
-    let v = here k in
-    ((start k).requires.0, (w.1, w.2, ap (λ (m : ℕ). m % 8) w.0 ∙ (widths s (shape-facts s (start k).requires.1.0)).node-eight, k.depth_of-d.ensures.1, v.index, v.slots, v.tree))
+    let w = c.node_bytes-w.ensures in
+    let s = c.args.s in
+    let v = here (goal.at.write_tree-requires c).After-first_node-in-loop-i in record {
+      sbox_table = c.requires.sbox_table;
+      le_w = (w.1, w.2, ap (λ (m : ℕ). m % 8) w.0 ∙ (widths s (shape-facts s c.requires.s_value.0)).node-eight, c.depth_of-d.ensures.1, v.index, v.slots, v.tree);
+    }
 
 pub loop-i-preserved : goal.loop-i-preserved
 loop-i-preserved c =
-    let k = c in
-    let g = (start k).args in
-    let v = here k in
+    let g = c.args in
+    let v = here (goal.at.loop-i-preserved c).After-first_node-in-loop-i in
     let w = c.write_tree in
-    let h : (head k).loop.i < g.s.tau = k.loop-i-test.true in
-    let made = w.ensures g.s g.ch.now g.opening.now (head k).loop.i v.vector in
-    (omega arith, search rules, v.put (reconstructed_vector_tree faest1 g.s g.iv g.ch.now g.opening.now) _ _ (w.auto.tree ∙ v.tree) made (head k).loop.invariant.2)
+    let h : c.loop-i.i < g.s.tau = c.loop-i-test.true in
+    let made = w.ensures g.s g.ch.now g.opening.now c.loop-i.i v.vector in
+    (omega arith, search rules, v.put (reconstructed_vector_tree faest1 g.s g.iv g.ch.now g.opening.now) _ _ (w.auto.tree ∙ v.tree) made c.loop-i.invariant.2)
 
 pub returns : goal.returns
 unfolding reconstructed_trees

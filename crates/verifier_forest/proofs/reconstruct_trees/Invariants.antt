@@ -1,16 +1,9 @@
 -- The trees of the first i vectors stand, one behind another.
-use borrow.Author.Rules.{rules}
-use Prim.Native.Nat.{ℕ, ◌-◌, ◌*◌, ◌%◌, ◌≤◌, ◌<◌}
-use mathlib.Core.Path.{◌≡◌, refl, ap, ◌∙◌}
-use native.Mathlib.Nat.{mul-zero}
-use native.Mathlib.Omega.{arith}
+use Prim.Native.Nat.{◌-◌, ◌*◌, ◌≤◌}
+use mathlib.Core.Path.{◌≡◌}
 use lib.ListN.{length, take}
 use Rattle.spec.specs.Bytes.{concat}
-use Rattle.spec.specs.Version1.{faest1, first_node, reconstructed_vector_tree, reconstructed_trees}
-use Rattle.laws.proofs.Concat.{mul-limit}
-use Rattle.planning_laws.proofs.ShapeFacts.{shape-facts, widths}
-use Rattle.planning_laws.proofs.Forest.{node-none}
-use Rattle.verifier_forest.proofs.Laid.{Lent, lent, all-stand}
+use Rattle.spec.specs.Version1.{faest1, first_node, reconstructed_vector_tree}
 use Rattle.verifier_forest.proofs.reconstruct_trees.Given as goal
 
 abbrev pub invariant-loop-i : goal.invariant-loop-i

@@ -7,17 +7,16 @@ use native.Mathlib.Omega.{arith}
 use lib.ListN.{length, take, drop}
 use lib.Pow.{pow_mono, pow_pos}
 use lib.Seq.{take_all, take_at}
-use Rattle.spec.specs.declared.Shape.{Shape}
 use Rattle.spec.specs.Bytes.{part, zeros}
 use Rattle.spec.specs.Tree.{expand_tree}
 use Rattle.spec.specs.Shapes.{entries_of}
 use Rattle.spec.specs.Version1.{faest1, reconstructed_children1, reconstructed_vector_tree}
 use Rattle.laws.proofs.Lists.{length_part, length-zeros}
 use Rattle.laws.proofs.Concat.{mul-limit, mul-within}
-use Rattle.verifier_forest.specs.ByWay.{VectorOf}
-use Rattle.verifier_forest.proofs.Walk.{Walk, walk_start, walk-past, walk-off, walk_inside, walk-down}
+use Rattle.verifier_forest.proofs.Walk.{walk_start, walk-past, walk-off, walk_inside, walk-down}
 use Rattle.verifier_forest.proofs.ByVector.{way-grown, other-grown}
 use Rattle.verifier_forest.proofs.write_tree.Goals as goal
+use Rattle.verifier_forest.proofs.write_tree.Goals.{Then-a-path}
 
 -- the shift does not leave the word
 power : (d : ℕ) → d ≤ 12 → (1 * 2 ^ d % 2 ^ 64 ≡ 2 ^ d) × (1 ≤ 2 ^ d) × (2 ^ d ≤ 4096)
@@ -46,31 +45,24 @@ root_stands w d y h e =
     let z : y ≡ zeros w = e ∙ ap zeros l in
     take_at y (drop (w - 0) (drop 0 d)) (w * 1) (ap length z ∙ length-zeros w ∙ sym (mul-one w)) ∙ z
 
--- the function's start, and a turn of the loop
-module _ (k : goal.At-loop-a) where
-  abbrev start : goal.Start invariant-loop decreases-loop
-  start = k.before.before.before.before.before.before.before
-
-  -- the first 2 a + n nodes are in the tree, if it has a node a that is no leaf
-  room : (n : ℕ) → n ≤ 3 → k.loop.a < 2 ^ start.args.d - 1 → (start.args.w * (2 * k.loop.a + n) ≤ length k.loop.tree) × (length k.loop.tree < 2 ^ 32)
-  room n h l =
-      let p = start.pre.1 in
-      let q = power start.args.d p.3 in
-      inside start.args.w (2 ^ start.args.d) k.loop.a n (length k.loop.tree) p.1 q.2 k.loop.inv.3 (omega arith)
+-- the first 2 a + n nodes are in the tree, if it has a node a that is no leaf
+room : (w d a k n : ℕ) → w ≤ 32 → d ≤ 12 → n ≡ w * (2 * 2 ^ d - 1) → k ≤ 3 → a < 2 ^ d - 1 → (w * (2 * a + k) ≤ n) × (n < 2 ^ 32)
+room w d a k n h l e r s = (let q = power d l in inside w (2 ^ d) a k n h q.2 e (omega arith))
 
 -- the node that is met on the way is no leaf
-level : (c : goal.Then-a-path) → c.loop-a.l < (start c.before.before).args.d
-level c = (let g = (start c.before.before).args in let l = c.loop-a in walk_inside g.d g.j l.a l.path l.l l.invariant.4 c.if-a-path.true (omega arith))
+level : (c : Then-a-path) → c.loop-a.l < c.args.d
+level c = (let g = c.args in let l = c.loop-a in walk_inside g.d g.j l.a l.path l.l l.invariant.4 c.if-a-path.true (omega arith))
 
 -- the root is in the tree
-pub slice_bounds-clear_from-end : goal.slice_bounds-clear_from-end
-slice_bounds-clear_from-end c =
-    let g = c.args in
-    let p = c.requires.le_w in
-    let q = power g.d p.3 in
-    let i = inside g.w (2 ^ g.d) 0 1 _ p.1 q.2 p.6 (omega arith) in
-    let o = mul-one g.w in
+root-end : (w d n : ℕ) → w ≤ 32 → d ≤ 12 → n ≡ w * (2 * 2 ^ d - 1) → w ≤ n
+root-end w d n h l e =
+    let q = power d l in
+    let i = inside w (2 ^ d) 0 1 n h q.2 e (omega arith) in
+    let o = mul-one w in
     omega arith
+
+pub slice_bounds-clear_from-end : goal.slice_bounds-clear_from-end
+slice_bounds-clear_from-end c = root-end c.args.w c.args.d _ c.requires.le_w.1 c.requires.le_w.3 c.requires.le_w.6
 
 pub overflow_sub-inner : goal.overflow_sub-inner
 overflow_sub-inner c = (let q = power c.args.d c.requires.le_w.3 in omega arith)
@@ -87,24 +79,23 @@ loop-a-init c =
       omega arith,
       search rules,
       walk_start g.d g.j p.4,
-      λ s ch opening i v. root_stands g.w g.tree.now _ (root-end c.before.before.before.before) c.clear_from.ensures,
+      λ s ch opening i v. root_stands g.w g.tree.now _ (root-end c.args.w c.args.d _ c.requires.le_w.1 c.requires.le_w.3 c.requires.le_w.6) c.clear_from.ensures,
     )
 
 pub overflow_sub-m : goal.overflow_sub-m
-overflow_sub-m c = let l = level c in omega arith
+overflow_sub-m c = let l = level (goal.at.overflow_sub-m c).Then-a-path in omega arith
 
 pub overflow_sub-m-then-a-path : goal.overflow_sub-m-then-a-path
-overflow_sub-m-then-a-path c = let l = level c in omega arith
+overflow_sub-m-then-a-path c = let l = level (goal.at.overflow_sub-m-then-a-path c).Then-a-path in omega arith
 
 pub overflow_shr-b : goal.overflow_shr-b
-overflow_shr-b c = omega (arith, (start c.before.before).pre.1.3)
+overflow_shr-b c = omega (arith, c.requires.le_w.3)
 
 pub write_covered-requires : goal.write_covered-requires
 write_covered-requires c =
-    let k = c in
-    let p = (start k).requires.1 in
-    let m = mul-within (start k).args.w k.loop-a.l (start k).args.d (level c.before) in
-    let r = room k 3 (omega arith) (omega arith) in
+    let p = c.requires.le_w in
+    let m = mul-within c.args.w c.loop-a.l c.args.d (level (goal.at.write_covered-requires c).Then-a-path) in
+    let r = room c.args.w c.args.d c.loop-a.a 3 _ c.requires.le_w.1 c.requires.le_w.3 c.loop-a.invariant.3 (omega arith) (omega arith) in
     (p.0, omega arith, omega (arith, p.5), r.0, r.1)
 
 pub loop-a-smaller-then-a-path : goal.loop-a-smaller-then-a-path
@@ -112,43 +103,40 @@ loop-a-smaller-then-a-path c = falls _ _ c.loop-a-test.true
 
 pub loop-a-preserved-then-a-path : goal.loop-a-preserved-then-a-path
 loop-a-preserved-then-a-path c =
-    let t = c in
-    let g = (start t.before.before).args in
-    let l = t.loop-a in
-    let up = t.if-a-path.true ∙ l.invariant.4.node in (
+    let g = c.args in
+    let l = c.loop-a in
+    let up = c.if-a-path.true ∙ l.invariant.4.node in (
       l.invariant.0,
       l.invariant.1,
       omega arith,
       search rules,
-      walk-down g.d g.j l.a l.l (level t) up,
+      walk-down g.d g.j l.a l.l (level (goal.at.loop-a-preserved-then-a-path c).Then-a-path) up,
       λ s ch opening i v.
-          way-grown g.w g.d g.j g.slots.now s ch opening i v (start t.before.before).pre.1.4 g.iv l.a l.l l.tree _ (level t) up c.write_covered.ensures
+          way-grown g.w g.d g.j g.slots.now s ch opening i v c.requires.le_w.4 g.iv l.a l.l l.tree _ (level (goal.at.loop-a-preserved-then-a-path c).Then-a-path) up c.write_covered.ensures
           (l.invariant.5 s ch opening i v),
     )
 
 pub expand_node-requires : goal.expand_node-requires
 expand_node-requires c =
-    let k = c in
-    let p = (start k).requires.1 in
-    let r = room k 3 (omega arith) (omega arith) in
-    ((start k).requires.0, (p.0, p.1, p.2, r.0, r.1))
+    let p = c.requires.le_w in
+    let r = room c.args.w c.args.d c.loop-a.a 3 _ c.requires.le_w.1 c.requires.le_w.3 c.loop-a.invariant.3 (omega arith) (omega arith) in
+    record { sbox_table = c.requires.sbox_table; le_n = (p.0, p.1, p.2, r.0, r.1) }
 
 pub loop-a-smaller : goal.loop-a-smaller
 loop-a-smaller c = falls _ _ c.loop-a-test.true
 
 pub loop-a-preserved : goal.loop-a-preserved
 loop-a-preserved c =
-    let t = c in
-    let g = (start t.before.before).args in
-    let l = t.loop-a in
-    let o = walk-off g.d g.j l.a l.path l.l l.invariant.4 t.if-a-path.false in (
+    let g = c.args in
+    let l = c.loop-a in
+    let o = walk-off g.d g.j l.a l.path l.l l.invariant.4 c.if-a-path.false in (
       l.invariant.0,
       l.invariant.1,
       omega arith,
       search rules,
-      walk-past g.d g.j l.a l.path l.l l.invariant.4 t.if-a-path.false,
+      walk-past g.d g.j l.a l.path l.l l.invariant.4 c.if-a-path.false,
       λ s ch opening i v.
-          other-grown g.w g.d g.j g.slots.now s ch opening i v (start t.before.before).pre.1.4 g.iv l.a l.tree _ o (room t.before.before 1 (omega arith) (omega arith)).0
+          other-grown g.w g.d g.j g.slots.now s ch opening i v c.requires.le_w.4 g.iv l.a l.tree _ o (room c.args.w c.args.d c.loop-a.a 1 _ c.requires.le_w.1 c.requires.le_w.3 c.loop-a.invariant.3 (omega arith) (omega arith)).0
           (c.expand_node.ensures s v.shape v.width) (l.invariant.5 s ch opening i v),
     )
 
@@ -156,9 +144,9 @@ pub returns : goal.returns
 unfolding reconstructed_vector_tree entries_of
 returns c =
     λ s ch opening i v.
-    let g = (start c.before).args in
+    let g = c.args in
     let l = c.loop-a in
-    let q = power g.d (start c.before).pre.1.3 in
+    let q = power g.d c.requires.le_w.3 in
     let e : l.a ≡ 2 ^ g.d - 1 = omega arith in
     let all : length l.tree ≡ g.w * (2 * l.a + 1) = l.invariant.3 ∙ ap (λ (m : ℕ). g.w * m) (let z : 2 * 2 ^ g.d - 1 ≡ 2 * l.a + 1 = omega arith in z) in
     let kids = reconstructed_children1 faest1 s g.iv ch opening i in

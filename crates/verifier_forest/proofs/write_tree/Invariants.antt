@@ -1,23 +1,14 @@
 -- Once a nodes have their children, the first 2 a + 1 nodes stand, and the walk down to the hidden leaf has not passed its next node.
-use borrow.Author.Rules.{rules}
-use Prim.Native.Nat.{ℕ, ◌+◌, ◌-◌, ◌*◌, ◌%◌, ◌^◌, ◌≤◌, ◌<◌}
-use mathlib.Core.Path.{◌≡◌, sym, ap, ap₂, ◌∙◌}
-use mathlib.Core.List.{List, ◌++◌}
-use native.Mathlib.Nat.{mod-eq_of_lt, one-mul, mul-one, le_refl}
-use native.Mathlib.Omega.{arith}
-use lib.ListN.{length, take, drop}
-use lib.Pow.{pow_mono, pow_pos}
-use lib.Seq.{take_all, take_at}
+use Prim.Native.Nat.{ℕ, ◌+◌, ◌-◌, ◌*◌, ◌^◌, ◌≤◌, ◌<◌}
+use mathlib.Core.Path.{◌≡◌}
+use mathlib.Core.List.{List}
+use lib.ListN.{length, take}
 use Rattle.spec.specs.declared.Shape.{Shape}
-use Rattle.spec.specs.Bytes.{part, zeros}
+use Rattle.spec.specs.Bytes.{zeros}
 use Rattle.spec.specs.Tree.{expand_tree}
-use Rattle.spec.specs.Shapes.{entries_of}
-use Rattle.spec.specs.Version1.{faest1, reconstructed_children1, reconstructed_vector_tree}
-use Rattle.laws.proofs.Lists.{length_part, length-zeros}
-use Rattle.laws.proofs.Concat.{mul-limit, mul-within}
+use Rattle.spec.specs.Version1.{faest1, reconstructed_children1}
 use Rattle.verifier_forest.specs.ByWay.{VectorOf}
-use Rattle.verifier_forest.proofs.Walk.{Walk, walk_start, walk-past, walk-off, walk_inside, walk-down}
-use Rattle.verifier_forest.proofs.ByVector.{way-grown, other-grown}
+use Rattle.verifier_forest.proofs.Walk.{Walk}
 use Rattle.verifier_forest.proofs.write_tree.Given as goal
 
 abbrev pub invariant-loop-a : goal.invariant-loop-a
