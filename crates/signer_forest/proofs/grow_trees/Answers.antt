@@ -21,8 +21,7 @@ slice_bounds-roots-end c = let r = room c.args.s c.node_bytes.result c.requires.
 
 pub grow_through-requires : goal.grow_through-requires
 grow_through-requires c =
-    let start = c in
-    let g = start.args in
+    let g = c.args in
     let n = c.node_bytes in
     let end = n.result * g.s.tau in
-    record { sbox_table = start.requires.sbox_table; s_value = (start.requires.s_value.0, start.requires.s_value.1, start.requires.s_value.2, lent 0 end end _ (omega arith) (let r = room c.args.s c.node_bytes.result c.requires.s_value.0 c.node_bytes.ensures.2 in omega arith) ∙ ap (λ (m : ℕ). m * g.s.tau) n.ensures.0) }
+    record { sbox_table = c.requires.sbox_table; s_value = (c.requires.s_value.0, c.requires.s_value.1, c.requires.s_value.2, lent 0 end end _ (omega arith) (let r = room c.args.s c.node_bytes.result c.requires.s_value.0 c.node_bytes.ensures.2 in omega arith) ∙ ap (λ (m : ℕ). m * g.s.tau) n.ensures.0) }

@@ -4,12 +4,11 @@ use Rattle.v1_signer.proofs.commit_fits.Goals as goal
 
 pub returns : goal.returns
 returns c =
-    let made = c in
     rw (
-      made.node_bytes-node.ensures.0,
-      made.hash_bytes-hash.ensures.0,
-      made.trees_bytes-trees.ensures.0,
-      made.leaf_commitments_bytes-lcs.ensures.0,
-      made.matrix_bytes-v.ensures.0,
-      made.corrections_bytes-corrections.ensures.0,
+      c.node_bytes-node.ensures.0,
+      c.hash_bytes-hash.ensures.0,
+      c.trees_bytes-trees.ensures.0,
+      c.leaf_commitments_bytes-lcs.ensures.0,
+      c.matrix_bytes-v.ensures.0,
+      c.corrections_bytes-corrections.ensures.0,
     ) refl

@@ -6,5 +6,4 @@ use Rattle.v1_signer.proofs.open_fits.Goals as goal
 pub returns : goal.returns
 unfolding node_bytes challenge_bytes
 returns c =
-    let made = c in
-    rw (made.node_bytes-node.ensures.0, made.trees_bytes-trees.ensures.0, made.leaf_commitments_bytes-lcs.ensures.0, made.opening_bytes-opening.ensures.0) refl
+    rw (c.node_bytes-node.ensures.0, c.trees_bytes-trees.ensures.0, c.leaf_commitments_bytes-lcs.ensures.0, c.opening_bytes-opening.ensures.0) refl

@@ -16,5 +16,4 @@ open_fits-requires c = (shape-parts _ (passed c.is_shape.ensures c.if-not-is_sha
 pub returns : goal.returns
 unfolding open1_number
 returns c =
-    let shape = c in
-    rw (passed shape.is_shape.ensures c.if-not-is_shape.false) (c.refusal.ensures ∙ ap (λ (b : Bool). cond b 0 3) c.open_fits.ensures)
+    rw (passed c.is_shape.ensures c.if-not-is_shape.false) (c.refusal.ensures ∙ ap (λ (b : Bool). cond b 0 3) c.open_fits.ensures)

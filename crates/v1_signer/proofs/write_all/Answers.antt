@@ -16,14 +16,13 @@ pub rate_bytes-r-requires : goal.rate_bytes-r-requires
 rate_bytes-r-requires c = (shape-parts _ c.requires.s_value.0).0
 
 pub grow_trees-requires : goal.grow_trees-requires
-grow_trees-requires c = (let start = c in record { sbox_table = c.table-t.ensures; s_value = ((shape-parts _ start.requires.s_value.0).0, start.requires.s_value.2, start.requires.commitment_len.1) })
+grow_trees-requires c = (record { sbox_table = c.table-t.ensures; s_value = ((shape-parts _ c.requires.s_value.0).0, c.requires.s_value.2, c.requires.commitment_len.1) })
 
 pub write_vectors-requires : goal.write_vectors-requires
 write_vectors-requires c =
-    let start = c in
-    let g = start.args in
-    let p = start.requires.s_value in
-    let q = start.requires.commitment_len in
+    let g = c.args in
+    let p = c.requires.s_value in
+    let q = c.requires.commitment_len in
     let job = c.job_of-g in
     let x = c.load_iv-x.result in
     let box = c.table-t.ensures in
@@ -36,14 +35,13 @@ h1-requires c = (let r = c.rate_bytes-r.ensures in (r.2, r.1))
 
 pub returns : goal.returns
 returns c =
-    let start = c in
-    let g = start.args in
+    let g = c.args in
     let x = c.load_iv-x in
     let job = c.job_of-g in
     let vectors = c.write_vectors in
     let made = vectors.ensures in
     let hash =
     c.h1.ensures ∙ ap (λ (r : ℕ). hash1 r vectors.new.hashes (length g.commitment.now)) c.rate_bytes-r.ensures.0
-    ∙ ap₂ (λ (m : List ℕ) (n : ℕ). hash1 (rate g.s) m n) made.hashes_after start.requires.commitment_len.0 in
+    ∙ ap₂ (λ (m : List ℕ) (n : ℕ). hash1 (rate g.s) m n) made.hashes_after c.requires.commitment_len.0 in
     commit-writes g.s g.b x.result job.result job.ensures g.root.now _ _ _ _ _ _ c.grow_trees.ensures hash made.lcs_after made.u_after made.v_after made.corrections_after
     ∙ ap (committed1 faest1 g.s g.b g.root.now) x.ensures

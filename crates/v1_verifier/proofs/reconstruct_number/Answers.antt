@@ -13,5 +13,4 @@ reconstruct_fits-requires c = (let q = front-passed _ _ _ c.front_number-front.e
 
 pub returns : goal.returns
 returns c =
-    let front = c in
-    lengths-decide _ _ _ _ _ front.front_number-front.ensures c.if-front-ne0.false (c.refusal.ensures ∙ ap (λ (b : Bool). cond b 0 3) c.reconstruct_fits.ensures)
+    lengths-decide _ _ _ _ _ c.front_number-front.ensures c.if-front-ne0.false (c.refusal.ensures ∙ ap (λ (b : Bool). cond b 0 3) c.reconstruct_fits.ensures)

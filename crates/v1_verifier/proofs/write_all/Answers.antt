@@ -17,17 +17,15 @@ rate_bytes-r-requires c = (shape-parts _ c.requires.s_value.0).0
 
 pub reconstruct_trees-requires : goal.reconstruct_trees-requires
 reconstruct_trees-requires c =
-    let start = c in
-    let p = start.requires.iv_len in
-    record { sbox_table = c.table-t.ensures; s_value = ((shape-parts _ start.requires.s_value.0).0, p.1, p.3, start.requires.commitment_len.1) }
+    let p = c.requires.iv_len in
+    record { sbox_table = c.table-t.ensures; s_value = ((shape-parts _ c.requires.s_value.0).0, p.1, p.3, c.requires.commitment_len.1) }
 
 pub write_vectors-requires : goal.write_vectors-requires
 write_vectors-requires c =
-    let start = c in
-    let g = start.args in
-    let p = start.requires.s_value in
-    let q = start.requires.iv_len in
-    let o = start.requires.commitment_len in
+    let g = c.args in
+    let p = c.requires.s_value in
+    let q = c.requires.iv_len in
+    let o = c.requires.commitment_len in
     let job = c.job_of-g in
     let x = c.load_iv-x.result in
     let box = c.table-t.ensures in
@@ -37,17 +35,15 @@ write_vectors-requires c =
 
 pub correct_vectors-requires : goal.correct_vectors-requires
 correct_vectors-requires c =
-    let start = c in
-    let q = start.requires.iv_len in
-    ((shape-parts _ start.requires.s_value.0).0, start.requires.s_value.1, q.1, q.2, c.write_vectors.auto.q ∙ start.requires.commitment_len.3)
+    let q = c.requires.iv_len in
+    ((shape-parts _ c.requires.s_value.0).0, c.requires.s_value.1, q.1, q.2, c.write_vectors.auto.q ∙ c.requires.commitment_len.3)
 
 pub h1-requires : goal.h1-requires
 h1-requires c = (let r = c.rate_bytes-r.ensures in (r.2, r.1))
 
 pub returns : goal.returns
 returns c =
-    let start = c in
-    let g = start.args in
+    let g = c.args in
     let x = c.load_iv-x in
     let job = c.job_of-g in
     let trees = c.reconstruct_trees in
@@ -55,7 +51,7 @@ returns c =
     let made = vectors.ensures in
     let hash =
     c.h1.ensures ∙ ap (λ (r : ℕ). hash1 r vectors.new.hashes (length g.commitment.now)) c.rate_bytes-r.ensures.0
-    ∙ ap₂ (λ (m : List ℕ) (n : ℕ). hash1 (rate g.s) m n) made.hashes_after start.requires.commitment_len.0 in
+    ∙ ap₂ (λ (m : List ℕ) (n : ℕ). hash1 (rate g.s) m n) made.hashes_after c.requires.commitment_len.0 in
     let rows = uncorrected-rows g.s g.b x.result job.result job.ensures g.ch.now trees.new.trees _ made.q_after in
     reconstruct-writes g.s g.b x.result job.result job.ensures g.ch.now g.corrections.now g.opening.now _ _ _ _ trees.ensures hash made.lcs_after (c.correct_vectors.ensures (row1_byte faest1 g.s x.result trees.new.trees) rows)
     ∙ ap (λ (i : List ℕ). reconstructed1 faest1 g.s g.b i g.ch.now g.corrections.now g.opening.now) x.ensures

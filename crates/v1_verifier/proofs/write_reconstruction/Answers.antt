@@ -31,14 +31,13 @@ slice_bounds-hashes-end c = let m = room (goal.at.slice_bounds-hashes-end c).Aft
 pub write_all-requires : goal.write_all-requires
 unfolding hash_bytes leaf_commitment_bytes1
 write_all-requires c =
-    let start = c in
-    let p = start.requires.s_value in
-    let tau = start.args.s.tau in
+    let p = c.requires.s_value in
+    let tau = c.args.s.tau in
     let h = c.hash_bytes in
     let m = room (goal.at.write_all-requires c).After-hash_bytes in
-    let part : h.result * tau ≡ 0 + hash_bytes start.args.s * tau = ap (λ (n : ℕ). n * tau) h.ensures.0 ∙ sym (zero-add _) in
+    let part : h.result * tau ≡ 0 + hash_bytes c.args.s * tau = ap (λ (n : ℕ). n * tau) h.ensures.0 ∙ sym (zero-add _) in
     let keys = lent 0 (h.result * tau) _ (replicate 2048 0) part (omega arith) in
-    record { s_value = (p.0, p.1, keys, keys); iv_len = start.requires.iv_len; commitment_len = start.requires.commitment_len }
+    record { s_value = (p.0, p.1, keys, keys); iv_len = c.requires.iv_len; commitment_len = c.requires.commitment_len }
 
 pub returns : goal.returns
 returns c = c.write_all.ensures

@@ -30,9 +30,8 @@ node_bytes-w-requires c = c.requires.s_value.0
 pub loop-i-init : goal.loop-i-init
 unfolding concat
 loop-i-init c =
-    let st = c in
     let w = c.node_bytes-w.result in
-    (omega arith, refl, ap (λ (n : ℕ). take n st.args.trees.now) (ap (λ (n : ℕ). w * n) (node-none st.args.s (shape-facts st.args.s st.requires.s_value.0)) ∙ mul-zero w))
+    (omega arith, refl, ap (λ (n : ℕ). take n c.args.trees.now) (ap (λ (n : ℕ). w * n) (node-none c.args.s (shape-facts c.args.s c.requires.s_value.0)) ∙ mul-zero w))
 
 pub depth_of-d-requires : goal.depth_of-d-requires
 depth_of-d-requires c = c.requires.s_value.0
@@ -99,8 +98,7 @@ loop-i-preserved c =
 pub returns : goal.returns
 unfolding reconstructed_trees
 returns c =
-    let st = c in
-    let s = st.args.s in
+    let s = c.args.s in
     let w = c.node_bytes-w in
     let l = c.loop-i in
-    all-stand s st.requires.s_value.0 w.result l.i w.ensures.0 l.trees (reconstructed_vector_tree faest1 s st.args.iv st.args.ch.now st.args.opening.now) (omega arith) (l.invariant.1 ∙ st.requires.s_value.3) l.invariant.2
+    all-stand s c.requires.s_value.0 w.result l.i w.ensures.0 l.trees (reconstructed_vector_tree faest1 s c.args.iv c.args.ch.now c.args.opening.now) (omega arith) (l.invariant.1 ∙ c.requires.s_value.3) l.invariant.2

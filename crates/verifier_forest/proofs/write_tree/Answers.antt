@@ -70,9 +70,8 @@ overflow_sub-inner c = (let q = power c.args.d c.requires.le_w.3 in omega arith)
 pub loop-a-init : goal.loop-a-init
 unfolding expand_tree
 loop-a-init c =
-    let st = c in
-    let g = st.args in
-    let p = st.requires.le_w in
+    let g = c.args in
+    let p = c.requires.le_w in
     let q = power g.d p.3 in (
       omega arith,
       omega arith,

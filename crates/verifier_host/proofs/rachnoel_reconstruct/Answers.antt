@@ -1,7 +1,6 @@
 -- The two laws of reconstruct in `Reconstruct`.
 use mathlib.Core.Path.{sym}
 use lib.Seq.{length-take-le}
-use borrow.Author.Rules.{rules}
 use Rattle.verifier_host.proofs.Reconstruct.{reconstruct-sized, reconstruct-host}
 use Rattle.verifier_host.proofs.rachnoel_reconstruct.Goals as goal
 

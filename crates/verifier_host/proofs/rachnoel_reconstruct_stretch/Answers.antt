@@ -1,7 +1,6 @@
 -- The two laws of reconstruct_stretch in `ReconstructStretch`.
 use mathlib.Core.Path.{sym}
 use lib.Seq.{length-take-le}
-use borrow.Author.Rules.{rules}
 use Rattle.verifier_host.proofs.ReconstructStretch.{stretch-sized, stretch-host}
 use Rattle.verifier_host.proofs.rachnoel_reconstruct_stretch.Goals as goal
 

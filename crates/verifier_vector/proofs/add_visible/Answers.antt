@@ -19,12 +19,11 @@ use Rattle.verifier_vector.proofs.add_visible.Goals.{After-commitment_bytes-w}
 -- the hidden entry's place ends within the buffer
 room : (c : After-commitment_bytes-w) → c.commitment_bytes-w.result * c.args.x.entry + c.commitment_bytes-w.result ≤ length c.args.lcs.now
 room c =
-    let start = c in
-    let g = start.args in
+    let g = c.args in
     let w = c.commitment_bytes-w in
     let n = entries_of g.g.shape g.x.vector in
     let all : w.result * n ≡ leaf_commitment_bytes g.g.shape * n = ap (λ (m : ℕ). m * n) w.ensures.0 in
-    block-end w.result g.x.entry n (length g.lcs.now) start.requires.lent.3 (let l = start.requires.hidden_len.1 in omega arith)
+    block-end w.result g.x.entry n (length g.lcs.now) c.requires.lent.3 (let l = c.requires.hidden_len.1 in omega arith)
 
 pub overflow_mul-w : goal.overflow_mul-w
 overflow_mul-w c = let e = room (goal.at.overflow_mul-w c).After-commitment_bytes-w in omega arith

@@ -1,5 +1,4 @@
 -- Each way out is one law of the record's `Host`.
-use borrow.Author.Rules.{rules}
 use Rattle.record.proofs.Host.{length-refused, length_three, length-given}
 use Rattle.writer_host.proofs.rachnoel_record_length.Goals as goal
 
@@ -11,5 +10,4 @@ returns-then-length-ne4 c = length_three _ _ _ _ c.record_length-n.ensures c.if-
 
 pub returns : goal.returns
 returns c =
-    let el = c in
-    length-given _ _ _ _ el.record_length-n.ensures el.if-n-ne0.false el.if-length-ne4.false _ c.put_list.ensures
+    length-given _ _ _ _ c.record_length-n.ensures c.if-n-ne0.false c.if-length-ne4.false _ c.put_list.ensures
