@@ -11,14 +11,11 @@ slice_bounds-reconstruct-end c =
 
 pub give-requires : goal.give-requires
 give-requires c =
-    let q = returned c in
-    let p = q.before.before.before.before.before.before.passed_on in
-    let st = q.before.before.before.before.before.before.before.before.before.before.before.before.before.before.before.before in
-    reconstruct-sized _ _ _ _ _ _ _ _ st.args.count.now _ p.result p.ensures.0 q.reconstruct.ensures
+    let p = c.passed_on-n in
+    reconstruct-sized _ _ _ _ _ _ _ _ c.args.count.now _ p.result p.ensures.0 c.reconstruct-a.ensures
 
 pub returns : goal.returns
 returns c =
-    let q = returned c.before.before.before in
-    let p = q.before.before.before.before.before.before.passed_on in
+    let p = c.passed_on-n in
     rw c.give.ensures.0
-    (reconstruct-host _ _ _ _ _ _ _ _ _ _ p.result p.ensures.0 q.reconstruct.ensures _ c.give.ensures.1)
+    (reconstruct-host _ _ _ _ _ _ _ _ _ _ p.result p.ensures.0 c.reconstruct-a.ensures _ c.give.ensures.1)

@@ -11,14 +11,11 @@ slice_bounds-reconstruct_stretch-end c =
 
 pub give-requires : goal.give-requires
 give-requires c =
-    let q = returned c in
-    let p = q.before.before.before.before.before.before.passed_on in
-    let st = q.before.before.before.before.before.before.before.before.before.before.before.before.before.before.before.before in
-    stretch-sized _ _ _ _ _ _ _ _ _ st.args.count.now _ p.result p.ensures.0 q.reconstruct-stretch.ensures
+    let p = c.passed_on-n in
+    stretch-sized _ _ _ _ _ _ _ _ _ c.args.count.now _ p.result p.ensures.0 c.reconstruct_stretch-a.ensures
 
 pub returns : goal.returns
 returns c =
-    let q = returned c.before.before.before in
-    let p = q.before.before.before.before.before.before.passed_on in
+    let p = c.passed_on-n in
     rw c.give.ensures.0
-    (stretch-host _ _ _ _ _ _ _ _ _ _ _ p.result p.ensures.0 q.reconstruct-stretch.ensures _ c.give.ensures.1)
+    (stretch-host _ _ _ _ _ _ _ _ _ _ _ p.result p.ensures.0 c.reconstruct_stretch-a.ensures _ c.give.ensures.1)
