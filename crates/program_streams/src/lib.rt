@@ -71,3 +71,52 @@ pub fn used_otherwise(rt: &impl Eprint, usage: &str) -> ExitCode {
     let _ = rt.eprintln(usage);
     ExitCode::SUCCESS
 }
+
+#[cfg(test)]
+mod tests {
+    use super::*;
+    use std::test::Fail;
+
+    // An input of one byte, which cannot be read behind it.
+    #[derive(Drop)]
+    struct Broken {
+        read: bool,
+    }
+
+    impl Read for Broken {
+        fn read(&mut self, buffer: &mut [u8]) -> io::Result<usize> {
+            if self.read {
+                return Err(io::Error::other("gone"));
+            }
+            self.read = true;
+            match buffer.first_mut() {
+                Some(first) => {
+                    *first = 7;
+                    Ok(1)
+                }
+                None => Ok(0),
+            }
+        }
+    }
+
+    #[test]
+    fn half_an_input_is_none(rt: HostRuntime) -> Result<(), Fail> {
+        let mut buffer = [0u8; 4];
+        match read_start(&mut Broken { read: false }, &mut buffer) {
+            Ok(_) => assert!(rt; false, "half an input was taken for a whole one"),
+            Err(failure) => {
+                let said = format!(in rt.alloc(); "{failure}")?;
+                assert_eq!(rt; said.as_str(), "standard input: gone");
+            }
+        }
+        Ok(())
+    }
+
+    #[test]
+    fn output_is_named(rt: HostRuntime) -> Result<(), Fail> {
+        let failure = Failure::Output(io::Error::other("full"));
+        let said = format!(in rt.alloc(); "{failure}")?;
+        assert_eq!(rt; said.as_str(), "standard output: full");
+        Ok(())
+    }
+}
