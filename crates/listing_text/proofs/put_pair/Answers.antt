@@ -42,16 +42,15 @@ put_byte-requires c =
 
 pub returns : goal.returns
 unfolding pair_text
-returns c =
-    (
-      put_next (put_next c.put_decimal-end.ensures c.put_byte-next.ensures) (put_next c.put_decimal-last.ensures c.put_byte.ensures),
-      omega (
-        arith,
-        decimal-length 9 c.args.m c.requires.0,
-        decimal-length 9 c.args.n c.requires.1,
-        c.put_decimal-end.ensures.end,
-        c.put_byte-next.ensures.end,
-        c.put_decimal-last.ensures.end,
-        c.put_byte.ensures.end,
-      ),
-    )
+returns c = (
+  put_next (put_next c.put_decimal-end.ensures c.put_byte-next.ensures) (put_next c.put_decimal-last.ensures c.put_byte.ensures),
+  omega (
+    arith,
+    decimal-length 9 c.args.m c.requires.0,
+    decimal-length 9 c.args.n c.requires.1,
+    c.put_decimal-end.ensures.end,
+    c.put_byte-next.ensures.end,
+    c.put_decimal-last.ensures.end,
+    c.put_byte.ensures.end,
+  ),
+)

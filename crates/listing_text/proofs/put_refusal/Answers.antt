@@ -7,8 +7,7 @@ use Rattle.listing_text.proofs.put_refusal.Goals as goal
 
 pub returns : goal.returns
 unfolding refused_text
-returns c =
-    (
-      put_next c.put_bytes-end.ensures c.put_line.ensures,
-      omega (arith, c.put_bytes-end.ensures.end, c.put_line.ensures.end, line-short c.args.number c.requires.0),
-    )
+returns c = (
+  put_next c.put_bytes-end.ensures c.put_line.ensures,
+  omega (arith, c.put_bytes-end.ensures.end, c.put_line.ensures.end, line-short c.args.number c.requires.0),
+)
