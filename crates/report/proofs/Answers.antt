@@ -10,7 +10,12 @@ use Rattle.spec.specs.Bytes.{all_zero}
 use Rattle.spec.specs.Shapes.{node_bytes, leaf_commitment_bytes, grinding_ok, planned_count}
 use Rattle.spec.specs.Verifier.{slots_ok}
 use Rattle.spec.specs.Calls.{nodes_ok}
+use Rattle.report_text.specs.declared.Entry.{Entry}
 use Rattle.report_text.specs.Entries.{opened_entry}
+
+-- the entry of a record that stops the reading, n bytes before the end
+abbrev pub stopped : ℕ → ℕ → Entry
+stopped n k = record { number = k; count = 0; unused = 0; bytes = n }
 
 -- s is the resolved shape of a record of b bytes, ch its challenge, op its opening and n the count
 module _ (s : Shape) (ch op : List ℕ) (b : ℕ) where

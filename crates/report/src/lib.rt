@@ -9,7 +9,7 @@ ghost use Rattle.listing_text.specs.Put.{Put};
 ghost use Rattle.report_text.specs.Entries.{entry_of, opened_entry, entries};
 ghost use Rattle.report_text.specs.Text.{entries_text, report_text};
 
-use record_reading::{Front, Sizes};
+use record_reading::{Front, RecordRefusal, Sizes};
 use report_text::Entry;
 use spec::Shape;
 
@@ -75,20 +75,26 @@ fn open_fields(bytes: &[u8], f: Front, z: Sizes, end: usize) -> Entry
     opened(f, p.challenge, p.opening, end)
 }
 
+// The entry of a record whose front is read.
+fn entry_behind(bytes: &[u8], f: Front) -> Entry
+    requires { FrontOf bytes.now f }
+    ensures { result ≡ entry_of bytes.now }
+{
+    let z = record_reading::sizes_of(f);
+    match record_reading::rest(bytes, z) {
+        Some(end) => open_fields(bytes, f, z, end),
+        None => refused(RecordRefusal::NotARecord.number(), bytes.len()),
+    }
+}
+
 // The entry of the record that begins a string. One with a number of the front or of a missing field takes all that is left, so that nothing is read behind it.
 fn entry(bytes: &[u8]) -> Entry
     ensures { result ≡ entry_of bytes.now }
 {
-    let f = record_reading::front_of(bytes);
-    if f.number != 0 {
-        return refused(f.number, bytes.len());
+    match record_reading::front_of(bytes) {
+        Ok(f) => entry_behind(bytes, f),
+        Err(refusal) => refused(refusal.number(), bytes.len()),
     }
-    let z = record_reading::sizes_of(f);
-    let r = record_reading::rest(bytes, z);
-    if !r.fits {
-        return refused(10, bytes.len());
-    }
-    open_fields(bytes, f, z, r.end)
 }
 
 // Puts a line for each record of the input, and the totals behind them.

@@ -115,23 +115,27 @@ pub fn commit_stretch(
         v: v.len(),
         corrections: corrections.len(),
     };
-    let number = signer_refusals::commit_number(s, row_bits, stretch, x);
-    if number != 0 {
-        return rules::answer(number, 0);
+    match signer_refusals::test_commit(s, row_bits, stretch, x) {
+        Ok(()) => {
+            write_commitment(
+                s,
+                stretch,
+                root,
+                iv,
+                commitment,
+                tree,
+                leaf_commitments,
+                u,
+                v,
+                corrections,
+            );
+            Answer {
+                number: 0,
+                count: 0,
+            }
+        }
+        Err(refusal) => Answer::from(refusal),
     }
-    write_commitment(
-        s,
-        stretch,
-        root,
-        iv,
-        commitment,
-        tree,
-        leaf_commitments,
-        u,
-        v,
-        corrections,
-    );
-    rules::answer(0, 0)
 }
 
 // COMMIT: the same of the whole row.

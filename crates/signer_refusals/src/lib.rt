@@ -1,15 +1,16 @@
-// The number of commit and the answer of open, each by its list of tests. Nothing here can write what a call is lent.
+// The tests of commit and of open, each by its list. Nothing here can write what a call is lent.
 #![tactic(auto)]
 
 ghost use Rattle.std.specs.Prelude.{◌≡◌, true, ◌≤◌, length};
 ghost use Rattle.spec.specs.Shapes.{shape_ok, planned_count};
 ghost use Rattle.spec.specs.Calls.{fits, plan_number, commit_stretch_number};
 ghost use Rattle.refusals.specs.Numbers.{size_number, Answered};
+ghost use Rattle.refusals.specs.Refusal.{number_in, answer_in};
 ghost use Rattle.plan_refusals.specs.Nodes.{Listed};
 ghost use Rattle.refusals.specs.Sizes.{commit_sizes, open_sizes};
 
-use refusals::{CommitLengths, OpenLengths};
-use spec::{Answer, Shape, Stretch};
+use refusals::{CommitLengths, OpenLengths, Refusal};
+use spec::{Shape, Stretch};
 
 // Whether the buffers of commit have their lengths, for a stretch of b bytes.
 fn commit_fits(s: Shape, b: usize, x: CommitLengths) -> bool
@@ -30,15 +31,12 @@ fn commit_fits(s: Shape, b: usize, x: CommitLengths) -> bool
                         & ((x.u == b) & ((x.v == v) & ((x.corrections == corrections) & true)))))))
 }
 
-// The number of commit_stretch: 1, 2, 8, 3, or 0.
-pub fn commit_number(s: Shape, row_bits: usize, z: Stretch, x: CommitLengths) -> usize
-    ensures { result ≡ commit_stretch_number s row_bits z (commit_sizes s z.width x) }
+// The tests of commit_stretch: of the shape, the row length, the stretch, the lengths.
+pub fn test_commit(s: Shape, row_bits: usize, z: Stretch, x: CommitLengths) -> Result<(), Refusal>
+    ensures { number_in result ≡ commit_stretch_number s row_bits z (commit_sizes s z.width x) }
 {
-    let first = refusals::front_number(s, row_bits, z);
-    if first != 0 {
-        return first;
-    }
-    refusals::refusal(commit_fits(s, z.width, x), refusals::BUFFER, 0)
+    refusals::test_front(s, row_bits, z)?;
+    refusals::test(commit_fits(s, z.width, x), Refusal::BufferLength)
 }
 
 // Whether the buffers of open have their lengths.
@@ -54,24 +52,19 @@ fn open_fits(s: Shape, x: OpenLengths) -> bool
         & ((x.tree == tree) & ((x.leaf_commitments == lcs) & ((x.opening == opening) & true)))
 }
 
-// The number of the tests that open begins with: 1, 3, or 0.
-fn open_number(s: Shape, x: OpenLengths) -> usize
-    ensures { result ≡ size_number s (open_sizes s x) }
+// The tests that open begins with: of the shape, the lengths.
+fn test_sizes(s: Shape, x: OpenLengths) -> Result<(), Refusal>
+    ensures { number_in result ≡ size_number s (open_sizes s x) }
 {
-    if !rules::is_shape(s) {
-        return refusals::SHAPE;
-    }
-    refusals::refusal(open_fits(s, x), refusals::BUFFER, 0)
+    refusals::test(rules::is_shape(s), Refusal::NotAShape)?;
+    refusals::test(open_fits(s, x), Refusal::BufferLength)
 }
 
-// The answer of open: 1, 3, 4, 5, or 0, with the count.
-pub fn open_answer(s: Shape, x: OpenLengths, ch: &[u8], nodes: &mut [u32]) -> Answer
+// The tests of open, and the count of revealed nodes: of the shape, the lengths, the challenge.
+pub fn test_open(s: Shape, x: OpenLengths, ch: &[u8], nodes: &mut [u32]) -> Result<usize, Refusal>
     requires { x.challenge ≡ length ch.now }
-    ensures { Answered (plan_number s ch.now (open_sizes s x)) (planned_count s ch.now) result × Listed s ch.now nodes.old nodes.new result }
+    ensures { Answered (plan_number s ch.now (open_sizes s x)) (planned_count s ch.now) (answer_in result) × Listed s ch.now nodes.old nodes.new (answer_in result) }
 {
-    let first = open_number(s, x);
-    if first != 0 {
-        return rules::answer(first, 0);
-    }
-    plan_refusals::challenge_answer(s, ch, nodes)
+    test_sizes(s, x)?;
+    plan_refusals::test_challenge(s, ch, nodes)
 }

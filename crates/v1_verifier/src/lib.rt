@@ -6,8 +6,9 @@ ghost use Rattle.spec.specs.Shapes.{challenge_bytes, hash_bytes, iv_bytes, shape
 ghost use Rattle.spec.specs.Calls.{fits, Reconstructed};
 ghost use Rattle.spec.specs.Version1.{faest1, shape1_ok, leaf_commitment_bytes1, trees1_bytes, leaf_commitments1_bytes, opening1_bytes};
 ghost use Rattle.spec.specs.Version1Calls.{row1_number, reconstructed1, Reconstruct1};
+ghost use Rattle.refusals.specs.Refusal.{number_in};
 
-use refusals::ReconstructLengths;
+use refusals::{ReconstructLengths, Refusal};
 use spec::{Answer, Shape};
 
 // Whether the buffers of reconstruct have their lengths, for rows of b bytes.
@@ -32,16 +33,13 @@ fn reconstruct_fits(s: Shape, b: usize, x: ReconstructLengths) -> bool
                             & ((x.leaf_commitments == lcs) & ((x.q == q) & true)))))))
 }
 
-// The number of reconstruct, by its tests in their order: 1, 2, 3, or 0.
-fn reconstruct_number(s: Shape, row_bits: usize, x: ReconstructLengths) -> usize
-    ensures { result ≡ row1_number s row_bits ((x.iv, iv_bytes) ∷ (x.challenge, challenge_bytes s) ∷ (x.corrections, corrections_bytes s (row_bits / 8)) ∷ (x.opening, opening1_bytes s)
+// The tests of reconstruct: of the shape, the row length, the lengths.
+fn test_reconstruct(s: Shape, row_bits: usize, x: ReconstructLengths) -> Result<(), Refusal>
+    ensures { number_in result ≡ row1_number s row_bits ((x.iv, iv_bytes) ∷ (x.challenge, challenge_bytes s) ∷ (x.corrections, corrections_bytes s (row_bits / 8)) ∷ (x.opening, opening1_bytes s)
         ∷ (x.commitment, hash_bytes s) ∷ (x.tree, trees1_bytes s) ∷ (x.leaf_commitments, leaf_commitments1_bytes s) ∷ (x.q, matrix_bytes s (row_bits / 8)) ∷ []) }
 {
-    let front = v1_rules::front_number(s, row_bits);
-    if front != 0 {
-        return front;
-    }
-    refusals::refusal(reconstruct_fits(s, row_bits / 8, x), refusals::BUFFER, 0)
+    v1_rules::test_front(s, row_bits)?;
+    refusals::test(reconstruct_fits(s, row_bits / 8, x), Refusal::BufferLength)
 }
 
 // Writes what reconstruct writes, for rows of b bytes; hashes is room for the hashes of the vectors. Version 1 does not read keys, which only
@@ -143,21 +141,25 @@ pub fn reconstruct(
         leaf_commitments: leaf_commitments.len(),
         q: q.len(),
     };
-    let number = reconstruct_number(shape, row_bits, x);
-    if number != 0 {
-        return rules::answer(number, 0);
+    match test_reconstruct(shape, row_bits, x) {
+        Ok(()) => {
+            write_reconstruction(
+                shape,
+                row_bits / 8,
+                iv,
+                challenge,
+                corrections,
+                opening,
+                commitment,
+                trees,
+                leaf_commitments,
+                q,
+            );
+            Answer {
+                number: 0,
+                count: 0,
+            }
+        }
+        Err(refusal) => Answer::from(refusal),
     }
-    write_reconstruction(
-        shape,
-        row_bits / 8,
-        iv,
-        challenge,
-        corrections,
-        opening,
-        commitment,
-        trees,
-        leaf_commitments,
-        q,
-    );
-    rules::answer(0, 0)
 }

@@ -6,21 +6,22 @@ use Rattle.laws.proofs.Tests.{failed, passed}
 use Rattle.record.specs.Fields.{field_ok, field_at}
 use Rattle.record.specs.Record.{head_bytes}
 use Rattle.record.proofs.Fields.{field_room}
-use Rattle.record_reading.specs.Front.{front_in}
+use Rattle.record_reading.specs.Front.{number_of, said_number, front_in}
 use Rattle.record_reading.proofs.Fronts.{refused, no-version, no-head, head-long, front_read}
 use Rattle.record_reading.proofs.front_of.Goals as goal
 
 pub returns-then-h-eq0 : goal.returns-then-h-eq0
+unfolding number_of
 returns-then-h-eq0 c =
     let e = c.head_length-h.ensures.0 ∙ ap head_bytes c.version_of-version.ensures in
-    refused _ _ 9 c.unread.ensures (no-version _ (sym e ∙ c.if-h-eq0.true)) (λ z. omega arith)
+    refused _ _ (sym (no-version _ (sym e ∙ c.if-h-eq0.true)))
 
 pub returns-then-not-head_fits : goal.returns-then-not-head_fits
+unfolding number_of
 returns-then-not-head_fits c =
     let e = c.head_length-h.ensures.0 ∙ ap head_bytes c.version_of-version.ensures in
     let some = c.if-h-eq0.false in
-    refused _ _ 10 c.unread-then-not-head_fits.ensures
-    (no-head _ (omega (arith, e, some)) (failed (c.head_fits.ensures ∙ ap (field_ok _ 1) e) c.if-not-head_fits.true)) (λ z. omega arith)
+    refused _ _ (sym (no-head _ (omega (arith, e, some)) (failed (c.head_fits.ensures ∙ ap (field_ok _ 1) e) c.if-not-head_fits.true)))
 
 pub head_of-requires : goal.head_of-requires
 head_of-requires c = field_room _ 1 _ (passed c.head_fits.ensures c.if-not-head_fits.false)
@@ -39,4 +40,6 @@ returns c =
     let e = c.head_length-h.ensures.0 ∙ ap head_bytes v in
     let some = c.if-h-eq0.false in
     let there = passed (c.head_fits.ensures ∙ ap (field_ok _ 1) e) c.if-not-head_fits.false in
-    rw (c.front_in.ensures ∙ ap₂ front_in v (c.head_of.ensures ∙ ap (field_at c.args.bytes.now 1) e)) (front_read _ (omega (arith, e, some)) there)
+    let head = c.head_of.ensures ∙ ap (field_at c.args.bytes.now 1) e in
+    let read = c.front_in.ensures in
+    front_read _ (omega (arith, e, some)) there _ (rw (v, head) at read.number) (rw (v, head) at read.says)
