@@ -2,7 +2,7 @@
 #![tactic(auto)]
 
 ghost use Rattle.std.specs.Prelude.{◌≡◌, true, ◌≤◌, length, take, drop};
-ghost use Rattle.spec.specs.Shapes.{challenge_bytes, opening_bytes, shape_ok, planned_count};
+ghost use Rattle.spec.specs.Shapes.{challenge_bytes, opening_bytes, shape_ok};
 ghost use Rattle.record.specs.Record.{fields_number, end_of};
 ghost use Rattle.record_reading.specs.Front.{FrontOf, SizesOf};
 ghost use Rattle.listing_text.specs.Put.{Put};
@@ -11,16 +11,6 @@ ghost use Rattle.report_text.specs.Text.{entries_text, report_text};
 
 use record_reading::{Front, RecordRefusal, Sizes};
 use report_text::Entry;
-use spec::Shape;
-
-// The count of revealed nodes. The list has room for one node, and is not read.
-fn count_nodes(s: Shape, challenge: &[u8]) -> usize
-    requires { (shape_ok s ≡ true) × (length challenge.now ≡ challenge_bytes s) }
-    ensures { result ≡ planned_count s challenge.now }
-{
-    let mut none = [0u32; 1];
-    planning::revealed_nodes(s, challenge, &mut none)
-}
 
 // The entry of a record that is refused.
 fn refused(number: usize, bytes: usize) -> Entry
@@ -39,22 +29,14 @@ fn opened<'a>(f: Front, challenge: &'a [u8], opening: &'a [u8], bytes: usize) ->
     requires { (shape_ok f.resolved ≡ true) × (length challenge.now ≡ challenge_bytes f.resolved) × (length opening.now ≡ opening_bytes f.resolved) }
     ensures { result ≡ opened_entry f.resolved challenge.now opening.now bytes }
 {
-    let s = f.resolved;
-    if !challenge::grinding_ok(s, challenge) {
-        return refused(4, bytes);
-    }
-    let n = count_nodes(s, challenge);
-    if s.t < n {
-        return refused(5, bytes);
-    }
-    if !slots::slots_clear(s, n, opening) {
-        return refused(6, bytes);
-    }
-    Entry {
-        number: 0,
-        count: n,
-        unused: s.t - n,
-        bytes,
+    match slots::test_opening(f.resolved, challenge, opening) {
+        Ok(n) => Entry {
+            number: 0,
+            count: n,
+            unused: f.resolved.t - n,
+            bytes,
+        },
+        Err(refusal) => refused(refusal.number(), bytes),
     }
 }
 
