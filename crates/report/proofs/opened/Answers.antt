@@ -6,7 +6,7 @@ use Rattle.report.proofs.Answers.{stopped, entry-refused, entry-passed, within}
 use Rattle.report.proofs.opened.Goals as goal
 
 pub overflow_sub-result : goal.overflow_sub-result
-overflow_sub-result c = within c.args.f.resolved _ _ c.in-Ok.n c.in-Ok.ensures
+overflow_sub-result c = (let a = c.args in within a.f.resolved a.challenge.now a.opening.now a.bytes c.in-Ok.n c.in-Ok.ensures)
 
 pub returns-in-Ok : goal.returns-in-Ok
 returns-in-Ok c =
