@@ -16,8 +16,7 @@ fn list_fits(s: Shape, challenge: usize, list: usize, n: usize) -> bool
     requires { shape_ok s ≡ true }
     ensures { result ≡ fits ((challenge, challenge_bytes s) ∷ (list, n) ∷ []) }
 {
-    let node = rules::node_bytes(s);
-    (challenge == node) & ((list == n) & true)
+    (challenge, list) == (rules::node_bytes(s), n)
 }
 
 // The tests that decode and plan begin with, in their order: of the shape, of the lengths.

@@ -110,7 +110,7 @@ fn write_fields(
 }
 
 // The lengths of the fields, and of the buffer that the record is written to.
-#[derive(Clone, Copy)]
+#[derive(Clone, Copy, PartialEq, Eq)]
 struct WriteLengths {
     iv: usize,
     challenge: usize,
@@ -125,16 +125,14 @@ fn write_fits(s: Shape, b: usize, x: WriteLengths) -> bool
     requires { (shape_ok s ≡ true) × (b ≤ 8192) }
     ensures { result ≡ fits (write_sizes s b x) }
 {
-    let challenge = record_fields::challenge_length(s);
-    let corrections = lengths::corrections_bytes(s, b);
-    let opening = lengths::opening_bytes(s);
-    let commitment = rules::hash_bytes(s);
-    let bytes = record_fields::record_length(s, b);
-    (x.iv == 16)
-        & ((x.challenge == challenge)
-            & ((x.corrections == corrections)
-                & ((x.opening == opening)
-                    & ((x.commitment == commitment) & ((x.bytes == bytes) & true)))))
+    x == WriteLengths {
+        iv: 16,
+        challenge: record_fields::challenge_length(s),
+        corrections: lengths::corrections_bytes(s, b),
+        opening: lengths::opening_bytes(s),
+        commitment: rules::hash_bytes(s),
+        bytes: record_fields::record_length(s, b),
+    }
 }
 
 // The tests of a shape and a row length.

@@ -72,7 +72,7 @@ pub fn test(passed: bool, refusal: Refusal) -> Result<(), Refusal>
 }
 
 // The lengths of the buffers of commit, of either version.
-#[derive(Clone, Copy)]
+#[derive(Clone, Copy, PartialEq, Eq)]
 pub struct CommitLengths {
     pub root: usize,
     pub iv: usize,
@@ -85,7 +85,7 @@ pub struct CommitLengths {
 }
 
 // The lengths of the buffers of open, of either version.
-#[derive(Clone, Copy)]
+#[derive(Clone, Copy, PartialEq, Eq)]
 pub struct OpenLengths {
     pub challenge: usize,
     pub tree: usize, // in version 1 the trees
@@ -94,7 +94,7 @@ pub struct OpenLengths {
 }
 
 // The lengths of the buffers of reconstruct, of either version.
-#[derive(Clone, Copy)]
+#[derive(Clone, Copy, PartialEq, Eq)]
 pub struct ReconstructLengths {
     pub iv: usize,
     pub challenge: usize,

@@ -17,18 +17,16 @@ fn commit_fits(s: Shape, b: usize, x: CommitLengths) -> bool
     requires { (shape_ok s ≡ true) × (b ≤ 8192) }
     ensures { result ≡ fits (commit_sizes s b x) }
 {
-    let node = rules::node_bytes(s);
-    let hash = rules::hash_bytes(s);
-    let tree = lengths::tree_bytes(s);
-    let lcs = lengths::leaf_commitments_bytes(s);
-    let v = lengths::matrix_bytes(s, b);
-    let corrections = lengths::corrections_bytes(s, b);
-    (x.root == node)
-        & ((x.iv == 16)
-            & ((x.commitment == hash)
-                & ((x.tree == tree)
-                    & ((x.leaf_commitments == lcs)
-                        & ((x.u == b) & ((x.v == v) & ((x.corrections == corrections) & true)))))))
+    x == CommitLengths {
+        root: rules::node_bytes(s),
+        iv: 16,
+        commitment: rules::hash_bytes(s),
+        tree: lengths::tree_bytes(s),
+        leaf_commitments: lengths::leaf_commitments_bytes(s),
+        u: b,
+        v: lengths::matrix_bytes(s, b),
+        corrections: lengths::corrections_bytes(s, b),
+    }
 }
 
 // The tests of commit_stretch: of the shape, the row length, the stretch, the lengths.
@@ -44,12 +42,12 @@ fn open_fits(s: Shape, x: OpenLengths) -> bool
     requires { shape_ok s ≡ true }
     ensures { result ≡ fits (open_sizes s x) }
 {
-    let node = rules::node_bytes(s);
-    let tree = lengths::tree_bytes(s);
-    let lcs = lengths::leaf_commitments_bytes(s);
-    let opening = lengths::opening_bytes(s);
-    (x.challenge == node)
-        & ((x.tree == tree) & ((x.leaf_commitments == lcs) & ((x.opening == opening) & true)))
+    x == OpenLengths {
+        challenge: rules::node_bytes(s),
+        tree: lengths::tree_bytes(s),
+        leaf_commitments: lengths::leaf_commitments_bytes(s),
+        opening: lengths::opening_bytes(s),
+    }
 }
 
 // The tests that open begins with: of the shape, the lengths.

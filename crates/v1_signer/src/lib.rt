@@ -17,18 +17,16 @@ fn commit_fits(s: Shape, b: usize, x: CommitLengths) -> bool
     ensures { result ≡ fits ((x.root, node_bytes s) ∷ (x.iv, iv_bytes) ∷ (x.commitment, hash_bytes s) ∷ (x.tree, trees1_bytes s) ∷ (x.leaf_commitments, leaf_commitments1_bytes s)
         ∷ (x.u, b) ∷ (x.v, matrix_bytes s b) ∷ (x.corrections, corrections_bytes s b) ∷ []) }
 {
-    let node = rules::node_bytes(s);
-    let hash = rules::hash_bytes(s);
-    let trees = v1_rules::trees_bytes(s);
-    let lcs = v1_rules::leaf_commitments_bytes(s);
-    let v = lengths::matrix_bytes(s, b);
-    let corrections = lengths::corrections_bytes(s, b);
-    (x.root == node)
-        & ((x.iv == 16)
-            & ((x.commitment == hash)
-                & ((x.tree == trees)
-                    & ((x.leaf_commitments == lcs)
-                        & ((x.u == b) & ((x.v == v) & ((x.corrections == corrections) & true)))))))
+    x == CommitLengths {
+        root: rules::node_bytes(s),
+        iv: 16,
+        commitment: rules::hash_bytes(s),
+        tree: v1_rules::trees_bytes(s),
+        leaf_commitments: v1_rules::leaf_commitments_bytes(s),
+        u: b,
+        v: lengths::matrix_bytes(s, b),
+        corrections: lengths::corrections_bytes(s, b),
+    }
 }
 
 // The tests of commit: of the shape, the row length, the lengths.
@@ -163,12 +161,12 @@ fn open_fits(s: Shape, x: OpenLengths) -> bool
     requires { shape_ok s ≡ true }
     ensures { result ≡ fits ((x.challenge, challenge_bytes s) ∷ (x.tree, trees1_bytes s) ∷ (x.leaf_commitments, leaf_commitments1_bytes s) ∷ (x.opening, opening1_bytes s) ∷ []) }
 {
-    let node = rules::node_bytes(s);
-    let trees = v1_rules::trees_bytes(s);
-    let lcs = v1_rules::leaf_commitments_bytes(s);
-    let opening = v1_rules::opening_bytes(s);
-    (x.challenge == node)
-        & ((x.tree == trees) & ((x.leaf_commitments == lcs) & ((x.opening == opening) & true)))
+    x == OpenLengths {
+        challenge: rules::node_bytes(s),
+        tree: v1_rules::trees_bytes(s),
+        leaf_commitments: v1_rules::leaf_commitments_bytes(s),
+        opening: v1_rules::opening_bytes(s),
+    }
 }
 
 // The tests of open: of the shape, the lengths.

@@ -17,20 +17,16 @@ fn reconstruct_fits(s: Shape, b: usize, x: ReconstructLengths) -> bool
     ensures { result ≡ fits ((x.iv, iv_bytes) ∷ (x.challenge, challenge_bytes s) ∷ (x.corrections, corrections_bytes s b) ∷ (x.opening, opening1_bytes s) ∷ (x.commitment, hash_bytes s)
         ∷ (x.tree, trees1_bytes s) ∷ (x.leaf_commitments, leaf_commitments1_bytes s) ∷ (x.q, matrix_bytes s b) ∷ []) }
 {
-    let node = rules::node_bytes(s);
-    let corrections = lengths::corrections_bytes(s, b);
-    let opening = v1_rules::opening_bytes(s);
-    let hash = rules::hash_bytes(s);
-    let trees = v1_rules::trees_bytes(s);
-    let lcs = v1_rules::leaf_commitments_bytes(s);
-    let q = lengths::matrix_bytes(s, b);
-    (x.iv == 16)
-        & ((x.challenge == node)
-            & ((x.corrections == corrections)
-                & ((x.opening == opening)
-                    & ((x.commitment == hash)
-                        & ((x.tree == trees)
-                            & ((x.leaf_commitments == lcs) & ((x.q == q) & true)))))))
+    x == ReconstructLengths {
+        iv: 16,
+        challenge: rules::node_bytes(s),
+        corrections: lengths::corrections_bytes(s, b),
+        opening: v1_rules::opening_bytes(s),
+        commitment: rules::hash_bytes(s),
+        tree: v1_rules::trees_bytes(s),
+        leaf_commitments: v1_rules::leaf_commitments_bytes(s),
+        q: lengths::matrix_bytes(s, b),
+    }
 }
 
 // The tests of reconstruct: of the shape, the row length, the lengths.

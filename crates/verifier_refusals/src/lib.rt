@@ -16,20 +16,16 @@ fn reconstruct_fits(s: Shape, b: usize, x: ReconstructLengths) -> bool
     requires { (shape_ok s ≡ true) × (b ≤ 8192) }
     ensures { result ≡ fits (reconstruct_sizes s b x) }
 {
-    let node = rules::node_bytes(s);
-    let corrections = lengths::corrections_bytes(s, b);
-    let opening = lengths::opening_bytes(s);
-    let hash = rules::hash_bytes(s);
-    let tree = lengths::tree_bytes(s);
-    let lcs = lengths::leaf_commitments_bytes(s);
-    let q = lengths::matrix_bytes(s, b);
-    (x.iv == 16)
-        & ((x.challenge == node)
-            & ((x.corrections == corrections)
-                & ((x.opening == opening)
-                    & ((x.commitment == hash)
-                        & ((x.tree == tree)
-                            & ((x.leaf_commitments == lcs) & ((x.q == q) & true)))))))
+    x == ReconstructLengths {
+        iv: 16,
+        challenge: rules::node_bytes(s),
+        corrections: lengths::corrections_bytes(s, b),
+        opening: lengths::opening_bytes(s),
+        commitment: rules::hash_bytes(s),
+        tree: lengths::tree_bytes(s),
+        leaf_commitments: lengths::leaf_commitments_bytes(s),
+        q: lengths::matrix_bytes(s, b),
+    }
 }
 
 // The tests that reconstruct_stretch begins with, which are those of commit_stretch: of the shape, the row length, the stretch, the lengths.
