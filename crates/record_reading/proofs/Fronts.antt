@@ -11,6 +11,8 @@ use Rattle.record.specs.Record.{version_of, head_bytes, version_ok, head_of, cor
 use Rattle.record.proofs.Fields.{field-length, field_room}
 use Rattle.record.proofs.Reading.{front-shape, front-row, fields-rest}
 use Rattle.std.specs.Prelude.{Result, Ok, Err, IfOk, Some, None}
+use Rattle.record_fields.specs.declared.RecordVersion.{RecordVersion}
+use Rattle.record_fields.specs.Versions.{byte_of}
 use Rattle.record_reading.specs.declared.Front.{Front}
 use Rattle.record_reading.specs.declared.RecordRefusal.{RecordRefusal}
 use Rattle.record_reading.specs.declared.RecordRefusal.TheVariants.{NotAShape, NotARowLength, UnknownVersion, NotARecord, NotANamedSet}
@@ -48,23 +50,24 @@ module _ (rec : List ℕ) where
       unfolding head_number version_ok contents_of said_number
       number = sym (rw (lt-ltb 0 (head_bytes (version_of rec)) known, there) refl)
 
-      says : head_number rec ≡ 0 → FrontOf rec (front_in (version_of rec) (head_of rec))
-      unfolding contents_of
-      says ok =
-          record {
-            read = ok;
-            version = refl;
-            shape = refl;
-            resolved = refl;
-            row = refl;
-            bytes = refl;
-            allowed = front-shape rec ok;
-            few = row-max _ (front-row rec ok);
-          }
+      module _ (v : RecordVersion) (of : byte_of v ≡ version_of rec) where
+        says : head_number rec ≡ 0 → FrontOf rec (front_in v (head_of rec))
+        unfolding contents_of
+        says ok =
+            record {
+              read = ok;
+              version = of;
+              shape = rw of refl;
+              resolved = rw of refl;
+              row = refl;
+              bytes = refl;
+              allowed = rw of (front-shape rec ok);
+              few = row-max _ (front-row rec ok);
+            }
 
-      pub front_read : (r : Result Front RecordRefusal) → number_in r ≡ said_number (version_of rec) (head_of rec) → IfOk r (λ f. f ≡ front_in (version_of rec) (head_of rec)) → ReadFront rec r
-      front_read (Ok f) n e = record { number = n ∙ number; said = rw e (says (sym (n ∙ number))) }
-      front_read (Err x) n e = refused x (n ∙ number)
+        pub front_read : (r : Result Front RecordRefusal) → number_in r ≡ said_number (version_of rec) (head_of rec) → IfOk r (λ f. f ≡ front_in v (head_of rec)) → ReadFront rec r
+        front_read (Ok f) n e = record { number = n ∙ number; said = rw e (says (sym (n ∙ number))) }
+        front_read (Err x) n e = refused x (n ∙ number)
 
 -- ---- the fields of a record with these lengths, where the reader stands
 

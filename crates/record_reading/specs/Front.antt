@@ -3,6 +3,8 @@ use Rattle.std.specs.Prelude.{ℕ, ◌+◌, ◌/◌, ◌≤◌, ◌≡◌, true,
 use Rattle.spec.specs.Shapes.{resolved, shape_ok, challenge_bytes, hash_bytes, opening_bytes, corrections_bytes}
 use Rattle.spec.specs.Calls.{first_refusal, row_ok}
 use Rattle.record.specs.Record.{version_of, head_bytes, shape_in, row_in, contents_of, kind_fits, head_number}
+use Rattle.record_fields.specs.declared.RecordVersion.{RecordVersion}
+use Rattle.record_fields.specs.Versions.{byte_of}
 use Rattle.record_reading.specs.declared.Front.{Front}
 use Rattle.record_reading.specs.declared.RecordRefusal.{RecordRefusal}
 use Rattle.record_reading.specs.declared.RecordRefusal.TheVariants.{NotAShape, NotARowLength, UnknownVersion, NotARecord, NotANamedSet}
@@ -27,9 +29,9 @@ said_number version head =
     first_refusal ((shape_ok (resolved s) && kind_fits version s.kind, 1) ∷ (row_ok (row_in head), 2) ∷ [])
 
 -- what a head of a version says
-abbrev pub front_in : ℕ → List ℕ → Front
+abbrev pub front_in : RecordVersion → List ℕ → Front
 front_in version head =
-    let s = shape_in version head in
+    let s = shape_in (byte_of version) head in
     let n = row_in head in
     record {
       version = version;
@@ -42,7 +44,7 @@ front_in version head =
 -- the front of rec is read, and says f
 pub record FrontOf (rec : List ℕ) (f : Front) : Type 0 where
   pub read : head_number rec ≡ 0
-  pub version : f.version ≡ version_of rec
+  pub version : byte_of f.version ≡ version_of rec
   pub shape : f.shape ≡ (contents_of rec).shape
   pub resolved : f.resolved ≡ resolved (contents_of rec).shape
   pub row : f.row ≡ (contents_of rec).row

@@ -6,8 +6,10 @@ ghost use Rattle.std.specs.Prelude.{◌≡◌, true, ◌&&◌, cond, List, [], �
 ghost use Rattle.spec.specs.Shapes.{shape_ok};
 ghost use Rattle.spec.specs.Calls.{first_refusal, row_ok};
 ghost use Rattle.record.specs.Record.{head_bytes, kind_fits, fields_test, end_of, read_number};
+ghost use Rattle.record_fields.specs.Versions.{byte_of};
 ghost use Rattle.record_reading.specs.Front.{number_of, number_in, said_number, front_in, FrontOf, ReadFront, SizesOf};
 
+use record_fields::RecordVersion;
 use spec::{Answer, Shape};
 
 // Why a record is refused before reconstruct is made on its fields, by the words of document 02; the numbers stand in ../specs/Front.antt.
@@ -51,7 +53,7 @@ impl From<RecordRefusal> for Answer {
 // What the front of a record says: the version, the shape as written and resolved, the row length in bits and in bytes.
 #[derive(Clone, Copy)]
 pub struct Front {
-    pub version: u8,
+    pub version: RecordVersion,
     pub shape: Shape,
     pub resolved: Shape,
     pub row: usize,
@@ -69,8 +71,13 @@ pub struct Sizes {
 }
 
 // The tests of what a head says: of the shape with its kind, of the row length.
-fn test_said(version: u8, kind: usize, resolved: Shape, row: usize) -> Result<(), RecordRefusal>
-    ensures { number_in result ≡ first_refusal ((shape_ok resolved && kind_fits version kind, 1) ∷ (row_ok row, 2) ∷ []) }
+fn test_said(
+    version: RecordVersion,
+    kind: usize,
+    resolved: Shape,
+    row: usize,
+) -> Result<(), RecordRefusal>
+    ensures { number_in result ≡ first_refusal ((shape_ok resolved && kind_fits (byte_of version) kind, 1) ∷ (row_ok row, 2) ∷ []) }
 {
     if !(rules::is_shape(resolved) & record_fields::kind_fits(version, kind)) {
         return Err(RecordRefusal::NotAShape);
@@ -82,9 +89,9 @@ fn test_said(version: u8, kind: usize, resolved: Shape, row: usize) -> Result<()
 }
 
 // What a head of a version says.
-fn front_in(version: u8, head: &[u8]) -> Result<Front, RecordRefusal>
-    requires { (0 < head_bytes version) × (length head.now ≡ head_bytes version) }
-    ensures number { number_in result ≡ said_number version head.now }
+fn front_in(version: RecordVersion, head: &[u8]) -> Result<Front, RecordRefusal>
+    requires { length head.now ≡ head_bytes (byte_of version) }
+    ensures number { number_in result ≡ said_number (byte_of version) head.now }
     ensures says { IfOk result (λ f. f ≡ front_in version head.now) }
 {
     let shape = record_fields::shape_in(version, head);
@@ -104,11 +111,10 @@ fn front_in(version: u8, head: &[u8]) -> Result<Front, RecordRefusal>
 pub fn front_of(bytes: &[u8]) -> Result<Front, RecordRefusal>
     ensures { ReadFront bytes.now result }
 {
-    let version = record_fields::version_of(bytes);
-    let h = record_fields::head_length(version);
-    if h == 0 {
+    let Some(version) = record_fields::version_of(bytes) else {
         return Err(RecordRefusal::UnknownVersion);
-    }
+    };
+    let h = version.head_length();
     if !record_reader::head_fits(bytes, h) {
         return Err(RecordRefusal::NotARecord);
     }
@@ -122,7 +128,7 @@ pub fn sizes_of(f: Front) -> Sizes
 {
     let s = f.resolved;
     Sizes {
-        head: record_fields::head_length(f.version),
+        head: f.version.head_length(),
         challenge: record_fields::challenge_length(s),
         corrections: lengths::corrections_bytes(s, f.row_bytes),
         opening: lengths::opening_bytes(s),

@@ -81,8 +81,8 @@ fn put_front(out: &mut [u8], s: Shape, n: usize) -> usize
 {
     let head = head_of(s, n);
     let version = record_fields::version_for(s);
-    let h = record_fields::head_length(version);
-    put_version(out, version);
+    let h = version.head_length();
+    put_version(out, version.byte());
     put_field(out, 1, &head[..h])
 }
 

@@ -1,14 +1,12 @@
 -- The head says the shape, by the version, and the row length; the number is that of both.
 use mathlib.Core.Path.{refl}
 use Rattle.std.proofs.lemmas.Result.{err_from_is_err_and}
-use Rattle.record.proofs.Bounds.{head-nine}
+use Rattle.record_fields.proofs.Versions.{nine}
 use Rattle.record_reading.specs.Front.{said_number}
 use Rattle.record_reading.proofs.front_in.Goals as goal
 
 pub row_in-row-requires : goal.row_in-row-requires
-row_in-row-requires c =
-    let pre = c.requires in
-    rw pre.1 (head-nine _ pre.0)
+row_in-row-requires c = rw c.requires (nine c.args.version)
 
 pub returns-in_err-test_said : goal.returns-in_err-test_said
 unfolding said_number
