@@ -7,6 +7,7 @@ ghost use Rattle.spec.specs.Calls.{fits, Reconstructed};
 ghost use Rattle.spec.specs.Version1.{faest1, shape1_ok, leaf_commitment_bytes1, trees1_bytes, leaf_commitments1_bytes, opening1_bytes};
 ghost use Rattle.spec.specs.Version1Calls.{row1_number, reconstructed1, Reconstruct1};
 
+use aes::Sbox;
 use refusals::ReconstructLengths;
 use spec::{Answer, Shape};
 
@@ -67,11 +68,11 @@ fn write_all(
         (reconstructed1 faest1 s b iv.now ch.now corrections.now opening.now) }
 {
     let r = rules::rate_bytes(s);
-    let t = aes::table();
+    let sbox = Sbox::new();
     let x = generator::load_iv(iv);
     let g = v1_rules::job_of(s, b, x);
-    verifier_forest::reconstruct_trees(&t, s, ch, x, opening, trees);
-    verifier_vectors::write_vectors(&t, g, keys, ch, trees, opening, lcs, q, hashes);
+    verifier_forest::reconstruct_trees(&sbox, s, ch, x, opening, trees);
+    verifier_vectors::write_vectors(&sbox, g, keys, ch, trees, opening, lcs, q, hashes);
     verifier_vectors::correct_vectors(s, b, ch, corrections, q);
     shake::h1(r, hashes, commitment);
 }
