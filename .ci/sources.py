@@ -2,8 +2,8 @@
 never passed over.
 
 An expression or a statement is a Node: its kind, what it says beside its parts, and its parts. The kinds, with what they say: number (value, type),
-bytes (length), name (path), call (path), array, repeat, struct (name, fields), field (name), index, part, len, lent (mutable), unary and binary (operator),
-cast (type), if, match, block; let (name, mutable, type), set (of a place and a value), while, for (name), return, do, and value, the value of its block.
+bytes (length), name (path), call (path; of a method '.' and its name, and what it is called of is lent to it), array, repeat, struct (name, fields), field (name), index, part, len, lent (mutable), unary and binary (operator),
+cast (type), if, match, block; let (name, mutable, type), set (of a place and a value), while, for (name), return, do, test (name; a closure), and value, the value of its block.
 A type is a name, ('ref', mutable, type), ('slice', type) or ('array', type, length).
 """
 import operator
@@ -51,7 +51,7 @@ KEYWORDS = set('as break const continue else enum extern fn for if impl in let l
 
 def tokens(text):
     text = re.sub(r'//[^\n]*', '', text)
-    return TOKEN.findall(re.sub(r'^ghost use [^;]*;', '', text, flags=re.M))
+    return TOKEN.findall(re.sub(r'^ *ghost use [^;]*;', '', text, flags=re.M))
 
 
 class Reader:
@@ -158,6 +158,8 @@ class Reader:
             return e
         if self.skip('['):
             return self.array()
+        if self.skip('|'):
+            return self.test()
         path = self.path()
         if self.skip('('):
             return Node('call', path, self.list(')', self.expression))
@@ -165,6 +167,15 @@ class Reader:
             fields = self.list('}', self.field)
             return Node('struct', (path[-1], [name for name, _ in fields]), [e for _, e in fields])
         return Node('name', path, [])
+
+    def test(self):
+        """A closure that asks something of a byte: names, numbers and operators alone."""
+        name = self.word()
+        self.next('|')
+        e = self.expression()
+        if any(part.kind not in ('name', 'number', 'unary', 'binary') for part in walk(e)):
+            raise Refused(f'a closure of {self.of} that is not a test')
+        return Node('test', name, [e])
 
     def array(self):
         one = self.expression()
@@ -196,7 +207,7 @@ class Reader:
                 # a call of the kit, which is lent the place that it writes to
                 e = Node('call', ('slice', name), [Node('lent', True, [e]), *self.list(')', self.expression)])
             else:
-                raise Refused(f'a method of {self.of} that is not known: {name}')
+                e = Node('call', ('.', name), [Node('lent', False, [e]), *self.list(')', self.expression)])
         return e
 
     def place(self, e):
@@ -287,10 +298,10 @@ class Reader:
 # ---- a program
 
 class Program:
-    """The functions, structs, enums without fields and constants of some crates, of which the texts are given, and what each crate makes public."""
+    """The functions, methods, structs, enums without fields and constants of some crates, of which the texts are given, and what each crate makes public."""
 
     def __init__(self, texts):
-        self.functions, self.structs, self.enums, self.consts = {}, {}, {}, {}
+        self.functions, self.structs, self.enums, self.consts, self.methods = {}, {}, {}, {}, {}
         self.names = {crate: {} for crate in texts}
         self.public = {crate: [] for crate in texts}
         for crate, text in texts.items():
@@ -306,7 +317,7 @@ class Program:
                 return
         public = r.skip('pub')
         word = r.next()
-        kinds = {'use': self.use, 'const': self.const, 'struct': self.struct, 'enum': self.enum, 'fn': self.function}
+        kinds = {'use': self.use, 'const': self.const, 'struct': self.struct, 'enum': self.enum, 'fn': self.function, 'impl': self.impl}
         if word not in kinds:
             raise Refused(f'an item of {crate} that cannot be read: {word} {r.peek()}')
         name = kinds[word](crate, r)
@@ -314,9 +325,13 @@ class Program:
             self.public[crate] += name if word == 'use' else [name]
 
     def use(self, crate, r):
-        """A name of another crate, or several: `use a::b;`, `use a::{b, c};`."""
+        """A name of another crate, or several: `use a::b;`, `use a::{b, c};`. Of std's traits the one that says what a contract sees."""
         of = r.word()
         r.next('::')
+        if of == 'std' and r.skip('marker'):
+            for t in ('::', 'Model', ';'):
+                r.next(t)
+            return []
         names = r.list('}', r.word) if r.skip('{') else [r.word()]
         if r.peek() != ';':
             raise Refused(f'a use of {crate} that cannot be read: {of}::{names[-1]} {r.peek()}')
@@ -336,10 +351,42 @@ class Program:
     def struct(self, crate, r):
         name = r.word()
         r.next('{')
-        fields = dict(r.list('}', lambda: (r.skip('pub'), r.word(), r.next(':'), r.type())[1::2]))
+        fields = dict(filter(None, r.list('}', lambda: self.struct_field(r))))
         if self.structs.setdefault(name, fields) is not fields:
             raise Refused('two structs of one name: ' + name)
         return crate + '::' + name
+
+    def struct_field(self, r):
+        """A field's name and type; None for a ghost field, which is a fact and no value."""
+        r.skip('pub')
+        ghost = r.skip('ghost')
+        name = r.word()
+        r.next(':')
+        return r.skip_group() if ghost else (name, r.type())
+
+    def impl(self, crate, r):
+        """The functions of a struct, or what a contract sees of it."""
+        owner = r.word()
+        model = r.skip('for')
+        if model:
+            if owner != 'Model':
+                raise Refused(f'an item of {crate} that cannot be read: impl {owner}')
+            owner = r.word()
+        r.next('{')
+        while not r.skip('}'):
+            if model:
+                r.next('ghost')
+                r.word()
+                r.next('=')
+                r.skip_group()
+                r.next(';')
+                continue
+            public = r.skip('pub')
+            r.next('fn')
+            name = self.function(crate, r, owner)
+            if public:
+                self.public[crate].append(name)
+        return owner
 
     def enum(self, crate, r):
         name = r.word()
@@ -347,11 +394,14 @@ class Program:
         self.enums[name] = r.list('}', r.word)
         return crate + '::' + name
 
-    def function(self, crate, r):
-        r.of = crate + '::' + r.word()
+    def function(self, crate, r, owner=None):
+        called = r.word()
+        r.of = '::'.join([crate, *[owner] * bool(owner), called])
         r.next('(')
-        params = dict(r.list(')', lambda: (r.skip('mut'), r.word(), r.next(':'), r.type())[1::2]))
-        result = r.type() if r.skip('->') else None
+        params = dict(r.list(')', lambda: self.param(r, owner)))
+        result = of_owner(r.type(), owner) if r.skip('->') else None
+        if 'self' in params and self.methods.setdefault(called, r.of) != r.of:
+            raise Refused('two methods of one name: ' + called)
         while r.peek() in ('requires', 'ensures'):
             r.next()
             if r.peek() != '{':
@@ -362,18 +412,46 @@ class Program:
         r.of = crate
         return name
 
+    def param(self, r, owner):
+        """A parameter's name and type. In a struct's function the first may be the struct."""
+        lent = owner and r.skip('&')
+        mutable = r.skip('mut')
+        name = r.word()
+        if owner and name == 'self':
+            return name, ('ref', mutable, owner) if lent else owner
+        if lent:
+            raise Refused(f'a form of {r.of} that cannot be read: & {name}')
+        r.next(':')
+        return name, of_owner(r.type(), owner)
+
     def find(self, crate, path):
-        """The full name of the function or the constant that a crate calls by this path."""
-        full = '::'.join(path) if len(path) > 1 else crate + '::' + path[0]
-        while full not in self.functions and full not in self.consts:
+        """The full name of the function or the constant that a crate calls by this path; a method that is not there keeps its dot."""
+        if path[0] == '.':
+            return self.methods.get(path[1], '.' + path[1])
+        if len(path) == 2 and path[0] not in self.names and path[0][0].isupper():
+            # a function of a struct, by the struct's name here
+            struct = self.found(crate + '::' + path[0])
+            return struct + '::' + path[1]
+        return self.found('::'.join(path) if len(path) > 1 else crate + '::' + path[0])
+
+    def found(self, full):
+        """A name, or what stands for it where a crate has it from another."""
+        seen = set()
+        while full not in seen:
+            seen.add(full)
             owner, name = full.rsplit('::', 1)
-            if name not in self.names.get(owner, {}):
-                break
-            full = self.names[owner][name]
+            full = self.names.get(owner, {}).get(name, full)
         return full
 
 
 # ---- types
+
+def of_owner(t, owner):
+    """A type, with the struct's name for `Self`."""
+    if isinstance(t, tuple):
+        return tuple(of_owner(part, owner) for part in t)
+    return owner if t == 'Self' and owner else t
+
 
 PLACES = ('lent', 'index', 'part', 'field', 'unary')
 COMPARED = ('==', '!=', '<', '>', '<=', '>=')
@@ -405,8 +483,8 @@ class Types:
     def __init__(self, p, f):
         self.p, self.f, self.names, self.values = p, f, dict(f.params), {}
         for e in walk(f.body):
-            if e.kind == 'for':
-                self.declare(e.info, 'usize')
+            if e.kind in ('for', 'test'):
+                self.declare(e.info, 'usize' if e.kind == 'for' else 'u8')
         lets = [e for e in walk(f.body) if e.kind == 'let']
         every = [*self.names, *(e.info[0] for e in lets)]
         for e in lets:
@@ -453,9 +531,11 @@ class Types:
             return self.of_name(info)
         if kind == 'call':
             f = self.p.functions.get(self.p.find(self.f.crate, info))
+            if f and info[0] == '.' and self.lent(parts[0].parts[0]) != f.name.split('::')[-2]:
+                self.unknown('method', info[1])
             return f and f.result
         if kind == 'field':
-            fields = self.p.structs.get(self.of(parts[0]), {})
+            fields = self.p.structs.get(self.lent(parts[0]), {})
             return fields[info] if info in fields else self.unknown('field', info)
         if kind in ('array', 'repeat'):
             count = len(parts) if kind == 'array' else self.value(parts[1])

@@ -8,6 +8,7 @@ ghost use Rattle.spec.specs.Version1.{faest1, shape1_ok, leaf_commitment_bytes1,
 ghost use Rattle.spec.specs.Version1Calls.{row1_number, open1_number, committed1, Commit1, Open1};
 ghost use Rattle.refusals.specs.Refusal.{number_in};
 
+use aes::Sbox;
 use refusals::{CommitLengths, OpenLengths, Refusal};
 use spec::{Answer, Shape};
 
@@ -60,11 +61,11 @@ fn write_all(
         (committed1 faest1 s b root.now iv.now) }
 {
     let r = rules::rate_bytes(s);
-    let t = aes::table();
+    let sbox = Sbox::new();
     let x = generator::load_iv(iv);
     let g = v1_rules::job_of(s, b, x);
-    signer_forest::grow_trees(&t, s, root, x, trees);
-    signer_vectors::write_vectors(&t, g, keys, trees, lcs, u, v, corrections, hashes);
+    signer_forest::grow_trees(&sbox, s, root, x, trees);
+    signer_vectors::write_vectors(&sbox, g, keys, trees, lcs, u, v, corrections, hashes);
     shake::h1(r, hashes, commitment);
 }
 

@@ -8,6 +8,7 @@ ghost use Rattle.spec.specs.Version1.{faest1, shape1_ok, leaf_commitment_bytes1,
 ghost use Rattle.spec.specs.Version1Calls.{row1_number, reconstructed1, Reconstruct1};
 ghost use Rattle.refusals.specs.Refusal.{number_in};
 
+use aes::Sbox;
 use refusals::{ReconstructLengths, Refusal};
 use spec::{Answer, Shape};
 
@@ -61,11 +62,11 @@ fn write_all(
         (reconstructed1 faest1 s b iv.now ch.now corrections.now opening.now) }
 {
     let r = rules::rate_bytes(s);
-    let t = aes::table();
+    let sbox = Sbox::new();
     let x = generator::load_iv(iv);
     let g = v1_rules::job_of(s, b, x);
-    verifier_forest::reconstruct_trees(&t, s, ch, x, opening, trees);
-    verifier_vectors::write_vectors(&t, g, keys, ch, trees, opening, lcs, q, hashes);
+    verifier_forest::reconstruct_trees(&sbox, s, ch, x, opening, trees);
+    verifier_vectors::write_vectors(&sbox, g, keys, ch, trees, opening, lcs, q, hashes);
     verifier_vectors::correct_vectors(s, b, ch, corrections, q);
     shake::h1(r, hashes, commitment);
 }
