@@ -57,8 +57,10 @@ def tokens(text):
 class Reader:
     """Reads what begins at token i; `of` is the crate or the function that it belongs to, for messages."""
 
-    def __init__(self, ts, of):
-        self.ts, self.i, self.of = ts, 0, of
+    def __init__(self, ts, of, most=0):
+        self.ts, self.i, self.of, self.most = ts, 0, of, most
+        # of the function that is read: the trait of each type parameter, and what each const parameter is measured as
+        self.bounds, self.numbers = {}, {}
 
     def peek(self):
         return self.ts[self.i] if self.i < len(self.ts) else ''
@@ -101,10 +103,38 @@ class Reader:
         return t
 
     def path(self):
+        """A path without the arguments behind `::<`. What is named by a type parameter is its trait's."""
         found = [self.word()]
+        found[0] = self.bounds.get(found[0], found[0])
         while self.skip('::'):
+            if self.arguments():
+                break
             found.append(self.word())
         return tuple(found)
+
+    def arguments(self):
+        """Passes over arguments between < and >, if they come next."""
+        if not self.skip('<'):
+            return False
+        self.list('>', self.next)
+        return True
+
+    def parameters(self):
+        """Type parameters, each with one trait for its bound, and const parameters. These are measured as the largest number that an impl or a call gives one;
+        where a call gives none, it is the length of an array that the caller has, which is measured there."""
+        self.bounds, self.numbers = {}, {}
+        while self.skip('<') or self.skip(','):
+            if self.skip('const'):
+                self.numbers[self.word()] = self.most
+                self.next(':')
+                self.next('usize')
+            else:
+                name = self.word()
+                self.next(':')
+                self.bounds[name] = self.word()
+                self.arguments()
+        if (self.bounds or self.numbers) and self.next('>') and self.numbers and not self.most:
+            raise Refused(f'a const parameter of {self.of} that cannot be measured')
 
     def type(self):
         if self.skip('&'):
@@ -119,6 +149,7 @@ class Reader:
         self.next(';')
         count = self.next()
         self.next(']')
+        count = str(self.numbers.get(count, count))
         if not count.isdigit():
             raise Refused(f'an array type of {self.of} that cannot be measured: {count}')
         return ('array', inner, int(count))
@@ -271,12 +302,21 @@ class Reader:
         return Node('while', None, [self.expression(structs=False), self.block()])
 
     def counted(self):
+        """A loop over a..b, or over (a..b).rev()."""
         name = self.word()
         self.next('in')
+        start = self.i
+        down = self.skip('(')
         low = self.expression(structs=False)
+        if down and self.peek() != '..':
+            self.i, down = start, False
+            low = self.expression(structs=False)
         if not self.skip('..='):
             self.next('..')
-        return Node('for', name, [low, self.expression(structs=False), self.block()])
+        high = self.expression(structs=False)
+        for t in (')', '.', 'rev', '(', ')') if down else ():
+            self.next(t)
+        return Node('for', name, [low, high, self.block()])
 
     def returned(self):
         found = [] if self.peek() == ';' else [self.expression()]
@@ -293,8 +333,9 @@ class Program:
         self.functions, self.structs, self.enums, self.consts = {}, {}, {}, {}
         self.names = {crate: {} for crate in texts}
         self.public = {crate: [] for crate in texts}
+        given = [n for text in texts.values() for n in re.findall(r'(?:^impl \w+|::)<[^<>()\n]*?\b(\d+)>', text, re.M)]
         for crate, text in texts.items():
-            r = Reader(tokens(text), crate)
+            r = Reader(tokens(text), crate, max(map(int, given), default=0))
             while r.peek():
                 self.item(crate, r)
 
@@ -306,7 +347,8 @@ class Program:
                 return
         public = r.skip('pub')
         word = r.next()
-        kinds = {'use': self.use, 'const': self.const, 'struct': self.struct, 'enum': self.enum, 'fn': self.function}
+        kinds = {'use': self.use, 'const': self.const, 'struct': self.struct, 'enum': self.enum, 'fn': self.function, 'trait': self.trait,
+                 'impl': self.impl}
         if word not in kinds:
             raise Refused(f'an item of {crate} that cannot be read: {word} {r.peek()}')
         name = kinds[word](crate, r)
@@ -335,6 +377,8 @@ class Program:
 
     def struct(self, crate, r):
         name = r.word()
+        if r.skip(';'):
+            return crate + '::' + name
         r.next('{')
         fields = dict(r.list('}', lambda: (r.skip('pub'), r.word(), r.next(':'), r.type())[1::2]))
         if self.structs.setdefault(name, fields) is not fields:
@@ -347,8 +391,56 @@ class Program:
         self.enums[name] = r.list('}', r.word)
         return crate + '::' + name
 
-    def function(self, crate, r):
-        r.of = crate + '::' + r.word()
+    def trait(self, crate, r):
+        """Ghost members, and functions without a body: their code is in the impls."""
+        name = r.of = r.word()
+        r.parameters()
+        r.next('{')
+        while not r.skip('}'):
+            if self.ghost(r):
+                continue
+            r.next('fn')
+            self.head(r, name + '::' + r.word())
+            r.next(';')
+        r.of = crate
+        return crate + '::' + name
+
+    def impl(self, crate, r):
+        """The functions of a trait for a type without fields. A call of one by a bound is of any of its impls."""
+        trait = r.word()
+        r.arguments()
+        r.next('for')
+        r.word()
+        r.next('{')
+        while not r.skip('}'):
+            if self.ghost(r):
+                continue
+            r.next('fn')
+            name = trait + '::' + r.word()
+            params, result = self.head(r, name)
+            body = r.block()
+            other = self.functions.get(name)
+            if other and (other.crate, other.params, other.result) != (crate, params, result):
+                raise Refused('two functions of one name: ' + name)
+            if other:
+                one_of = Node('match', None, [Node('number', (0, 'u8'), []), other.body, body])
+                body = Node('block', None, [Node('value', None, [one_of])])
+            self.functions[name] = Function(crate, name, params, result, body)
+        r.of = crate
+
+    def ghost(self, r):
+        """Passes over a ghost member, if it comes next."""
+        if not r.skip('ghost'):
+            return False
+        while not r.skip(';'):
+            r.skip_group() if r.peek() == '{' else r.next()
+        return True
+
+    def head(self, r, name):
+        """The parameters and the result behind a function's name."""
+        r.of = name
+        r.parameters()
+        self.consts.update({name.split('::')[0] + '::' + n: ('usize', Node('number', (most, 'usize'), [])) for n, most in r.numbers.items()})
         r.next('(')
         params = dict(r.list(')', lambda: (r.skip('mut'), r.word(), r.next(':'), r.type())[1::2]))
         result = r.type() if r.skip('->') else None
@@ -357,9 +449,13 @@ class Program:
             if r.peek() != '{':
                 r.word()
             r.skip_group()
-        name = r.of
+        return params, result
+
+    def function(self, crate, r):
+        name = crate + '::' + r.word()
+        params, result = self.head(r, name)
         self.functions[name] = Function(crate, name, params, result, r.block())
-        r.of = crate
+        r.of, r.bounds, r.numbers = crate, {}, {}
         return name
 
     def find(self, crate, path):
