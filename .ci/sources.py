@@ -302,7 +302,7 @@ class Reader:
         return Node('while', None, [self.expression(structs=False), self.block()])
 
     def counted(self):
-        """A loop over a..b, or over (a..b).rev()."""
+        """A loop over a..b, over (a..b).rev(), or over the elements of &a, which is read as a loop over their places."""
         name = self.word()
         self.next('in')
         start = self.i
@@ -311,6 +311,10 @@ class Reader:
         if down and self.peek() != '..':
             self.i, down = start, False
             low = self.expression(structs=False)
+        if low.kind == 'lent' and self.peek() == '{':
+            body, place = self.block(), 'place of ' + name
+            body.parts.insert(0, Node('let', (name, False, None), [Node('index', None, [low.parts[0], Node('name', (place,), [])])]))
+            return Node('for', place, [Node('number', (0, None), []), Node('len', None, low.parts), body])
         if not self.skip('..='):
             self.next('..')
         high = self.expression(structs=False)
