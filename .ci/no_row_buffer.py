@@ -34,9 +34,11 @@ NO_ROWS = {'tree': 'nodes', 'leaf': 'seeds and leaf commitments', 'signer_forest
 # the function that makes the seeds of leaves, and the parameter to which it writes them
 SEEDS = 'leaf::commit_leaf', 'seed'
 GENERATOR, CIPHER, SUB_BYTES = 'generator', 'aes', 'aes_steps::sub_bytes'
+# the crates of the tests that calls begin with. They are not read: none reaches the generator, and what they are given has no byte of a row in it
+TESTS = ('refusals', 'plan_refusals', 'signer_refusals', 'verifier_refusals', 'slots')
 
 # the kit's functions that are called: the number of the argument to which they write the bytes of the others, or None where they return them
-KIT = {'slice::copy_from_slice': 0, '.fill': 0, '.wrapping_add': None, '.min': None, '.iter': None, '.all': None}
+KIT = {'spec::Answer::from': None, '.max': None, 'slice::copy_from_slice': 0, '.fill': 0, '.wrapping_add': None, '.min': None, '.iter': None, '.all': None}
 # those of them that go by what the bytes are
 DECIDED = ('.all',)
 
@@ -53,10 +55,8 @@ TABLE = {
     '[u8; 128]': ('a leaf stretched: its seed, and what the leaf hash is xored to; in version 1 a leaf hashed: its seed and its commitment', 'leaf'),
     '[u8; 48]': ('what version 1 hashes of a leaf: its key and the IV', 'leaf'),
     '[u8; 32]': ('a seed', 'vector'),
-    '[[u64; 12]; 16]': ('the multiples of a hash key', 'field_384 field_576 field_768 leaf_hash leaf signer_vectors verifier_vector'),
-    '[u64; 6]': ('an element of the field of the leaf hash, of 384 bits', 'field_384'),
-    '[u64; 9]': ('of 576 bits', 'field_576'),
-    '[u64; 12]': ('of 768 bits, or one of the multiples', 'field_384 field_576 field_768'),
+    '[[u64; 12]; 16]': ('the multiples of a hash key', 'field leaf_hash leaf signer_vectors verifier_vector'),
+    '[u64; 12]': ('an element of a field of the leaf hash, of 384, 576 or 768 bits, or one of the multiples', 'field'),
     '[u64; 25]': ('the lanes of a sponge', 'keccak shake verifier_vector'),
     '[u64; 24]': ('the round constants of Keccak', 'keccak'),
     '[u64; 5]': ('the parities of Keccak\'s columns, or a plane of its state', 'keccak'),
@@ -160,12 +160,24 @@ class Frame:
         if full in KIT:
             every = self.decided(e, e.parts) if full in DECIDED else self.union(e)
             return every if KIT[full] is None else self.mark(e.parts[KIT[full]], every) or 0
+        if full.split('::')[0] in TESTS:
+            return self.tested(e, full)
         callee = self.p.functions[full]
         made = self.callees[id(e)] = self.test.run(callee, tuple(self.given(callee, given)))
         for part, t, out in zip(e.parts, callee.params.values(), made.outs):
             if is_a(t, 'ref') and t[1]:
                 self.mark(part, out)
         return made.result
+
+    def tested(self, e, full):
+        """A call of the tests of a call: bytes of rows are none of what it is given, and so none of what it writes and answers."""
+        every = self.union(e)
+        if every & ROWS:
+            self.test.fault(f'{full} is given bytes of rows by {self.f.name}')
+        for part in e.parts:
+            if part.kind == 'lent' and part.info:
+                self.mark(part.parts[0], every)
+        return every
 
     def given(self, callee, labels):
         """What the arguments of a call bring: who asks for blocks may ask for a row's, and so does who gives a seed for a key; what AES is given to encrypt
@@ -303,7 +315,7 @@ class Test:
                     self.reached[name] |= self.reach(full)
                 elif full and full[0] == '.' and full not in KIT:
                     raise Refused(f'a method of {name} that is not known: {full[1:]}')
-                elif full and full not in KIT:
+                elif full and full not in KIT and full.split('::')[0] not in TESTS:
                     raise Refused(f'a call of {name} that is not found: {full}')
         return self.reached[name]
 
@@ -352,12 +364,18 @@ def check(texts):
 
 def sources():
     needs = crate_lines((TOP / 'crates.txt').read_text(encoding='utf-8'))
+    if GENERATOR in closure(needs, TESTS):
+        raise Refused('the tests of the calls reach the generator')
     texts = {}
     for name in sorted(closure(needs, HALVES)):
         files = list((TOP / 'crates' / name / 'src').glob('*.rt'))
         if [f.name for f in files] != ['lib.rt']:
             raise Refused(f'crate {name} has other files than lib.rt')
         texts[name] = files[0].read_text(encoding='utf-8')
+        if name in TESTS:
+            # nothing that could hold a row: no array but an empty one
+            if re.search(r';\s*\w+\s*\]', re.sub(r'//[^\n]*', '', texts.pop(name))):
+                raise Refused(f'{name} has an array')
     return texts
 
 

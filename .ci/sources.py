@@ -4,7 +4,7 @@ never passed over.
 An expression or a statement is a Node: its kind, what it says beside its parts, and its parts. The kinds, with what they say: number (value, type),
 bytes (length), name (path), call (path; of a method '.' and its name, and what it is called of is lent to it), array, repeat, struct (name, fields), field (name), index, part, len, lent (mutable), unary and binary (operator),
 cast (type), if, match, block; let (name, mutable, type), set (of a place and a value), while, for (name), return, do, test (name; a closure), and value, the value of its block.
-A type is a name, ('ref', mutable, type), ('slice', type) or ('array', type, length).
+A type is a name, without its arguments, ('ref', mutable, type), ('slice', type) or ('array', type, length); try is an expression with ? behind it.
 """
 import operator
 import re
@@ -57,8 +57,10 @@ def tokens(text):
 class Reader:
     """Reads what begins at token i; `of` is the crate or the function that it belongs to, for messages."""
 
-    def __init__(self, ts, of):
-        self.ts, self.i, self.of = ts, 0, of
+    def __init__(self, ts, of, most=0):
+        self.ts, self.i, self.of, self.most = ts, 0, of, most
+        # of the function that is read: the trait of each type parameter, and what each const parameter is measured as
+        self.bounds, self.numbers = {}, {}
 
     def peek(self):
         return self.ts[self.i] if self.i < len(self.ts) else ''
@@ -101,10 +103,45 @@ class Reader:
         return t
 
     def path(self):
+        """A path without the arguments behind `::<`. What is named by a type parameter is its trait's."""
         found = [self.word()]
+        found[0] = self.bounds.get(found[0], found[0])
         while self.skip('::'):
+            if self.arguments():
+                break
             found.append(self.word())
         return tuple(found)
+
+    def arguments(self):
+        """Passes over arguments between < and >, if they come next."""
+        if not self.skip('<'):
+            return False
+        self.list('>', self.next)
+        return True
+
+    def skip_arguments(self):
+        """Passes over the arguments of a type, whatever they are."""
+        depth = 0
+        while depth or self.peek() == '<':
+            t = self.next()
+            depth += (t == '<') - (t == '>')
+
+    def parameters(self):
+        """Type parameters, each with one trait for its bound, and const parameters. These are measured as the largest number that an impl or a call gives one;
+        where a call gives none, it is the length of an array that the caller has, which is measured there."""
+        self.bounds, self.numbers = {}, {}
+        while self.skip('<') or self.skip(','):
+            if self.skip('const'):
+                self.numbers[self.word()] = self.most
+                self.next(':')
+                self.next('usize')
+            else:
+                name = self.word()
+                self.next(':')
+                self.bounds[name] = self.word()
+                self.arguments()
+        if (self.bounds or self.numbers) and self.next('>') and self.numbers and not self.most:
+            raise Refused(f'a const parameter of {self.of} that cannot be measured')
 
     def type(self):
         if self.skip('&'):
@@ -112,13 +149,16 @@ class Reader:
                 self.next()
             return ('ref', self.skip('mut'), self.type())
         if not self.skip('['):
-            return self.path()[-1]
+            name = self.path()[-1]
+            self.skip_arguments()
+            return name
         inner = self.type()
         if self.skip(']'):
             return ('slice', inner)
         self.next(';')
         count = self.next()
         self.next(']')
+        count = str(self.numbers.get(count, count))
         if not count.isdigit():
             raise Refused(f'an array type of {self.of} that cannot be measured: {count}')
         return ('array', inner, int(count))
@@ -193,9 +233,10 @@ class Reader:
 
     def behind(self, e):
         """Indices, parts, fields and lengths behind an expression."""
-        while self.peek() in ('[', '.'):
-            if self.next() == '[':
-                e = self.place(e)
+        while self.peek() in ('[', '.', '?'):
+            behind = self.next()
+            if behind != '.':
+                e = self.place(e) if behind == '[' else Node('try', None, [e])
                 continue
             name = self.next()
             if not self.skip('('):
@@ -226,18 +267,24 @@ class Reader:
         return Node('if', None, found)
 
     def match(self):
-        """A match on an enum without fields, or on a number: a pattern binds no name."""
+        """A match on an enum without fields or on a number, whose patterns bind no name, or on a result, of which they bind the count or the refusal."""
         self.next('match')
-        found = [self.expression(structs=False)]
+        of = self.expression(structs=False)
+        found = [of]
         self.next('{')
         while not self.skip('}'):
             start = self.i
             while not self.skip('=>'):
                 self.next()
             pattern = ' '.join(self.ts[start:self.i - 1])
-            if not re.fullmatch(r'(\w+( :: \w+)+|\d\w*|_)( \| (\w+( :: \w+)+|\d\w*))*', pattern):
+            result = re.fullmatch(r'(Ok|Err) \( (\( \)|\w+) \)', pattern)
+            if not result and not re.fullmatch(r'(\w+( :: \w+)+|\d\w*|_)( \| (\w+( :: \w+)+|\d\w*))*', pattern):
                 raise Refused(f'a pattern of {self.of} that cannot be read: {pattern}')
-            found.append(self.expression())
+            arm = self.expression()
+            if result and result[2] != '( )':
+                bound = Node('let', (result[2], False, 'usize' if result[1] == 'Ok' else 'Refusal'), [of])
+                arm = Node('block', None, [bound, Node('value', None, [arm])])
+            found.append(arm)
             self.skip(',')
         return Node('match', None, found)
 
@@ -282,17 +329,51 @@ class Reader:
         return Node('while', None, [self.expression(structs=False), self.block()])
 
     def counted(self):
+        """A loop over a..b, over (a..b).rev(), or over the elements of &a or of a.iter_mut().enumerate(), which is read as a loop over their places."""
+        if self.skip('('):
+            return self.enumerated()
         name = self.word()
         self.next('in')
+        start = self.i
+        down = self.skip('(')
         low = self.expression(structs=False)
+        if down and self.peek() != '..':
+            self.i, down = start, False
+            low = self.expression(structs=False)
+        if low.kind == 'lent' and self.peek() == '{':
+            body, place = self.block(), 'place of ' + name
+            body.parts.insert(0, Node('let', (name, False, None), [Node('index', None, [low.parts[0], Node('name', (place,), [])])]))
+            return Node('for', place, [Node('number', (0, None), []), Node('len', None, low.parts), body])
         if not self.skip('..='):
             self.next('..')
-        return Node('for', name, [low, self.expression(structs=False), self.block()])
+        high = self.expression(structs=False)
+        for t in (')', '.', 'rev', '(', ')') if down else ():
+            self.next(t)
+        return Node('for', name, [low, high, self.block()])
+
+    def enumerated(self):
+        """A loop over the places of a lent list and its elements, which are written through their names."""
+        at = self.word()
+        self.next(',')
+        name = self.word()
+        for t in (')', 'in'):
+            self.next(t)
+        of = Node('name', (self.word(),), [])
+        for t in ('.', 'iter_mut', '(', ')', '.', 'enumerate', '(', ')'):
+            self.next(t)
+        element = Node('index', None, [of, Node('name', (at,), [])])
+        body = with_place(self.block(), Node('unary', '*', [Node('name', (name,), [])]), element)
+        return Node('for', at, [Node('number', (0, None), []), Node('len', None, [of]), body])
 
     def returned(self):
         found = [] if self.peek() == ';' else [self.expression()]
         self.next(';')
         return Node('return', None, found)
+
+
+def with_place(e, old, new):
+    """An expression or a statement with one part in the place of another."""
+    return new if e == old else Node(e.kind, e.info, [with_place(part, old, new) for part in e.parts])
 
 
 # ---- a program
@@ -304,8 +385,9 @@ class Program:
         self.functions, self.structs, self.enums, self.consts, self.methods = {}, {}, {}, {}, {}
         self.names = {crate: {} for crate in texts}
         self.public = {crate: [] for crate in texts}
+        given = [n for text in texts.values() for n in re.findall(r'(?:^impl \w+|::)<[^<>()\n]*?\b(\d+)>', text, re.M)]
         for crate, text in texts.items():
-            r = Reader(tokens(text), crate)
+            r = Reader(tokens(text), crate, max(map(int, given), default=0))
             while r.peek():
                 self.item(crate, r)
 
@@ -317,7 +399,8 @@ class Program:
                 return
         public = r.skip('pub')
         word = r.next()
-        kinds = {'use': self.use, 'const': self.const, 'struct': self.struct, 'enum': self.enum, 'fn': self.function, 'impl': self.impl}
+        kinds = {'use': self.use, 'const': self.const, 'struct': self.struct, 'enum': self.enum, 'fn': self.function, 'trait': self.trait,
+                 'impl': self.impl}
         if word not in kinds:
             raise Refused(f'an item of {crate} that cannot be read: {word} {r.peek()}')
         name = kinds[word](crate, r)
@@ -350,6 +433,8 @@ class Program:
 
     def struct(self, crate, r):
         name = r.word()
+        if r.skip(';'):
+            return crate + '::' + name
         r.next('{')
         fields = dict(filter(None, r.list('}', lambda: self.struct_field(r))))
         if self.structs.setdefault(name, fields) is not fields:
@@ -365,27 +450,27 @@ class Program:
         return r.skip_group() if ghost else (name, r.type())
 
     def impl(self, crate, r):
-        """The functions of a struct, or what a contract sees of it."""
+        """The functions of a struct, what a contract sees of it, or the functions of a trait for a type."""
         owner = r.word()
-        model = r.skip('for')
-        if model:
-            if owner != 'Model':
-                raise Refused(f'an item of {crate} that cannot be read: impl {owner}')
-            owner = r.word()
+        r.arguments()
+        if r.skip('for'):
+            return self.model(crate, r) if owner == 'Model' else self.of_trait(crate, r, owner)
         r.next('{')
         while not r.skip('}'):
-            if model:
-                r.next('ghost')
-                r.word()
-                r.next('=')
-                r.skip_group()
-                r.next(';')
-                continue
             public = r.skip('pub')
             r.next('fn')
             name = self.function(crate, r, owner)
             if public:
                 self.public[crate].append(name)
+        return owner
+
+    def model(self, crate, r):
+        """What a contract sees of a struct: ghost members alone."""
+        owner = r.word()
+        r.next('{')
+        while not r.skip('}'):
+            if not self.ghost(r):
+                raise Refused(f'an item of {crate} that cannot be read: impl Model for {owner}')
         return owner
 
     def enum(self, crate, r):
@@ -394,22 +479,70 @@ class Program:
         self.enums[name] = r.list('}', r.word)
         return crate + '::' + name
 
-    def function(self, crate, r, owner=None):
-        called = r.word()
-        r.of = '::'.join([crate, *[owner] * bool(owner), called])
+    def trait(self, crate, r):
+        """Ghost members, and functions without a body: their code is in the impls."""
+        name = r.of = r.word()
+        r.parameters()
+        r.next('{')
+        while not r.skip('}'):
+            if self.ghost(r):
+                continue
+            r.next('fn')
+            self.head(r, name + '::' + r.word())
+            r.next(';')
+        r.of = crate
+        return crate + '::' + name
+
+    def of_trait(self, crate, r, trait):
+        """The functions of a trait for a type without fields. A call of one by a bound is of any of its impls."""
+        r.word()
+        r.next('{')
+        while not r.skip('}'):
+            if self.ghost(r):
+                continue
+            r.next('fn')
+            name = trait + '::' + r.word()
+            params, result = self.head(r, name)
+            body = r.block()
+            other = self.functions.get(name)
+            if other and (other.crate, other.params, other.result) != (crate, params, result):
+                raise Refused('two functions of one name: ' + name)
+            if other:
+                one_of = Node('match', None, [Node('number', (0, 'u8'), []), other.body, body])
+                body = Node('block', None, [Node('value', None, [one_of])])
+            self.functions[name] = Function(crate, name, params, result, body)
+        r.of = crate
+
+    def ghost(self, r):
+        """Passes over a ghost member, if it comes next."""
+        if not r.skip('ghost'):
+            return False
+        while not r.skip(';'):
+            r.skip_group() if r.peek() == '{' else r.next()
+        return True
+
+    def head(self, r, name, owner=None):
+        """The parameters and the result behind a function's name."""
+        r.of = name
+        r.parameters()
+        self.consts.update({name.split('::')[0] + '::' + n: ('usize', Node('number', (most, 'usize'), [])) for n, most in r.numbers.items()})
         r.next('(')
         params = dict(r.list(')', lambda: self.param(r, owner)))
         result = of_owner(r.type(), owner) if r.skip('->') else None
-        if 'self' in params and self.methods.setdefault(called, r.of) != r.of:
-            raise Refused('two methods of one name: ' + called)
+        if 'self' in params and self.methods.setdefault(name.rsplit('::', 1)[1], name) != name:
+            raise Refused('two methods of one name: ' + name.rsplit('::', 1)[1])
         while r.peek() in ('requires', 'ensures'):
             r.next()
             if r.peek() != '{':
                 r.word()
             r.skip_group()
-        name = r.of
+        return params, result
+
+    def function(self, crate, r, owner=None):
+        name = '::'.join([crate, *[owner] * bool(owner), r.word()])
+        params, result = self.head(r, name, owner)
         self.functions[name] = Function(crate, name, params, result, r.block())
-        r.of = crate
+        r.of, r.bounds, r.numbers = crate, {}, {}
         return name
 
     def param(self, r, owner):

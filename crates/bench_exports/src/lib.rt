@@ -15,11 +15,12 @@ ghost use Rattle.spec.specs.Shapes.{node_bytes, shape_ok, tree_bytes};
 ghost use Rattle.spec.specs.Primitives.{faest};
 ghost use Rattle.spec.specs.Signer.{signer_tree};
 ghost use Rattle.spec.specs.Calls.{Plan};
-ghost use Rattle.field_limbs.specs.Multiples.{Multiples};
-ghost use Rattle.field_384.specs.Field.{p384};
+ghost use Rattle.field.specs.Multiples.{Multiples};
+ghost use Rattle.field.specs.Fields.{p384};
 ghost use Rattle.columns.specs.Columns.{Xored};
 
 use aes::{KeySchedule, Sbox};
+use field::Field384;
 use job::{Nonce, Version};
 use spec::{Answer, Shape};
 
@@ -102,7 +103,7 @@ pub extern "C" fn rattle_h1(message: &[u8], out: &mut [u8])
 pub extern "C" fn rattle_multiples(key: &[u8; 48], m: &mut [[u64; 12]; 16])
     ensures { Multiples 384 p384 (number 8 key.now) m.new }
 {
-    let r = field_384::multiples(key);
+    let r = field::multiples::<Field384, 6>(key);
     *m = r;
 }
 
@@ -110,7 +111,7 @@ pub extern "C" fn rattle_multiples(key: &[u8; 48], m: &mut [[u64; 12]; 16])
 pub extern "C" fn rattle_leaf_hash(m: &[[u64; 12]; 16], stretched: &[u8; 64], out: &mut [u8; 48])
     ensures { (u : List ℕ) → Multiples 384 p384 (number 8 u) m.now → out.new ≡ tabulate 48 (leaf_hash_byte 384 p384 u (take 16 stretched.now) (drop 16 stretched.now)) }
 {
-    field_384::leaf_hash(m, stretched, out);
+    field::leaf_hash::<Field384, 6>(m, stretched, out);
 }
 
 // The tree of a root, at level 128.

@@ -1,0 +1,11 @@
+-- The zeros above an element add nothing to its number.
+use Rattle.std.proofs.Common.{◌++◌, ◌-◌, ap, ◌∙◌}
+use lib.ListN.{drop}
+use Rattle.spec.specs.Bytes.{number, zeros}
+use Rattle.laws.proofs.Strings.{drop-zeros}
+use Rattle.field.proofs.Elements.{number-padded}
+use Rattle.field.proofs.padded.Goals as goal
+
+pub returns : goal.returns
+unfolding zeros
+returns g c = ap (λ l. number 64 (l ++ drop g.row.N (zeros 12))) c.copy_from_slice.ensures.after ∙ ap (λ l. number 64 (c.args.x ++ l)) (drop-zeros g.row.N 12) ∙ number-padded c.args.x (12 - g.row.N)
