@@ -218,15 +218,5 @@ pub fn record_length(s: Shape, b: usize) -> usize
 pub fn same_bytes(a: &[u8], b: &[u8]) -> bool
     ensures { result ≡ same_bytes a.now b.now }
 {
-    if a.len() != b.len() {
-        return false;
-    }
-    let mut p = 0;
-    while p < a.len() {
-        if a[p] != b[p] {
-            return false;
-        }
-        p += 1;
-    }
-    true
+    a == b
 }
