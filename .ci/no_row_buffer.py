@@ -36,7 +36,7 @@ SEEDS = 'leaf::commit_leaf', 'seed'
 GENERATOR, CIPHER, SUB_BYTES = 'generator', 'aes', 'aes_steps::sub_bytes'
 
 # the kit's functions that are called: the number of the argument to which they write the bytes of the others, or None where they return them
-KIT = {'slice::copy_from_slice': 0, 'std::num::wrapping_add_u32': None}
+KIT = {'slice::copy_from_slice': 0, 'std::num::wrapping_add_u32': None, 'std::cmp::min': None, 'u64::from_le_bytes': None}
 
 # each array above 16 bytes: its type, what it holds, and the crates that have it by value; others have it lent
 TABLE = {

@@ -226,8 +226,11 @@ class Reader:
             elif name == 'copy_from_slice':
                 # a call of the kit, which is lent the place that it writes to
                 e = Node('call', ('slice', name), [Node('lent', True, [e]), *self.list(')', self.expression)])
+            elif name == 'min':
+                e = Node('call', ('std', 'cmp', name), [e, *self.list(')', self.expression)])
             else:
-                raise Refused(f'a method of {self.of} that is not known: {name}')
+                # a method of a struct: which one, and how it takes the struct, is known when all functions are
+                e = Node('call', ('.', name), [e, *self.list(')', self.expression)])
         return e
 
     def place(self, e):
@@ -342,6 +345,7 @@ class Program:
             r = Reader(tokens(text), crate, max(map(int, given), default=0))
             while r.peek():
                 self.item(crate, r)
+        self.resolve_methods()
 
     def item(self, crate, r):
         while r.skip('#'):
@@ -384,7 +388,19 @@ class Program:
         if r.skip(';'):
             return crate + '::' + name
         r.next('{')
-        fields = dict(r.list('}', lambda: (r.skip('pub'), r.word(), r.next(':'), r.type())[1::2]))
+        fields = {}
+        while not r.skip('}'):
+            r.skip('pub')
+            if r.skip('ghost'):
+                r.word()
+                r.next(':')
+                r.skip_group()
+            else:
+                field = r.word()
+                r.next(':')
+                fields[field] = r.type()
+            if r.peek() != '}':
+                r.next(',')
         if self.structs.setdefault(name, fields) is not fields:
             raise Refused('two structs of one name: ' + name)
         return crate + '::' + name
@@ -410,9 +426,11 @@ class Program:
         return crate + '::' + name
 
     def impl(self, crate, r):
-        """The functions of a trait for a type without fields. A call of one by a bound is of any of its impls."""
+        """The methods of a struct, or the functions of a trait for a type without fields. A call of one of these by a bound is of any of its impls."""
         trait = r.word()
         r.arguments()
+        if r.skip('{'):
+            return self.methods(crate, r, trait)
         r.next('for')
         r.word()
         r.next('{')
@@ -432,6 +450,35 @@ class Program:
             self.functions[name] = Function(crate, name, params, result, body)
         r.of = crate
 
+    def methods(self, crate, r, struct):
+        while not r.skip('}'):
+            if self.ghost(r):
+                continue
+            r.skip('pub')
+            r.next('fn')
+            name = struct + '::' + r.word()
+            params, result = self.head(r, name)
+            if name in self.functions:
+                raise Refused('two functions of one name: ' + name)
+            self.functions[name] = Function(crate, name, params, result, r.block())
+        r.of = crate
+
+    def resolve_methods(self):
+        """Each call of a method becomes one of the only function of that name that takes a `self`, which is lent to it or given."""
+        found = {}
+        for name, f in self.functions.items():
+            if 'self' in f.params:
+                found.setdefault(name.split('::')[1], []).append(f)
+        for f in self.functions.values():
+            for e in walk(f.body):
+                if e.kind != 'call' or e.info[0] != '.':
+                    continue
+                if len(found.get(e.info[1], [])) != 1:
+                    raise Refused(f'a method of {f.name} that is not known: {e.info[1]}')
+                t = found[e.info[1]][0].params['self']
+                if is_a(t, 'ref') and e.parts[0] != Node('name', ('self',), []):
+                    e.parts[0] = Node('lent', t[1], [e.parts[0]])
+
     def ghost(self, r):
         """Passes over a ghost member, if it comes next."""
         if not r.skip('ghost'):
@@ -446,7 +493,7 @@ class Program:
         r.parameters()
         self.consts.update({name.split('::')[0] + '::' + n: ('usize', Node('number', (most, 'usize'), [])) for n, most in r.numbers.items()})
         r.next('(')
-        params = dict(r.list(')', lambda: (r.skip('mut'), r.word(), r.next(':'), r.type())[1::2]))
+        params = dict(r.list(')', lambda: self.parameter(r, name)))
         result = r.type() if r.skip('->') else None
         while r.peek() in ('requires', 'ensures'):
             r.next()
@@ -454,6 +501,19 @@ class Program:
                 r.word()
             r.skip_group()
         return params, result
+
+    def parameter(self, r, function):
+        """The name and the type of a parameter. `self` is of the struct that the function is named behind."""
+        start = r.i
+        lent, mutable = r.skip('&'), r.skip('mut')
+        if r.skip('self'):
+            of = function.split('::')[0]
+            return 'self', ('ref', mutable, of) if lent else of
+        r.i = start
+        r.skip('mut')
+        name = r.word()
+        r.next(':')
+        return name, r.type()
 
     def function(self, crate, r):
         name = crate + '::' + r.word()
@@ -464,6 +524,8 @@ class Program:
 
     def find(self, crate, path):
         """The full name of the function or the constant that a crate calls by this path."""
+        if path[0] == '.':
+            return next(name for name, f in self.functions.items() if 'self' in f.params and name.endswith('::' + path[1]))
         full = '::'.join(path) if len(path) > 1 else crate + '::' + path[0]
         while full not in self.functions and full not in self.consts:
             owner, name = full.rsplit('::', 1)
@@ -555,7 +617,7 @@ class Types:
             f = self.p.functions.get(self.p.find(self.f.crate, info))
             return f and f.result
         if kind == 'field':
-            fields = self.p.structs.get(self.of(parts[0]), {})
+            fields = self.p.structs.get(self.lent(parts[0]), {})
             return fields[info] if info in fields else self.unknown('field', info)
         if kind in ('array', 'repeat'):
             count = len(parts) if kind == 'array' else self.value(parts[1])
