@@ -405,6 +405,13 @@ EDITS = [
      *((crate, 'pair.' + old, 'pair.' + new) for crate in ('rows', 'generator') for old, new in (('first', 'both[0]'), ('second', 'both[1]')))),
     ('pair of vector::add_leaf, [u8; 32], holds bytes of rows',
      ('vector', 'fn add_leaf', 'let mut pair = [0u8; 32]; buffers::copy_part(sum, 0, 32, &mut pair, 0);')),
+    # through a method, a const parameter, and the code of a trait's impl
+    ('sponge of vector::add_leaf, Sponge, holds bytes of rows',
+     ('vector', '', 'use shake::Sponge;'), ('vector', 'fn add_leaf', 'let mut sponge = Sponge::new(168); sponge.absorb(sum);')),
+    ('x of vector::first, [u8; 32], holds bytes of rows',
+     ('vector', '', 'fn first<const N: usize>(x: [u8; N]) -> u8 { x[0] }'),
+     ('vector', 'fn add_leaf', 'let mut pair = [0u8; 32]; buffers::copy_part(sum, 0, 32, &mut pair, 0); seed[0] = first::<32>(pair);')),
+    ('[u64; 40] in Field::reduce (many) is not in the table', ('field', 'c ^ (c << 2)', 'let many = [0u64; 40]; c ^ (c << 2)')),
     ('block of columns::block_at, [u64; 4], holds bytes of rows', ('columns', 'let mut block = [0u8; 16];', 'let mut block = [0u64; 4];')),
     ('[u8; 8192] in signer_vectors::next_vector (sum) is not in the table', ('signer_vectors', 'fn next_vector', 'let mut sum = [0u8; 8192];')),
     ('hashes of signer_commit::write_commitment, [u8; 2048], holds bytes of rows', ('signer_vectors', 'fn convert', 'columns::add_part(hash, cols, 0);')),
