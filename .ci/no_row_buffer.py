@@ -38,7 +38,7 @@ GENERATOR, CIPHER, SUB_BYTES = 'generator', 'aes', 'aes_steps::sub_bytes'
 TESTS = ('refusals', 'plan_refusals', 'signer_refusals', 'verifier_refusals', 'slots')
 
 # the kit's functions that are called: the number of the argument to which they write the bytes of the others, or None where they return them
-KIT = {'spec::Answer::from': None, '.max': None, 'slice::copy_from_slice': 0, '.fill': 0, '.wrapping_add': None, '.min': None, '.iter': None, '.all': None}
+KIT = {'spec::Answer::from': None, '.max': None, 'slice::copy_from_slice': 0, '.fill': 0, '.wrapping_add': None, '.min': None, '.iter': None, '.all': None, 'u64::from_le_bytes': None}
 # those of them that go by what the bytes are
 DECIDED = ('.all',)
 
@@ -477,6 +477,15 @@ EDITS = [
     ('a branch, a loop or a bound of vector::add_leaf depends on bytes of rows', ('vector', 'fn add_leaf', 'let clear = sum[0..8].iter().all(|x| *x == 0);')),
     ('a closure of vector::add_leaf that is not a test', ('vector', 'fn add_leaf', 'let clear = sum[0..8].iter().all(|x| held(*x));')),
     ('a branch, a loop or a bound of vector::add_leaf depends on bytes of rows', ('vector', 'fn add_leaf', 'if sum[0] == 1 { seed[0] = 1; }')),
+    # through a method, a const parameter, and the code of a trait's impl
+    ('sponge of vector::add_leaf, Sponge, holds bytes of rows',
+     ('vector', '', 'use shake::Sponge;'), ('vector', 'fn add_leaf', 'let mut sponge = Sponge::new(168); sponge.absorb(sum);')),
+    ('x of vector::first, [u8; 32], holds bytes of rows',
+     ('vector', '', 'fn first<const N: usize>(x: [u8; N]) -> u8 { x[0] }'),
+     ('vector', 'fn add_leaf', 'let mut pair = [0u8; 32]; buffers::copy_part(sum, 0, 32, &mut pair, 0); seed[0] = first::<32>(pair);')),
+    ('[u64; 40] in field::Field::reduce (many) is not in the table', ('field', 'c ^ (c << 2)', 'let many = [0u64; 40]; c ^ (c << 2)')),
+    # the tests that a call begins with, given bytes of rows
+    ('verifier_refusals::test_reconstruct is given bytes of rows by verifier::reconstruct_stretch', ('verifier', 'x, challenge, opening)', 'x, corrections, opening)')),
 ]
 ALLOWED = [
     [('leaf', STRETCH, with_tweak(ARMS % '1')), FORMS],

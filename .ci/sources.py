@@ -488,7 +488,7 @@ class Program:
             if self.ghost(r):
                 continue
             r.next('fn')
-            self.head(r, name + '::' + r.word())
+            self.head(r, '::'.join([crate, name, r.word()]))
             r.next(';')
         r.of = crate
         return crate + '::' + name
@@ -501,7 +501,7 @@ class Program:
             if self.ghost(r):
                 continue
             r.next('fn')
-            name = trait + '::' + r.word()
+            name = '::'.join([crate, trait, r.word()])
             params, result = self.head(r, name)
             body = r.block()
             other = self.functions.get(name)
@@ -588,7 +588,7 @@ def of_owner(t, owner):
 
 PLACES = ('lent', 'index', 'part', 'field', 'unary')
 COMPARED = ('==', '!=', '<', '>', '<=', '>=')
-SIZES = {'u8': 1, 'bool': 1, 'u16': 2, 'u32': 4, 'u64': 8, 'usize': 8, None: 8}
+SIZES = {'u8': 1, 'bool': 1, 'u16': 2, 'u32': 4, 'u64': 8, 'usize': 8, None: 8, 'Refusal': 16, 'Result': 24}
 OPERATORS = {'+': operator.add, '-': operator.sub, '*': operator.mul, '|': operator.or_, '&': operator.and_, '^': operator.xor, '>>': operator.rshift,
              '<<': lambda a, b: a << min(b, 64), '/': lambda a, b: a // max(b, 1), '%': lambda a, b: a % max(b, 1)}
 

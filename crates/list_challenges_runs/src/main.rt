@@ -2,6 +2,7 @@
 // reference/ derives.
 #![tactic(auto)]
 
+use shake::Sponge;
 use std::io;
 use test_support::print::{hex, text};
 
@@ -26,14 +27,13 @@ fn run_all(rt: &impl Print, inputs: &[&str]) -> io::Result<()> {
 fn digest(input: &[u8]) -> [u8; 32] {
     let r = enumeration::read(input);
     let mut out = [0u8; 65536];
-    let mut s = shake::new();
+    let mut sponge = Sponge::new(168);
     for i in 0..enumeration::piece_count(r) {
         let m = enumeration::put_piece(r, i, &mut out);
-        s = shake::absorb(s, 168, &out[..m]);
+        sponge.absorb(&out[..m]);
     }
-    let u = shake::finish(s, 168);
     let mut bytes = [0u8; 32];
-    shake::squeeze(u, 168, &mut bytes);
+    sponge.squeeze(&mut bytes);
     bytes
 }
 

@@ -4,23 +4,17 @@
 
 ghost use Rattle.std.specs.Prelude.{◌≡◌, List, [], ◌∷◌, ◌++◌, ℕ, ◌+◌, ◌-◌, ◌<◌, ◌≤◌, length, take};
 ghost use Rattle.spec.specs.Bytes.{tabulate, zeros, number, digits};
-ghost use Rattle.spec.specs.Keccak.{keccak_f};
-ghost use Rattle.spec.specs.Sponge.{xor_in, state_byte, padding, absorbed_all, output_byte, shake_suffix, shake};
+ghost use Rattle.spec.specs.Sponge.{xor_in, state_byte, padding, output_byte, shake_suffix, shake};
 ghost use Rattle.spec.specs.Hashes.{hash0, hash1};
-ghost use Rattle.shake.specs.Absorbing.{Holds, Took};
 
-// The state, and how many bytes of a block that is not full yet are xored into it.
+// A sponge at its rate, in bytes: the state, and how many bytes of a block that is not full yet are xored into it. A block has room for the rate of SHAKE128.
 #[derive(Clone, Copy)]
 pub struct Sponge {
-    pub lanes: [u64; 25],
-    pub fill: usize,
-}
-
-// A byte as a lane.
-fn wide(b: u8) -> u64
-    ensures { (result ≡ b) × (result < 256) }
-{
-    b as u64
+    rate: usize,
+    lanes: [u64; 25],
+    fill: usize,
+    ghost small: { rate ≤ 168 },
+    ghost room: { fill < rate },
 }
 
 // The lane that eight bytes write, the least byte first.
@@ -28,15 +22,7 @@ fn load_lane(p: &[u8]) -> u64
     requires { length p.now ≡ 8 }
     ensures { result ≡ number 8 p.now }
 {
-    let b0 = wide(p[0]);
-    let b1 = wide(p[1]);
-    let b2 = wide(p[2]);
-    let b3 = wide(p[3]);
-    let b4 = wide(p[4]);
-    let b5 = wide(p[5]);
-    let b6 = wide(p[6]);
-    let b7 = wide(p[7]);
-    b0 + (b1 + (b2 + (b3 + (b4 + (b5 + (b6 + b7 * 256) * 256) * 256) * 256) * 256) * 256) * 256
+    u64::from_le_bytes([p[0], p[1], p[2], p[3], p[4], p[5], p[6], p[7]])
 }
 
 // The lanes xored with a block.
@@ -44,13 +30,9 @@ fn xor_block(s: [u64; 25], block: [u8; 168]) -> [u64; 25]
     ensures { result ≡ xor_in s block }
 {
     let mut t = s;
-    let mut j = 0;
-    while j < 21 {
-        let at = 8 * j;
-        let end = at + 8;
-        let v = load_lane(&block[at..end]);
+    for j in 0..21 {
+        let v = load_lane(&block[8 * j..8 * j + 8]);
         t[j] = s[j] ^ v;
-        j += 1;
     }
     t
 }
@@ -65,69 +47,6 @@ fn place(at: usize, part: &[u8]) -> [u8; 168]
     block
 }
 
-// The state permuted, with nothing of the next block in it.
-fn permute(s: Sponge) -> Sponge
-    ensures { (result.lanes ≡ keccak_f s.lanes) × (result.fill ≡ 0) }
-{
-    let lanes = s.lanes;
-    let permuted = keccak::keccak_f(lanes);
-    Sponge {
-        lanes: permuted,
-        fill: 0,
-    }
-}
-
-// Absorbs a part of the message that ends no later than the block.
-fn absorb_part(s: Sponge, rate: usize, part: &[u8]) -> Sponge
-    requires { (rate ≤ 168) × (0 < rate) × (s.fill + length part.now ≤ rate) }
-    ensures { Took rate s.lanes s.fill part.now result.lanes result.fill }
-{
-    let fill = s.fill;
-    let lanes = s.lanes;
-    let block = place(fill, part);
-    let next = xor_block(lanes, block);
-    let end = fill + part.len();
-    if end < rate {
-        Sponge {
-            lanes: next,
-            fill: end,
-        }
-    } else {
-        permute(Sponge {
-            lanes: next,
-            fill: end,
-        })
-    }
-}
-
-// A sponge that has absorbed nothing.
-pub fn new() -> Sponge
-    ensures { ((r : ℕ) → 0 < r → Holds r [] result.lanes result.fill) × (result.fill ≡ 0) }
-{
-    Sponge {
-        lanes: [0; 25],
-        fill: 0,
-    }
-}
-
-// Absorbs more of the message.
-pub fn absorb(s: Sponge, rate: usize, message: &[u8]) -> Sponge
-    requires { (rate ≤ 168) × (s.fill < rate) }
-    ensures { Took rate s.lanes s.fill message.now result.lanes result.fill }
-{
-    let mut t = s;
-    let mut at = 0;
-    while at < message.len() {
-        let fill = t.fill;
-        let n = numbers::min(rate - fill, message.len() - at);
-        let end = at + n;
-        let u = absorb_part(t, rate, &message[at..end]);
-        t = u;
-        at = end;
-    }
-    t
-}
-
 // A block whose first n bytes are the suffix of SHAKE and the padding.
 fn padding_block(n: usize) -> [u8; 168]
     requires { (0 < n) × (n ≤ 168) }
@@ -135,21 +54,8 @@ fn padding_block(n: usize) -> [u8; 168]
 {
     let mut block = [0u8; 168];
     block[0] = 0x1f;
-    let last = n - 1;
-    let b = block[last];
-    block[last] = b ^ 0x80;
+    block[n - 1] ^= 0x80;
     block
-}
-
-// Absorbs the suffix and the padding.
-pub fn finish(s: Sponge, rate: usize) -> Sponge
-    requires { (rate ≤ 168) × (s.fill < rate) }
-    ensures { (m : List ℕ) → Holds rate m s.lanes s.fill → result.lanes ≡ absorbed_all rate shake_suffix m }
-{
-    let fill = s.fill;
-    let n = rate - fill;
-    let block = padding_block(n);
-    absorb_part(s, rate, &block[..n])
 }
 
 // The eight bytes of a lane, the least byte first.
@@ -157,10 +63,8 @@ fn store_lane(x: u64, out: &mut [u8])
     requires { length out.old ≡ 8 }
     ensures { out.new ≡ digits 8 8 x }
 {
-    let mut i = 0;
-    while i < 8 {
+    for i in 0..8 {
         out[i] = ((x >> (8 * i)) % 256) as u8;
-        i += 1;
     }
 }
 
@@ -169,55 +73,111 @@ fn state_bytes(s: [u64; 25]) -> [u8; 168]
     ensures { result ≡ tabulate 168 (state_byte s) }
 {
     let mut block = [0u8; 168];
-    let mut j = 0;
-    while j < 21 {
-        let at = 8 * j;
-        let end = at + 8;
-        store_lane(s[j], &mut block[at..end]);
-        j += 1;
+    for j in 0..21 {
+        store_lane(s[j], &mut block[8 * j..8 * j + 8]);
     }
     block
 }
 
 // Fills out, a block at most, with the first bytes of the state.
-fn squeeze_part(s: Sponge, out: &mut [u8])
+fn squeeze_part(lanes: [u64; 25], out: &mut [u8])
     requires { length out.old ≤ 168 }
-    ensures { out.new ≡ tabulate (length out.old) (state_byte s.lanes) }
+    ensures { out.new ≡ tabulate (length out.old) (state_byte lanes) }
 {
-    let lanes = s.lanes;
     let block = state_bytes(lanes);
     let n = out.len();
     buffers::copy(&block[..n], out);
 }
 
-// Fills out with the output of a sponge that is finished.
-pub fn squeeze(s: Sponge, rate: usize, out: &mut [u8])
+// Fills out with the output of a state, block by block.
+fn squeeze_blocks(lanes: [u64; 25], rate: usize, out: &mut [u8])
     requires { (rate ≤ 168) × (0 < rate) }
-    ensures { out.new ≡ tabulate (length out.old) (output_byte rate s.lanes) }
+    ensures { out.new ≡ tabulate (length out.old) (output_byte rate lanes) }
 {
-    let mut t = s;
+    let mut state = lanes;
     let mut at = 0;
     while at < out.len() {
-        let n = numbers::min(rate, out.len() - at);
-        let end = at + n;
-        squeeze_part(t, &mut out[at..end]);
-        at = end;
+        let n = rate.min(out.len() - at);
+        squeeze_part(state, &mut out[at..at + n]);
+        at += n;
         if at < out.len() {
-            let u = permute(t);
-            t = u;
+            let next = keccak::keccak_f(state);
+            state = next;
         }
     }
 }
 
-// Fills out with SHAKE of what the sponge has absorbed and of one byte more, which names the hash.
-fn hash(s: Sponge, rate: usize, domain: u8, out: &mut [u8])
-    requires { (rate ≤ 168) × (s.fill < rate) }
-    ensures { (m : List ℕ) → Holds rate m s.lanes s.fill → out.new ≡ shake rate (m ++ (domain ∷ [])) (length out.old) }
-{
-    let last = [domain; 1];
-    let t = absorb(s, rate, &last);
-    let u = finish(t, rate);
-    squeeze(u, rate, out);
+impl Sponge {
+    ghost use Rattle.shake.specs.Absorbing.{Absorbed, Absorbs};
+
+    // A sponge that has absorbed nothing.
+    pub fn new(rate: usize) -> Sponge
+        requires { (rate ≤ 168) × (0 < rate) }
+        ensures { (result.rate ≡ rate) × Absorbed result [] }
+    {
+        Sponge {
+            rate,
+            lanes: [0; 25],
+            fill: 0,
+        }
+    }
+
+    // Absorbs a part of the message that ends no later than the block.
+    fn absorb_part(&mut self, part: &[u8])
+        requires { self.old.fill + length part.now ≤ self.old.rate }
+        ensures { Absorbs self.old part.now self.new }
+    {
+        let block = place(self.fill, part);
+        let lanes = xor_block(self.lanes, block);
+        let end = self.fill + part.len();
+        if end < self.rate {
+            self.lanes = lanes;
+            self.fill = end;
+        } else {
+            let next = keccak::keccak_f(lanes);
+            self.lanes = next;
+            self.fill = 0;
+        }
+    }
+
+    // Absorbs more of the message.
+    pub fn absorb(&mut self, message: &[u8])
+        ensures { Absorbs self.old message.now self.new }
+    {
+        let mut at = 0;
+        while at < message.len() {
+            let n = (self.rate - self.fill).min(message.len() - at);
+            self.absorb_part(&message[at..at + n]);
+            at += n;
+        }
+    }
+
+    // Fills out with SHAKE of what the sponge has absorbed: the suffix and the padding end the last block.
+    pub fn squeeze(self, out: &mut [u8])
+        ensures { (m : List ℕ) → Absorbed self m → out.new ≡ shake self.rate m (length out.old) }
+    {
+        let mut padded = self;
+        let n = self.rate - self.fill;
+        let block = padding_block(n);
+        padded.absorb_part(&block[..n]);
+        squeeze_blocks(padded.lanes, padded.rate, out);
+    }
+
+    // Fills out with SHAKE of what the sponge has absorbed and of one byte more, which names the hash.
+    fn hash(self, domain: u8, out: &mut [u8])
+        ensures { (m : List ℕ) → Absorbed self m → out.new ≡ shake self.rate (m ++ (domain ∷ [])) (length out.old) }
+    {
+        let mut whole = self;
+        whole.absorb(&[domain]);
+        whole.squeeze(out);
+    }
+
+    // H1, the hash for vector commitments, of the message that the sponge has absorbed.
+    pub fn h1(self, out: &mut [u8])
+        ensures { (m : List ℕ) → Absorbed self m → out.new ≡ hash1 self.rate m (length out.old) }
+    {
+        self.hash(1, out);
+    }
 }
 
 // H0, the hash for commitment keys.
@@ -225,17 +185,9 @@ pub fn h0(rate: usize, iv: &[u8], out: &mut [u8])
     requires { (rate ≤ 168) × (0 < rate) }
     ensures { out.new ≡ hash0 rate iv.now (length out.old) }
 {
-    let s = new();
-    let t = absorb(s, rate, iv);
-    hash(t, rate, 0, out);
-}
-
-// H1, the hash for vector commitments, of a message that the sponge has absorbed in parts.
-pub fn h1_finish(s: Sponge, rate: usize, out: &mut [u8])
-    requires { (rate ≤ 168) × (s.fill < rate) }
-    ensures { (m : List ℕ) → Holds rate m s.lanes s.fill → out.new ≡ hash1 rate m (length out.old) }
-{
-    hash(s, rate, 1, out);
+    let mut sponge = Sponge::new(rate);
+    sponge.absorb(iv);
+    sponge.hash(0, out);
 }
 
 // H1 of a message that comes whole.
@@ -243,7 +195,7 @@ pub fn h1(rate: usize, message: &[u8], out: &mut [u8])
     requires { (rate ≤ 168) × (0 < rate) }
     ensures { out.new ≡ hash1 rate message.now (length out.old) }
 {
-    let s = new();
-    let t = absorb(s, rate, message);
-    h1_finish(t, rate, out);
+    let mut sponge = Sponge::new(rate);
+    sponge.absorb(message);
+    sponge.h1(out);
 }

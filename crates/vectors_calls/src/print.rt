@@ -1,4 +1,5 @@
 // The output in the format of the command line of reference/.
+use shake::Sponge;
 use spec::Answer;
 use std::io;
 use test_support::parts::front;
@@ -6,11 +7,10 @@ use test_support::print::{decimal, hex, text};
 
 // 32 bytes of SHAKE128.
 fn digest(a: &[u8]) -> [u8; 32] {
-    let s = shake::new();
-    let t = shake::absorb(s, 168, a);
-    let u = shake::finish(t, 168);
+    let mut sponge = Sponge::new(168);
+    sponge.absorb(a);
     let mut out = [0u8; 32];
-    shake::squeeze(u, 168, &mut out);
+    sponge.squeeze(&mut out);
     out
 }
 

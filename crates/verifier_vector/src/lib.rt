@@ -17,6 +17,7 @@ ghost use Rattle.verifier_vector.specs.Vector.{given, uncorrected};
 
 use aes::Sbox;
 use job::Job;
+use shake::Sponge;
 use vector::Run;
 
 // A vector, and the entry of it that is hidden.
@@ -31,11 +32,11 @@ fn hash_vector(w: usize, r: usize, lcs: &[u8], d: usize, hidden: &[u8], hash: &m
     requires { (0 < r) × (r ≤ 168) × (w * d + w ≤ length lcs.now) }
     ensures { hash.new ≡ hash1 r (take (w * d) lcs.now ++ (hidden.now ++ drop (w * d + w) lcs.now)) (length hash.old) }
 {
-    let s = shake::new();
-    let t = shake::absorb(s, r, &lcs[0..w * d]);
-    let u = shake::absorb(t, r, hidden);
-    let v = shake::absorb(u, r, &lcs[w * d + w..]);
-    shake::h1_finish(v, r, hash);
+    let mut sponge = Sponge::new(r);
+    sponge.absorb(&lcs[..w * d]);
+    sponge.absorb(hidden);
+    sponge.absorb(&lcs[w * d + w..]);
+    sponge.h1(hash);
 }
 
 // The entries of a vector, of which entry d is hidden: writes their leaf commitments, that of entry d as lent, and the columns of the rows of the others, each

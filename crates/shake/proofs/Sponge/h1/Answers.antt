@@ -1,6 +1,6 @@
 -- What `hash` ensures, with the byte of H1.
 use Rattle.spec.specs.Hashes.{hash1}
-use Rattle.shake.proofs.h1_finish.Goals as goal
+use Rattle.shake.proofs.Sponge.h1.Goals as goal
 
 pub returns : goal.returns
 unfolding hash1

@@ -1,18 +1,16 @@
 use mathlib.Core.Path.{◌≡◌}
-use Prim.Native.Nat.{◌+◌, ◌-◌, ◌≤◌}
+use Prim.Native.Nat.{◌+◌, ◌-◌}
 use native.Mathlib.Omega.{arith}
 use lib.Seq.{take-add, take_all}
-use Rattle.shake.proofs.Absorbing.{took-none, took_more}
-use Rattle.shake.proofs.absorb.Goals as goal
+use Rattle.shake.proofs.Absorbing.{absorbs-none, absorbs_more}
+use Rattle.shake.proofs.Sponge.absorb.Goals as goal
 
 pub loop-at-init : goal.loop-at-init
-loop-at-init c =
-    let a = c.args in
-    (omega arith, took-none a.rate a.s.lanes a.s.fill c.requires.1)
+loop-at-init c = (omega arith, absorbs-none c.args.self.now)
 
 pub loop-at-smaller : goal.loop-at-smaller
 loop-at-smaller c =
-    let room = c.loop-at.invariant.1.room in
+    let room = c.loop-at.self.room in
     omega arith
 
 pub loop-at-preserved : goal.loop-at-preserved
@@ -20,7 +18,7 @@ loop-at-preserved c =
     let l = c.loop-at in
     let n = c.min-n.result in
     let e : l.at + n - l.at ≡ n = omega arith in
-    (omega arith, rw take-add (took_more l.invariant.1 (rw e at c.absorb_part-u.ensures)))
+    (omega arith, rw take-add (absorbs_more l.invariant.1 (rw e at c.absorb_part.ensures)))
 
 pub returns : goal.returns
 returns c =
