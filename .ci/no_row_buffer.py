@@ -479,7 +479,7 @@ EDITS = [
     ('a branch, a loop or a bound of vector::add_leaf depends on bytes of rows', ('vector', 'fn add_leaf', 'if sum[0] == 1 { seed[0] = 1; }')),
     # through a method, a const parameter, and the code of a trait's impl
     ('sponge of vector::add_leaf, Sponge, holds bytes of rows',
-     ('vector', '', 'use shake::Sponge;'), ('vector', 'fn add_leaf', 'let mut sponge = Sponge::new(168); sponge.absorb(sum);')),
+     ('vector', '', 'use shake::Sponge;'), ('vector', 'fn add_leaf', 'let sponge = Sponge::new(168).absorb(sum);')),
     ('x of vector::first, [u8; 32], holds bytes of rows',
      ('vector', '', 'fn first<const N: usize>(x: [u8; N]) -> u8 { x[0] }'),
      ('vector', 'fn add_leaf', 'let mut pair = [0u8; 32]; buffers::copy_part(sum, 0, 32, &mut pair, 0); seed[0] = first::<32>(pair);')),

@@ -30,7 +30,7 @@ fn digest(input: &[u8]) -> [u8; 32] {
     let mut sponge = Sponge::new(168);
     for i in 0..enumeration::piece_count(r) {
         let m = enumeration::put_piece(r, i, &mut out);
-        sponge.absorb(&out[..m]);
+        sponge = sponge.absorb(&out[..m]);
     }
     let mut bytes = [0u8; 32];
     sponge.squeeze(&mut bytes);

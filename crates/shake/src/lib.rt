@@ -4,6 +4,7 @@
 
 ghost use Rattle.std.specs.Prelude.{◌≡◌, List, [], ◌∷◌, ◌++◌, ℕ, ◌+◌, ◌-◌, ◌<◌, ◌≤◌, length, take};
 ghost use Rattle.spec.specs.Bytes.{tabulate, zeros, number, digits};
+ghost use Rattle.spec.specs.Keccak.{keccak_f};
 ghost use Rattle.spec.specs.Sponge.{xor_in, state_byte, padding, output_byte, shake_suffix, shake};
 ghost use Rattle.spec.specs.Hashes.{hash0, hash1};
 
@@ -89,24 +90,6 @@ fn squeeze_part(lanes: [u64; 25], out: &mut [u8])
     buffers::copy(&block[..n], out);
 }
 
-// Fills out with the output of a state, block by block.
-fn squeeze_blocks(lanes: [u64; 25], rate: usize, out: &mut [u8])
-    requires { (rate ≤ 168) × (0 < rate) }
-    ensures { out.new ≡ tabulate (length out.old) (output_byte rate lanes) }
-{
-    let mut state = lanes;
-    let mut at = 0;
-    while at < out.len() {
-        let n = rate.min(out.len() - at);
-        squeeze_part(state, &mut out[at..at + n]);
-        at += n;
-        if at < out.len() {
-            let next = keccak::keccak_f(state);
-            state = next;
-        }
-    }
-}
-
 impl Sponge {
     ghost use Rattle.shake.specs.Absorbing.{Absorbed, Absorbs};
 
@@ -122,33 +105,70 @@ impl Sponge {
         }
     }
 
-    // Absorbs a part of the message that ends no later than the block.
-    fn absorb_part(&mut self, part: &[u8])
-        requires { self.old.fill + length part.now ≤ self.old.rate }
-        ensures { Absorbs self.old part.now self.new }
+    // The state permuted, with nothing of the next block in it.
+    fn permute(self) -> Sponge
+        ensures { (result.rate ≡ self.rate) × (result.lanes ≡ keccak_f self.lanes) × (result.fill ≡ 0) }
     {
+        Sponge {
+            rate: self.rate,
+            lanes: keccak::keccak_f(self.lanes),
+            fill: 0,
+        }
+    }
+
+    // Absorbs a part of the message that ends no later than the block.
+    fn absorb_part(self, part: &[u8]) -> Sponge
+        requires { self.fill + length part.now ≤ self.rate }
+        ensures { Absorbs self part.now result }
+    {
+        let rate = self.rate;
         let block = place(self.fill, part);
         let lanes = xor_block(self.lanes, block);
         let end = self.fill + part.len();
-        if end < self.rate {
-            self.lanes = lanes;
-            self.fill = end;
+        if end < rate {
+            Sponge {
+                rate,
+                lanes,
+                fill: end,
+            }
         } else {
-            let next = keccak::keccak_f(lanes);
-            self.lanes = next;
-            self.fill = 0;
+            let whole = Sponge {
+                rate,
+                lanes,
+                fill: 0,
+            };
+            whole.permute()
         }
     }
 
     // Absorbs more of the message.
-    pub fn absorb(&mut self, message: &[u8])
-        ensures { Absorbs self.old message.now self.new }
+    pub fn absorb(self, message: &[u8]) -> Sponge
+        ensures { Absorbs self message.now result }
     {
+        let mut sponge = self;
         let mut at = 0;
         while at < message.len() {
-            let n = (self.rate - self.fill).min(message.len() - at);
-            self.absorb_part(&message[at..at + n]);
+            let n = (sponge.rate - sponge.fill).min(message.len() - at);
+            sponge = sponge.absorb_part(&message[at..at + n]);
             at += n;
+        }
+        sponge
+    }
+
+    // Fills out with the output of a state that has absorbed whole blocks, block by block.
+    fn squeeze_blocks(self, out: &mut [u8])
+        ensures { out.new ≡ tabulate (length out.old) (output_byte self.rate self.lanes) }
+    {
+        let rate = self.rate;
+        let mut state = self;
+        let mut at = 0;
+        while at < out.len() {
+            let n = rate.min(out.len() - at);
+            squeeze_part(state.lanes, &mut out[at..at + n]);
+            at += n;
+            if at < out.len() {
+                state = state.permute();
+            }
         }
     }
 
@@ -156,20 +176,17 @@ impl Sponge {
     pub fn squeeze(self, out: &mut [u8])
         ensures { (m : List ℕ) → Absorbed self m → out.new ≡ shake self.rate m (length out.old) }
     {
-        let mut padded = self;
         let n = self.rate - self.fill;
         let block = padding_block(n);
-        padded.absorb_part(&block[..n]);
-        squeeze_blocks(padded.lanes, padded.rate, out);
+        let padded = self.absorb_part(&block[..n]);
+        padded.squeeze_blocks(out);
     }
 
     // Fills out with SHAKE of what the sponge has absorbed and of one byte more, which names the hash.
     fn hash(self, domain: u8, out: &mut [u8])
         ensures { (m : List ℕ) → Absorbed self m → out.new ≡ shake self.rate (m ++ (domain ∷ [])) (length out.old) }
     {
-        let mut whole = self;
-        whole.absorb(&[domain]);
-        whole.squeeze(out);
+        self.absorb(&[domain]).squeeze(out);
     }
 
     // H1, the hash for vector commitments, of the message that the sponge has absorbed.
@@ -185,9 +202,7 @@ pub fn h0(rate: usize, iv: &[u8], out: &mut [u8])
     requires { (rate ≤ 168) × (0 < rate) }
     ensures { out.new ≡ hash0 rate iv.now (length out.old) }
 {
-    let mut sponge = Sponge::new(rate);
-    sponge.absorb(iv);
-    sponge.hash(0, out);
+    Sponge::new(rate).absorb(iv).hash(0, out);
 }
 
 // H1 of a message that comes whole.
@@ -195,7 +210,5 @@ pub fn h1(rate: usize, message: &[u8], out: &mut [u8])
     requires { (rate ≤ 168) × (0 < rate) }
     ensures { out.new ≡ hash1 rate message.now (length out.old) }
 {
-    let mut sponge = Sponge::new(rate);
-    sponge.absorb(message);
-    sponge.h1(out);
+    Sponge::new(rate).absorb(message).h1(out);
 }

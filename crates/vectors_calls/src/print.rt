@@ -7,10 +7,8 @@ use test_support::print::{decimal, hex, text};
 
 // 32 bytes of SHAKE128.
 fn digest(a: &[u8]) -> [u8; 32] {
-    let mut sponge = Sponge::new(168);
-    sponge.absorb(a);
     let mut out = [0u8; 32];
-    sponge.squeeze(&mut out);
+    Sponge::new(168).absorb(a).squeeze(&mut out);
     out
 }
 

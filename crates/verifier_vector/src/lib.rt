@@ -32,11 +32,11 @@ fn hash_vector(w: usize, r: usize, lcs: &[u8], d: usize, hidden: &[u8], hash: &m
     requires { (0 < r) × (r ≤ 168) × (w * d + w ≤ length lcs.now) }
     ensures { hash.new ≡ hash1 r (take (w * d) lcs.now ++ (hidden.now ++ drop (w * d + w) lcs.now)) (length hash.old) }
 {
-    let mut sponge = Sponge::new(r);
-    sponge.absorb(&lcs[..w * d]);
-    sponge.absorb(hidden);
-    sponge.absorb(&lcs[w * d + w..]);
-    sponge.h1(hash);
+    Sponge::new(r)
+        .absorb(&lcs[..w * d])
+        .absorb(hidden)
+        .absorb(&lcs[w * d + w..])
+        .h1(hash);
 }
 
 // The entries of a vector, of which entry d is hidden: writes their leaf commitments, that of entry d as lent, and the columns of the rows of the others, each

@@ -14,7 +14,7 @@ returns c =
     let l = g.lcs.now in
     let hidden = g.hidden.now in
     let at = g.w * g.d in
-    let made = c.new-sponge.ensures in
+    let made = c.new.ensures in
     let all = absorbs_more c.absorb.ensures (absorbs_more c.absorb-2.ensures c.absorb-3.ensures) in
     rw (all.rate, made.0) at (c.h1.ensures _ (all.holds [] made.1))
     ∙ ap (λ (y : List ℕ). hash1 g.r (take at l ++ (hidden ++ y)) (length g.hash.now)) (to_the_end l (at + g.w))

@@ -6,11 +6,11 @@ use Rattle.shake.proofs.Absorbing.{absorbs-none, absorbs_more}
 use Rattle.shake.proofs.Sponge.absorb.Goals as goal
 
 pub loop-at-init : goal.loop-at-init
-loop-at-init c = (omega arith, absorbs-none c.args.self.now)
+loop-at-init c = (omega arith, absorbs-none c.args.self)
 
 pub loop-at-smaller : goal.loop-at-smaller
 loop-at-smaller c =
-    let room = c.loop-at.self.room in
+    let room = c.loop-at.sponge.room in
     omega arith
 
 pub loop-at-preserved : goal.loop-at-preserved
@@ -18,7 +18,7 @@ loop-at-preserved c =
     let l = c.loop-at in
     let n = c.min-n.result in
     let e : l.at + n - l.at ≡ n = omega arith in
-    (omega arith, rw take-add (absorbs_more l.invariant.1 (rw e at c.absorb_part.ensures)))
+    (omega arith, rw take-add (absorbs_more l.invariant.1 (rw e at c.absorb_part-sponge.ensures)))
 
 pub returns : goal.returns
 returns c =

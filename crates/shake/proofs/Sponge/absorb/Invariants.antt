@@ -6,7 +6,7 @@ use Rattle.shake.specs.Absorbing.{Absorbs}
 use Rattle.shake.proofs.Sponge.absorb.Given as goal
 
 abbrev pub invariant-loop-at : goal.invariant-loop-at
-invariant-loop-at l = (l.at ≤ length l.message) × Absorbs l.initial.self (take l.at l.message) l.self
+invariant-loop-at l = (l.at ≤ length l.message) × Absorbs l.fn.self (take l.at l.message) l.sponge
 
 abbrev pub decreases-loop-at : goal.decreases-loop-at
 decreases-loop-at l = length l.message - l.at

@@ -7,24 +7,22 @@ use Rattle.spec.specs.Keccak.{keccak_f}
 use Rattle.spec.specs.Sponge.{xor_in}
 use Rattle.shake.proofs.Absorbing.{part_open, part_full}
 use Rattle.shake.proofs.Sponge.absorb_part.Goals as goal
+use Rattle.shake.proofs.Sponge.absorb_part.Goals.{then-end-rate, else-end-rate}
 
-pub returns-then-end-self : goal.returns-then-end-self
-returns-then-end-self c =
-    let s = c.args.self.now in
+pub returns : goal.returns
+returns c =
+    let s = c.args.self in
     let part = c.args.part.now in
-    record {
-      rate = refl;
-      holds =
-          part_open part (168 - s.fill - length part) (λ i. (c.type_inv.part i).fits) c.if-end-self.true (c.xor_block-lanes.ensures ∙ ap (xor_in s.lanes) c.place-block.ensures);
-    }
-
-pub returns-else-end-self : goal.returns-else-end-self
-returns-else-end-self c =
-    let s = c.args.self.now in
-    let part = c.args.part.now in
-    record {
-      rate = refl;
-      holds =
-          part_full part (168 - s.fill - length part) (λ i. (c.type_inv.part i).fits) (omega arith)
-          (c.keccak_f-next.ensures ∙ ap keccak_f (c.xor_block-lanes.ensures ∙ ap (xor_in s.lanes) c.place-block.ensures));
-    }
+    let taken = c.xor_block-lanes.ensures ∙ ap (xor_in s.lanes) c.place-block.ensures in
+    elim c.if-end-rate.branch [
+      | then-end-rate w ↦
+          record {
+            rate = rw w.result-is refl;
+            holds = rw w.result-is (part_open part (168 - s.fill - length part) (λ i. (c.type_inv.part i).fits) w.if-end-rate.true taken);
+          }
+      | else-end-rate w ↦
+          record {
+            rate = rw w.result-is w.permute.ensures.0;
+            holds = rw (w.result-is, w.permute.ensures.0, w.permute.ensures.2) (part_full part (168 - s.fill - length part) (λ i. (c.type_inv.part i).fits) (omega arith) (w.permute.ensures.1 ∙ ap keccak_f taken));
+          }
+    ]

@@ -15,8 +15,8 @@ slice_bounds-absorb_part-end c =
     let room = s.room in
     sym (ap length c.padding_block-block.ensures ∙ length-padding shake_suffix (s.rate - s.fill) (omega arith))
 
-pub absorb_part-requires : goal.absorb_part-requires
-absorb_part-requires c =
+pub absorb_part-padded-requires : goal.absorb_part-padded-requires
+absorb_part-padded-requires c =
     let s = c.args.self in
     let room = s.room in
     let n = ap length c.padding_block-block.ensures ∙ length-padding shake_suffix (s.rate - s.fill) (omega arith) in
@@ -26,8 +26,8 @@ pub returns : goal.returns
 unfolding sponge shake
 returns c m h =
     let s = c.args.self in
-    let padded = c.absorb_part.new.self in
-    let rate = c.absorb_part.ensures.rate in
+    let padded = c.absorb_part-padded.result in
+    let rate = c.absorb_part-padded.ensures.rate in
     c.squeeze_blocks.ensures
     ∙ ap₂ (λ (r : ℕ) (z : List ℕ). tabulate (length c.args.out.now) (output_byte r z)) rate
-    (holds-all s.rate shake_suffix m s.lanes s.fill h padded.lanes padded.fill (rw (rate, c.padding_block-block.ensures) at (c.absorb_part.ensures.holds m h)))
+    (holds-all s.rate shake_suffix m s.lanes s.fill h padded.lanes padded.fill (rw (rate, c.padding_block-block.ensures) at (c.absorb_part-padded.ensures.holds m h)))
