@@ -8,4 +8,7 @@ use Rattle.field.proofs.padded.Goals as goal
 
 pub returns : goal.returns
 unfolding zeros
-returns g c = ap (λ l. number 64 (l ++ drop g.row.N (zeros 12))) c.copy_from_slice.ensures.after ∙ ap (λ l. number 64 (c.args.x ++ l)) (drop-zeros g.row.N 12) ∙ number-padded c.args.x (12 - g.row.N)
+returns g c =
+    let n = g.row.N in
+    let x = c.args.x in
+    ap (λ l. number 64 (l ++ drop n (zeros 12))) c.copy_from_slice.ensures.after ∙ ap (λ l. number 64 (x ++ l)) (drop-zeros n 12) ∙ number-padded x (12 - n)

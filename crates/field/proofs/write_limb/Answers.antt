@@ -13,7 +13,7 @@ pub loop-b-init : goal.loop-b-init
 unfolding tabulate
 loop-b-init c =
     let out = c.args.out.now in
-    (omega arith, refl, ap (λ (n : ℕ). take n out) (add-zero c.args.at) ∙ sym (append-nil (take c.args.at out)))
+    (refl, ap (λ (n : ℕ). take n out) (add-zero c.args.at) ∙ sym (append-nil (take c.args.at out)))
 
 pub loop-b-preserved : goal.loop-b-preserved
 loop-b-preserved c =
@@ -21,11 +21,10 @@ loop-b-preserved c =
     let l = c.loop-b in
     let f = byte_at g.x g.y.now g.at in
     let e : g.at + (l.b + 1) ≡ g.at + l.b + 1 = omega arith in (
-      omega arith,
-      simp length-set l.invariant.1,
+      simp length-set l.invariant.0,
       ap (λ (n : ℕ). take n (set l.out (g.at + l.b) (f l.b))) e
-          ∙ take-stored l.out (g.at + l.b) (f l.b) (take g.at g.out.now) l.b f (omega arith) l.invariant.2 refl,
+          ∙ take-stored l.out (g.at + l.b) (f l.b) (take g.at g.out.now) l.b f (omega arith) l.invariant.1 refl,
     )
 
 pub returns : goal.returns
-returns c = rw (let z : c.loop-b.b ≡ 8 = omega arith in z) at c.loop-b.invariant.2
+returns c = rw (let z : c.loop-b.b ≡ 8 = omega arith in z) at c.loop-b.invariant.1

@@ -1,7 +1,7 @@
 -- `field::write_limb` meets its contract. The loop's invariant: after the bytes below `at`, which stay, `b` bytes are right.
 use mathlib.Core.Path.{◌≡◌}
 use mathlib.Core.List.{List, ◌++◌}
-use Prim.Native.Nat.{ℕ, ◌+◌, ◌*◌, ◌/◌, ◌%◌, ◌^◌, ◌-◌, ◌≤◌}
+use Prim.Native.Nat.{ℕ, ◌+◌, ◌*◌, ◌/◌, ◌%◌, ◌^◌}
 use lib.Bits.{bit_xor}
 use lib.ListN.{length, get_or, take}
 use Rattle.spec.specs.Bytes.{tabulate}
@@ -11,7 +11,4 @@ abbrev pub byte_at : ℕ → List ℕ → ℕ → ℕ → ℕ
 byte_at x y at b = bit_xor (x / 2 ^ (8 * b) % 2 ^ 8) (get_or y (at + b) 0)
 
 abbrev pub invariant-loop-b : goal.invariant-loop-b
-invariant-loop-b l = (l.b ≤ 8) × (length l.out ≡ length l.initial.out) × (take (l.at + l.b) l.out ≡ take l.at l.initial.out ++ tabulate l.b (byte_at l.x l.y l.at))
-
-abbrev pub decreases-loop-b : goal.decreases-loop-b
-decreases-loop-b l = 8 - l.b
+invariant-loop-b l = (length l.out ≡ length l.initial.out) × (take (l.at + l.b) l.out ≡ take l.at l.initial.out ++ tabulate l.b (byte_at l.x l.y l.at))
