@@ -2,9 +2,10 @@
 never passed over.
 
 An expression or a statement is a Node: its kind, what it says beside its parts, and its parts. The kinds, with what they say: number (value, type),
-bytes (length), name (path), call (path; of a method '.' and its name, and what it is called of is lent to it), array, repeat, struct (name, fields), field (name), index, part, len, lent (mutable), unary and binary (operator),
-cast (type), if, match, block; let (name, mutable, type), set (of a place and a value), while, for (name), return, do, test (name; a closure), and value, the value of its block.
-A type is a name, without its arguments, ('ref', mutable, type), ('slice', type) or ('array', type, length); try is an expression with ? behind it.
+bytes (length), name (path), call (path; of a method '.' and its name, and what it is called of is lent to it), array, repeat, struct (name, fields),
+field (name), index, part, len, lent (mutable), unary and binary (operator), cast (type), test (name; a closure), if, match, block; let (name, mutable, type),
+set (of a place and a value), while, for (name), return, do, try (an expression with ? behind it), and value, the value of its block.
+A type is a name, without its arguments, ('ref', mutable, type), ('slice', type) or ('array', type, length).
 """
 import operator
 import re

@@ -1,9 +1,9 @@
-// AES, FIPS 197, over the steps of crate aes_steps, of which it re-exports `Sbox`, `table`, `pack` and `unpack`, and the key schedules of aes_keys. A state or a round key is
-// its four columns of four bytes, by value.
+// AES, FIPS 197, over the steps of crate aes_steps, of which it re-exports `Sbox`, `table`, `pack` and `unpack`, and the key schedules of aes_keys. A state or
+// a round key is its four columns of four bytes, by value.
 #![tactic(auto)]
 
-ghost use Rattle.std.specs.Prelude.{◌≡◌, List, ℕ, ◌+◌, ◌-◌, ◌%◌, ◌≤◌, length};
-ghost use Rattle.spec.specs.Aes.{state_of, bytes_of, add_round_key, round_of, last_round, cipher, key_expansion};
+ghost use Rattle.std.specs.Prelude.{◌≡◌, List, ℕ, ◌+◌, length};
+ghost use Rattle.spec.specs.Aes.{state_of, bytes_of, add_round_key, round_of, last_round};
 ghost use Rattle.aes_keys.specs.RoundKeys.{words};
 ghost use Rattle.aes.specs.Ciphers.{encrypted, after};
 
@@ -66,8 +66,8 @@ fn two_rounds(sbox: &Sbox, s: [[u8; 4]; 4], k: [[u8; 4]; 4], l: [[u8; 4]; 4]) ->
     add_round_key(mix_columns(shift_rows(sub_bytes(sbox, x))), l)
 }
 
-// CIPHER with the schedule's key. The nine rounds that every key has are counted by a constant and stand here by their steps, which is quicker; those from 10 on of
-// longer keys go by twos, as in `later_rounds`.
+// CIPHER with the schedule's key. The nine rounds that every key has are counted by a constant and stand here by their steps, which is quicker; those from 10
+// on of longer keys go by twos, as in `later_rounds`.
 pub fn encrypt(sbox: &Sbox, schedule: &KeySchedule, s: [[u8; 4]; 4]) -> [[u8; 4]; 4]
     ensures { result ≡ encrypted schedule.now s }
 {
@@ -112,8 +112,8 @@ pub struct Blocks {
 }
 
 // CIPHER of two states, and the bytes of both. They go round by round: neither waits for the other, so a processor can work on both at once (bench/README.md
-// compares it with one after the other). The steps of a round stand here one by one, since the compiler would not inline a function of them that is called twice.
-// The nine rounds that every key has are counted by a constant, which is quicker; those from 10 on of longer keys go one state after the other.
+// compares it with one after the other). The steps of a round stand here one by one, since the compiler would not inline a function of them that is called
+// twice. The nine rounds that every key has are counted by a constant, which is quicker; those from 10 on of longer keys go one state after the other.
 pub fn encrypt_pair(sbox: &Sbox, schedule: &KeySchedule, a: [[u8; 4]; 4], b: [[u8; 4]; 4]) -> Blocks
     ensures first { result.first ≡ bytes_of (encrypted schedule.now a) }
     ensures second { result.second ≡ bytes_of (encrypted schedule.now b) }

@@ -1,11 +1,12 @@
-// The key schedules of AES for keys of 128, 192 and 256 bits, FIPS 197, section 5.2. A word is four bytes, a round key four words. There is room for 15 round keys; the
-// unused ones behind those of a shorter key are zeros.
+// The key schedules of AES for keys of 128, 192 and 256 bits, FIPS 197, section 5.2. A word is four bytes, a round key four words. There is room for 15 round
+// keys; the unused ones behind those of a shorter key are zeros.
 #![tactic(auto)]
 
-ghost use Rattle.std.specs.Prelude.{◌≡◌, List, [], ◌∷◌, ℕ, ◌+◌, ◌*◌, ◌/◌, ◌%◌, ◌≤◌, length};
+ghost use Rattle.std.specs.Prelude.{◌≡◌, List, [], ◌∷◌, ℕ, ◌+◌, ◌*◌, ◌%◌, ◌≤◌, length};
 ghost use Rattle.spec.specs.Bytes.{tabulate};
 ghost use Rattle.spec.specs.Aes.{state, word_at, round_key, key_expansion};
-ghost use Rattle.aes_keys.specs.RoundKeys.{words, Keyed, chained, next_round_key, odd_round_key, six_of, six_words, lower_four, upper_four, next_six, three_keys};
+ghost use Rattle.aes_keys.specs.RoundKeys.{words, Keyed, chained, next_round_key, odd_round_key};
+ghost use Rattle.aes_keys.specs.RoundKeys.{six_of, six_words, lower_four, upper_four, next_six, three_keys};
 
 use aes_steps::{Sbox, rot_word, sub_word, xor_word};
 use std::marker::Model;
@@ -201,6 +202,7 @@ pub fn schedule_256(sbox: &Sbox, key: &[u8]) -> [[[u8; 4]; 4]; 15]
 
 // ---- by the key's length
 
+// KEYEXPANSION, with zeros behind the round keys of a shorter key.
 fn key_schedule(sbox: &Sbox, key: &[u8]) -> [[[u8; 4]; 4]; 15]
     requires { (16 ≤ length key.now) × (length key.now ≤ 32) × (length key.now % 8 ≡ 0) }
     ensures { Keyed (words key.now) key.now result }
@@ -215,7 +217,7 @@ fn key_schedule(sbox: &Sbox, key: &[u8]) -> [[[u8; 4]; 4]; 15]
     schedule_256(sbox, key)
 }
 
-// A round key, its columns one after the other. A clause sees the columns.
+// A round key, its columns one after the other: a struct holds no array of arrays. A clause sees the columns.
 #[derive(Drop)]
 struct RoundKey {
     bytes: [u8; 16],
@@ -249,12 +251,14 @@ impl RoundKey {
     }
 }
 
+// A round key as a schedule holds it.
 fn stored(k: [[u8; 4]; 4]) -> RoundKey
     ensures { result ≡ k }
 {
     RoundKey::of(k[0], k[1], k[2], k[3])
 }
 
+// All the round keys, the same way.
 fn stored_keys(keys: &[[[u8; 4]; 4]; 15]) -> [RoundKey; 15]
     ensures { result ≡ keys.now }
 {
@@ -297,6 +301,7 @@ impl Model for KeySchedule {
 }
 
 impl KeySchedule {
+    // The schedule of a key of 16, 24 or 32 bytes.
     pub fn new(sbox: &Sbox, key: &[u8]) -> Self
         requires { (16 ≤ length key.now) × (length key.now ≤ 32) × (length key.now % 8 ≡ 0) }
         ensures { result ≡ key.now }
@@ -316,6 +321,7 @@ impl KeySchedule {
         self.rounds
     }
 
+    // Round key i.
     pub fn round_key(&self, i: usize) -> [[u8; 4]; 4]
         requires { i ≤ words self.now + 6 }
         ensures { result ≡ round_key (key_expansion (words self.now) self.now) i }

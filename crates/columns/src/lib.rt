@@ -92,13 +92,10 @@ pub fn add_last(cols: &mut [u8], b: usize, h: usize, number: usize)
     requires { (h ≤ 11) × (length cols.old ≡ b * (h + 1)) }
     ensures { Done b h (λ j p. bit j number * get_or cols.old (b * h + p) 0) cols.old cols.new }
 {
-    let mut j = 0;
-    while j < h {
-        if (number >> j) % 2 == 1 {
+    for j in 0..h {
+        let set = (number >> j) % 2 == 1;
+        if set {
             xor_within(cols, b * h, b * j, b);
-            j += 1;
-        } else {
-            j += 1;
         }
     }
 }

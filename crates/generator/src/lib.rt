@@ -1,7 +1,8 @@
-// The generator, for keys of 128, 192 and 256 bits: AES in counter mode. That of document 000, section 3.3, figure 3.6, with a tweak, and that of version 1, which differs in the counter alone.
+// The generator, for keys of 128, 192 and 256 bits: AES in counter mode. That of document 000, section 3.3, figure 3.6, with a tweak, and that of version 1,
+// which differs in the counter alone.
 #![tactic(auto)]
 
-ghost use Rattle.std.specs.Prelude.{◌≡◌, ℕ, ◌+◌, ◌*◌, ◌%◌, ◌^◌, ◌<◌, ◌≤◌, List, length};
+ghost use Rattle.std.specs.Prelude.{◌≡◌, ℕ, ◌+◌, ◌*◌, ◌%◌, ◌^◌, ◌<◌, ◌≤◌, length};
 ghost use Rattle.spec.specs.Bytes.{tabulate};
 ghost use Rattle.spec.specs.Aes.{state_of};
 ghost use Rattle.spec.specs.Generator.{add_to_word, add_to_upper_word, add_to_lower_word};
