@@ -57,7 +57,7 @@ TABLE = {
     '[u8; 32]': ('a seed', 'vector'),
     '[[u64; 12]; 16]': ('the multiples of a hash key', 'field leaf_hash leaf signer_vectors verifier_vector'),
     '[u64; 12]': ('an element of a field of the leaf hash, of 384, 576 or 768 bits, or one of the multiples', 'field'),
-    '[u64; 25]': ('the lanes of a sponge', 'keccak shake verifier_vector'),
+    '[u64; 25]': ('the lanes of a sponge', 'keccak shake'),
     '[u64; 24]': ('the round constants of Keccak', 'keccak'),
     '[u64; 5]': ('the parities of Keccak\'s columns, or a plane of its state', 'keccak'),
     '[u8; 168]': ('a block of the sponge', 'shake'),
