@@ -9,7 +9,6 @@ use Rattle.spec.specs.Bytes.{tabulate}
 use Rattle.spec.specs.Aes.{column, round_key, key_expansion}
 use Rattle.laws.proofs.Lists.{length-tabulate, get_or-tabulate, is-tabulate}
 use Rattle.aes_keys.specs.RoundKeys.{words, round_keys, Keyed, key_of}
-use Rattle.aes_keys.specs.Scheduled.{Scheduled}
 use Rattle.aes_keys.proofs.KeyExpansion.{key-words}
 
 module _ {A : Type 0} (d : A) where
@@ -53,21 +52,15 @@ rounds-are n keys key h e =
     let l : length key ≡ 4 * (n - 6) = ap length (sym e) ∙ length-tabulate (4 * (n - 6)) _ in
     omega arith
 
--- what is made of the round keys of a key
-module _ (key : List ℕ) (keys made : List (List (List ℕ))) where
-  pub shown : 16 ≤ length key → length key % 8 ≡ 0 → made ≡ keys → Keyed (words key) key keys → key_of (words key + 6 - 6) made ≡ key
-  shown least eight e k =
-      let l : length key ≡ 4 * words key = omega arith in
-      let n : words key + 6 - 6 ≡ words key = omega arith in
-      rw (n, e) (key-shown (words key) key keys l k)
+-- the round keys of a key show it, and are those of what they show
+module _ (key : List ℕ) (keys : List (List (List ℕ))) (least : 16 ≤ length key) (eight : length key % 8 ≡ 0) (k : Keyed (words key) key keys) where
+  number : words key + 6 - 6 ≡ words key
+  number = omega arith
 
-  pub scheduled : 16 ≤ length key → length key ≤ 32 → length key % 8 ≡ 0 → made ≡ keys → Keyed (words key) key keys
-      → Scheduled (record { round_keys = made; rounds = words key + 6 })
-  scheduled least most eight e k =
-      let n : words key + 6 - 6 ≡ words key = omega arith in
-      record {
-        least = omega arith;
-        most = omega arith;
-        even = omega arith;
-        keyed = rw (shown least eight e k, n, e) k;
-      }
+  pub shown : key_of (words key + 6 - 6) keys ≡ key
+  shown =
+      let l : length key ≡ 4 * words key = omega arith in
+      rw number (key-shown (words key) key keys l k)
+
+  pub scheduled : Keyed (words key + 6 - 6) (key_of (words key + 6 - 6) keys) keys
+  scheduled = rw (shown, number) k

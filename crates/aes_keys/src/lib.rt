@@ -2,10 +2,10 @@
 // keys; the unused ones behind those of a shorter key are zeros.
 #![tactic(auto)]
 
-ghost use Rattle.std.specs.Prelude.{◌≡◌, List, [], ◌∷◌, ℕ, ◌+◌, ◌*◌, ◌%◌, ◌≤◌, length};
+ghost use Rattle.std.specs.Prelude.{◌≡◌, List, [], ◌∷◌, ℕ, ◌+◌, ◌-◌, ◌*◌, ◌%◌, ◌≤◌, length};
 ghost use Rattle.spec.specs.Bytes.{tabulate};
 ghost use Rattle.spec.specs.Aes.{state, word_at, round_key, key_expansion};
-ghost use Rattle.aes_keys.specs.RoundKeys.{words, Keyed, chained, next_round_key, odd_round_key};
+ghost use Rattle.aes_keys.specs.RoundKeys.{words, Keyed, key_of, chained, next_round_key, odd_round_key};
 ghost use Rattle.aes_keys.specs.RoundKeys.{six_of, six_words, lower_four, upper_four, next_six, three_keys};
 
 use aes_steps::{Sbox, rot_word, sub_word, xor_word};
@@ -203,7 +203,7 @@ pub fn schedule_256(sbox: &Sbox, key: &[u8]) -> [[[u8; 4]; 4]; 15]
 // ---- by the key's length
 
 // KEYEXPANSION, with zeros behind the round keys of a shorter key.
-fn key_schedule(sbox: &Sbox, key: &[u8]) -> [[[u8; 4]; 4]; 15]
+pub fn key_schedule(sbox: &Sbox, key: &[u8]) -> [[[u8; 4]; 4]; 15]
     requires { (16 ≤ length key.now) × (length key.now ≤ 32) × (length key.now % 8 ≡ 0) }
     ensures { Keyed (words key.now) key.now result }
 {
@@ -306,10 +306,18 @@ impl KeySchedule {
         requires { (16 ≤ length key.now) × (length key.now ≤ 32) × (length key.now % 8 ≡ 0) }
         ensures { result ≡ key.now }
     {
-        let keys = key_schedule(sbox, key);
+        KeySchedule::of_round_keys(&key_schedule(sbox, key), key.len() / 4 + 6)
+    }
+
+    // The schedule of the key that these round keys are those of.
+    pub fn of_round_keys(keys: &[[[u8; 4]; 4]; 15], rounds: usize) -> Self
+        requires bounds { (10 ≤ rounds) × (rounds ≤ 14) × (rounds % 2 ≡ 0) }
+        requires keyed { Keyed (rounds - 6) (key_of (rounds - 6) keys.now) keys.now }
+        ensures { result ≡ key_of (rounds - 6) keys.now }
+    {
         KeySchedule {
-            round_keys: stored_keys(&keys),
-            rounds: key.len() / 4 + 6,
+            round_keys: stored_keys(keys),
+            rounds,
         }
     }
 

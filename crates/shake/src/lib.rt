@@ -11,9 +11,9 @@ ghost use Rattle.spec.specs.Hashes.{hash0, hash1};
 // A sponge at its rate, in bytes: the state, and how many bytes of a block that is not full yet are xored into it. A block has room for the rate of SHAKE128.
 #[derive(Clone, Copy)]
 pub struct Sponge {
-    rate: usize,
-    lanes: [u64; 25],
-    fill: usize,
+    pub rate: usize,
+    pub lanes: [u64; 25],
+    pub fill: usize,
     ghost small: { rate ≤ 168 },
     ghost room: { fill < rate },
 }

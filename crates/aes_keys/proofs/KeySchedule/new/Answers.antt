@@ -1,13 +1,14 @@
 -- The round keys are those of the key, which they show.
+use mathlib.Core.Path.{◌∙◌}
 use Rattle.aes_keys.proofs.Schedules.{shown, scheduled}
 use Rattle.aes_keys.proofs.KeySchedule.new.Goals as goal
 
-pub invariant_of-result : goal.invariant_of-result
-invariant_of-result c =
+pub of_round_keys-requires-clause-keyed : goal.of_round_keys-requires-clause-keyed
+of_round_keys-requires-clause-keyed c =
     let p = c.requires in
-    scheduled c.args.key.now _ _ p.0 p.1 p.2 c.stored_keys.ensures c.key_schedule-keys.ensures
+    scheduled c.args.key.now _ p.0 p.2 c.key_schedule.ensures
 
 pub returns : goal.returns
 returns c =
     let p = c.requires in
-    shown c.args.key.now _ _ p.0 p.2 c.stored_keys.ensures c.key_schedule-keys.ensures
+    c.of_round_keys.ensures ∙ shown c.args.key.now _ p.0 p.2 c.key_schedule.ensures
