@@ -12,7 +12,8 @@ ghost use Rattle.enumeration.specs.Pieces.{Reads, Readable, lines_from, totals_t
 
 use spec::Shape;
 
-// What an input gives: 0 or the number of its refusal, and with 0 the shape, four zeros resolved.
+// What an input gives: 0 or the number of its refusal, and with 0 the shape, four zeros resolved. The number stands beside the shape because the
+// theorem `Whole` (../specs/Pieces.antt) speaks of every such value.
 #[derive(Clone, Copy)]
 pub struct Reading {
     pub number: usize,

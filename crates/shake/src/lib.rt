@@ -141,7 +141,7 @@ impl Sponge {
         }
     }
 
-    // Absorbs more of the message.
+    // Absorbs more of the message. A turn goes on by the part that fits into the block.
     pub fn absorb(self, message: &[u8]) -> Sponge
         ensures { Absorbs self message.now result }
     {
@@ -155,7 +155,7 @@ impl Sponge {
         sponge
     }
 
-    // Fills out with the output of a state that has absorbed whole blocks, block by block.
+    // Fills out with the output of a state that has absorbed whole blocks, block by block. Between two blocks, and only there, the state is permuted.
     fn squeeze_blocks(self, out: &mut [u8])
         ensures { out.new ≡ tabulate (length out.old) (output_byte self.rate self.lanes) }
     {
