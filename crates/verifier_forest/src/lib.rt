@@ -41,19 +41,16 @@ fn write_tree(
     // the next node of the way to leaf j, and its level
     let mut path: usize = 0;
     let mut l: usize = 0;
-    let mut a: usize = 0;
-    while a < inner {
+    for a in 0..inner {
         if a == path {
             let m = d - 1 - l;
             let b = (j >> m) % 2;
             write_covered(w, a, b, l, slots, tree);
             path = 2 * a + 1 + b;
             l += 1;
-            a += 1;
-        } else {
-            tree::expand_node(sbox, w, Version::One, iv, a, tree);
-            a += 1;
+            continue;
         }
+        tree::expand_node(sbox, w, Version::One, iv, a, tree);
     }
 }
 
