@@ -7,7 +7,7 @@ use Rattle.aes_keys.proofs.KeySchedule.of_round_keys.Goals as goal
 pub invariant_of-result : goal.invariant_of-result
 invariant_of-result c =
     let p = c.requires.bounds in
-    record { least = p.0; most = p.1; even = p.2; keyed = rw c.stored_keys.ensures c.requires.keyed; }
+    record { least = p.0; most = p.1; even = p.2; keyed = rw c.stored_keys.ensures c.requires.keyed }
 
 pub returns : goal.returns
 returns c = ap (key_of (c.args.rounds - 6)) c.stored_keys.ensures
