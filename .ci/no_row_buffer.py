@@ -199,6 +199,7 @@ class Held:
     def __init__(self, frame):
         self.frame, self.f, self.types, self.fault = frame, frame.f, frame.types, frame.test.fault
         self.own = self.chain = 0
+        self.again = frozenset()  # what is still to be read at the end of a turn of the loop
         self.sizes = {}
         for name, t in self.types.names.items():
             if frame.labels[name] & ROWS and not is_a(t, 'ref'):
@@ -270,6 +271,8 @@ class Held:
             return self.before(e.parts[0], frozenset().union(*ways))
         if e.kind in ('while', 'for'):
             return self.before_loop(e, after)
+        if e.kind == 'continue':
+            return self.again
         if e.kind == 'return':
             return self.before(e.parts[0], frozenset()) if e.parts else frozenset()
         path = e.info[0] if e.kind == 'let' else self.path(e.parts[0]) if e.kind == 'set' else None
@@ -282,11 +285,13 @@ class Held:
 
     def before_loop(self, e, after):
         *first, body = e.parts
-        now = None
+        now, outer = None, self.again
         while now != after:
             now = after
             for part in [body] + (first if e.kind == 'while' else []):
+                self.again = after
                 after = now | self.before(part, after)
+        self.again = outer
         for part in first:
             after = self.before(part, after)
         return after

@@ -4,7 +4,7 @@ never passed over.
 An expression or a statement is a Node: its kind, what it says beside its parts, and its parts. The kinds, with what they say: number (value, type),
 bytes (length), name (path), call (path; of a method '.' and its name, and what it is called of is lent to it), array, repeat, struct (name, fields),
 field (name), index, part, len, lent (mutable), unary and binary (operator), cast (type), test (name; a closure), if, match, block; let (name, mutable, type),
-set (of a place and a value), while, for (name), return, do, try (an expression with ? behind it), and value, the value of its block.
+set (of a place and a value), while, for (name), return, continue, do, try (an expression with ? behind it), and value, the value of its block.
 A type is a name, without its arguments, ('ref', mutable, type), ('slice', type) or ('array', type, length).
 """
 import operator
@@ -300,6 +300,10 @@ class Reader:
 
     def statement(self):
         t = self.peek()
+        if t == 'continue':
+            self.next()
+            self.next(';')
+            return Node('continue', None, [])
         if t in ('let', 'while', 'for', 'return'):
             self.next()
             return {'let': self.let, 'while': self.repeated, 'for': self.counted, 'return': self.returned}[t]()

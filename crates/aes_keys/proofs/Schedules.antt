@@ -52,7 +52,7 @@ rounds-are n keys key h e =
     let l : length key ≡ 4 * (n - 6) = ap length (sym e) ∙ length-tabulate (4 * (n - 6)) _ in
     omega arith
 
--- the round keys of a key show it, and are those of what they show
+-- the round keys of a key begin with it
 module _ (key : List ℕ) (keys : List (List (List ℕ))) (least : 16 ≤ length key) (eight : length key % 8 ≡ 0) (k : Keyed (words key) key keys) where
   number : words key + 6 - 6 ≡ words key
   number = omega arith

@@ -1,4 +1,4 @@
--- What the struct of a key schedule holds, and which key it is that of.
+-- What the struct of a key schedule holds, and its key.
 use Rattle.std.specs.Prelude.{◌≡◌, List, ℕ, ◌-◌, ◌%◌, ◌≤◌}
 use Rattle.aes_keys.specs.RoundKeys.{Keyed, key_of}
 use Rattle.aes_keys.specs.declared.KeySchedule.TheInside.{Inside}

@@ -217,7 +217,7 @@ pub fn key_schedule(sbox: &Sbox, key: &[u8]) -> [[[u8; 4]; 4]; 15]
     schedule_256(sbox, key)
 }
 
-// A round key, its columns one after the other: a struct holds no array of arrays. A clause sees the columns.
+// A round key, its columns one after the other, since a struct literal holds no array of arrays. A clause sees the columns.
 #[derive(Drop)]
 struct RoundKey {
     bytes: [u8; 16],
@@ -309,7 +309,7 @@ impl KeySchedule {
         KeySchedule::of_round_keys(&key_schedule(sbox, key), key.len() / 4 + 6)
     }
 
-    // The schedule of the key that these round keys are those of.
+    // The schedule that these round keys make, those of the key that they begin with.
     pub fn of_round_keys(keys: &[[[u8; 4]; 4]; 15], rounds: usize) -> Self
         requires bounds { (10 ≤ rounds) × (rounds ≤ 14) × (rounds % 2 ≡ 0) }
         requires keyed { Keyed (rounds - 6) (key_of (rounds - 6) keys.now) keys.now }

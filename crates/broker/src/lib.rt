@@ -39,8 +39,6 @@ pub fn check_record(
         (record { tree = tree.exit.now; leaf_commitments = leaf_commitments.new; q = q.new })
         result }
 {
-    match record_reading::front_of(record) {
-        Ok(f) => record_check::check_front(record, f, tree, leaf_commitments, q),
-        Err(refusal) => Answer::from(refusal),
-    }
+    let front = record_reading::front_of(record);
+    record_check::check_front(record, front, tree, leaf_commitments, q)
 }

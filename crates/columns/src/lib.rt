@@ -69,8 +69,8 @@ fn block_at(d: &[u8], at: usize) -> [u8; 16]
     block
 }
 
-// Xors n bytes of d from byte `from` on into those from byte `to` on, which stand before them. By blocks, for which the compiler sees that they do not overlap;
-// so a turn goes on by 16 bytes or by one, and no range counts it.
+// Xors n bytes of d from byte `from` on into those from byte `to` on, which stand before them. By blocks, for which the compiler sees that they do not overlap.
+// The loop is a `while`, since a turn goes on by 16 bytes or by one.
 fn xor_within(d: &mut [u8], from: usize, to: usize, n: usize)
     requires { (to + n ≤ from) × (from + n ≤ length d.old) }
     ensures { Xored to (to + n) (λ p. get_or d.old (from + (p - to)) 0) d.old d.new }

@@ -115,7 +115,7 @@ fn element<const N: usize>(s: &[u8]) -> [u64; N]
     r
 }
 
-// An entry of a table: an element, and limbs that are zero.
+// An entry of a table: an element, and limbs that are zero. Entries are made once a key.
 fn padded<const N: usize>(x: [u64; N]) -> [u64; 12]
     requires { N ≤ 12 }
     ensures { number 64 result ≡ number 64 x.entry }

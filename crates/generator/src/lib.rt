@@ -150,7 +150,7 @@ pub fn fill_keyed(sbox: &Sbox, schedule: &KeySchedule, x: Nonce, first: usize, o
     requires { first + length out.old < 2 ^ 32 }
     ensures { out.new ≡ tabulate (length out.old) (λ p. byte_of (words schedule.now) schedule.now x (first + p)) }
 {
-    // a turn goes on by what it stored: the first block is cut in front, the last behind
+    // a `while`, since a turn goes on by what it stored: the first block is cut in front, the last behind
     let mut p = 0;
     while p < out.len() {
         let at = first + p;

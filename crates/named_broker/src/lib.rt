@@ -44,7 +44,7 @@ pub fn check_named(
         result }
 {
     match named_front(record) {
-        Ok(f) => record_check::check_front(record, f, tree, leaf_commitments, q),
+        Ok(f) => record_check::check_front(record, Ok(f), tree, leaf_commitments, q),
         Err(refusal) => Answer::from(refusal),
     }
 }

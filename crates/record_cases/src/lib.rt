@@ -28,19 +28,19 @@ pub enum Form {
 
 // The version of a record: 1, or that in which the writer writes its shape.
 #[derive(Clone, Copy, PartialEq, Eq)]
-pub enum RecordVersion {
+pub enum CheckedVersion {
     One,
     Written,
 }
 
 // Puts the n bytes of a record that the writer wrote into the version that is asked for, and answers how many they are then. The first field of version 1 has
 // no level, and what is behind it stands a byte before.
-fn to_version(version: RecordVersion, bytes: &mut [u8], n: usize) -> usize
+fn to_version(version: CheckedVersion, bytes: &mut [u8], n: usize) -> usize
     requires { 15 ≤ length bytes.old }
 {
     match version {
-        RecordVersion::Written => n,
-        RecordVersion::One => {
+        CheckedVersion::Written => n,
+        CheckedVersion::One => {
             bytes[0] = 1;
             bytes[4] = 9;
             bytes.copy_within(15.., 14);
@@ -88,7 +88,7 @@ pub fn run_record(
     c: &Call,
     x: &Inputs,
     form: Form,
-    version: RecordVersion,
+    version: CheckedVersion,
 ) -> io::Result<()> {
     let alloc = rt.alloc();
     let mut buffers = Buffers::new(alloc)?;

@@ -7,7 +7,7 @@ ghost use Rattle.spec.specs.Shapes.{resolved, hash_bytes, shape_ok};
 ghost use Rattle.spec.specs.Primitives.{faest};
 ghost use Rattle.record.specs.Record.{contents_of, read_number};
 ghost use Rattle.record.specs.RecordCalls.{CheckRecord};
-ghost use Rattle.record_reading.specs.Front.{FrontOf, SizesOf};
+ghost use Rattle.record_reading.specs.Front.{FrontOf, ReadFront, SizesOf};
 
 use record_reading::{Front, RecordRefusal, Sizes};
 use spec::Answer;
@@ -148,8 +148,8 @@ fn check_fields(
     )
 }
 
-// The check of a record whose front is read.
-pub fn check_front(
+// The check of a record whose front is read and not refused.
+fn check_read(
     record: &[u8],
     f: Front,
     tree: &mut [u8],
@@ -167,4 +167,24 @@ pub fn check_front(
         return Answer::from(RecordRefusal::NotARecord);
     }
     check_fields(record, f, z, tree, leaf_commitments, q)
+}
+
+// The check of a record whose front is read, or refused.
+pub fn check_front(
+    record: &[u8],
+    front: Result<Front, RecordRefusal>,
+    tree: &mut [u8],
+    leaf_commitments: &mut [u8],
+    q: &mut [u8],
+) -> Answer
+    requires { ReadFront «record».now front }
+    ensures { CheckRecord faest «record».now
+        (record { tree = tree.entry.now; leaf_commitments = leaf_commitments.old; q = q.old })
+        (record { tree = tree.exit.now; leaf_commitments = leaf_commitments.new; q = q.new })
+        result }
+{
+    match front {
+        Ok(f) => check_read(record, f, tree, leaf_commitments, q),
+        Err(refusal) => Answer::from(refusal),
+    }
 }

@@ -7,7 +7,8 @@ ghost use Rattle.refusals.specs.Refusal.{number_of, count_of, number_in, answer_
 
 use spec::{Answer, Shape, Stretch};
 
-// The refusals, by the words of documents 01 and 02; their numbers stand in ../specs/Refusal.antt. Two come with the count of revealed nodes.
+// The refusals that calls of the two halves share, by the words of documents 01 and 02; their numbers stand in ../specs/Refusal.antt. Two come with the count of
+// revealed nodes. 7 and 12 are of the programs, 9, 10, 11 and 13 of the record.
 #[derive(Clone, Copy, Debug, PartialEq, Eq)]
 pub enum Refusal {
     NotAShape,

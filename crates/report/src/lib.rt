@@ -79,7 +79,7 @@ fn entry(bytes: &[u8]) -> Entry
     }
 }
 
-// Puts a line for each record of the input, and the totals behind them. A turn goes on by the bytes of a record.
+// Puts a line for each record of the input, and the totals behind them. The loop is a `while`, since a turn goes on by a record.
 fn put_entries(input: &[u8], out: &mut [u8]) -> usize
     requires { (length input.now ≤ 65536) × (65600 ≤ length out.old) }
     ensures { Put (entries_text (entries input.now)) 0 out.old out.new result }

@@ -28,7 +28,7 @@ pub fn add_row(sbox: &Sbox, seed: &[u8], x: Nonce, first: usize, sum: &mut [u8])
 {
     let schedule = KeySchedule::new(sbox, seed);
     let b = sum.len();
-    // a turn goes on by what it added
+    // a `while`, since a turn goes on by what it added
     let mut at = 0;
     while at < b {
         let p = first + at;

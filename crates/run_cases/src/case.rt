@@ -1,7 +1,7 @@
 // A case: how a line is read as one, and how it is run.
 use case_text::{Bytes, Unreadable, Words};
 use job::Version;
-use record_cases::{Form, RecordVersion, run_record};
+use record_cases::{CheckedVersion, Form, run_record};
 use spec::Shape;
 use std::io;
 use test_support::lengths::Rows;
@@ -13,7 +13,7 @@ pub enum Case {
     // Commit, open and reconstruct; where a byte of the opening is flipped before reconstruct, its place.
     Calls(Call, Inputs, Option<usize>),
     List(ListCall, Shape, Bytes),
-    Record(Call, Inputs, Form, RecordVersion),
+    Record(Call, Inputs, Form, CheckedVersion),
     // One call on buffers of which one may have a wrong length.
     ProbeCommit(Call, Probe),
     ProbeOpen(Call, Probe),
@@ -138,9 +138,9 @@ fn record(form: Form, words: &mut Words<'_>) -> Result<Case, Unreadable> {
     let shape = words.shape()?;
     let written = if shape.kind == 1 { 3 } else { 2 };
     let version = if number == 1 {
-        RecordVersion::One
+        CheckedVersion::One
     } else if number == written {
-        RecordVersion::Written
+        CheckedVersion::Written
     } else {
         return Err(Unreadable);
     };

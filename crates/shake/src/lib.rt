@@ -1,11 +1,11 @@
 // The sponge of FIPS 202, section 4, with the suffix and padding of SHAKE (section 6.2), and the hashes H0 and H1 of document 000, section 3.3.
-// The rate, in bytes, is a parameter: 168 is SHAKE128, 136 SHAKE256. A block has room for the larger; at rate 136 its last 32 bytes stay zeros.
+// The rate, in bytes, is a field of the sponge: 168 is SHAKE128, 136 SHAKE256. A block has room for the larger; at rate 136 its last 32 bytes stay zeros.
 #![tactic(auto)]
 
 ghost use Rattle.std.specs.Prelude.{◌≡◌, List, [], ◌∷◌, ◌++◌, ℕ, ◌+◌, ◌-◌, ◌<◌, ◌≤◌, length, take};
 ghost use Rattle.spec.specs.Bytes.{tabulate, zeros, number, digits};
 ghost use Rattle.spec.specs.Keccak.{keccak_f};
-ghost use Rattle.spec.specs.Sponge.{xor_in, state_byte, padding, output_byte, shake_suffix, shake};
+ghost use Rattle.spec.specs.Sponge.{xor_in, state_byte, padding, output_byte, shake_suffix, shake, absorbed_all};
 ghost use Rattle.spec.specs.Hashes.{hash0, hash1};
 
 // A sponge at its rate, in bytes: the state, and how many bytes of a block that is not full yet are xored into it. A block has room for the rate of SHAKE128.
@@ -141,7 +141,7 @@ impl Sponge {
         }
     }
 
-    // Absorbs more of the message. A turn goes on by the part that fits into the block.
+    // Absorbs more of the message. The loop is a `while`, since a turn goes on by the part that fits into the block.
     pub fn absorb(self, message: &[u8]) -> Sponge
         ensures { Absorbs self message.now result }
     {
@@ -155,8 +155,8 @@ impl Sponge {
         sponge
     }
 
-    // Fills out with the output of a state that has absorbed whole blocks, block by block. Between two blocks, and only there, the state is permuted.
-    fn squeeze_blocks(self, out: &mut [u8])
+    // Fills out with the output of a state that has absorbed whole blocks, block by block. The loop is a `while`, since a turn goes on by a block or what is left.
+    pub fn squeeze_blocks(self, out: &mut [u8])
         ensures { out.new ≡ tabulate (length out.old) (output_byte self.rate self.lanes) }
     {
         let rate = self.rate;
@@ -172,13 +172,20 @@ impl Sponge {
         }
     }
 
-    // Fills out with SHAKE of what the sponge has absorbed: the suffix and the padding end the last block.
-    pub fn squeeze(self, out: &mut [u8])
-        ensures { (m : List ℕ) → Absorbed self m → out.new ≡ shake self.rate m (length out.old) }
+    // Absorbs the suffix and the padding, which end the last block.
+    pub fn finish(self) -> Sponge
+        ensures { (result.rate ≡ self.rate) × ((m : List ℕ) → Absorbed self m → result.lanes ≡ absorbed_all self.rate shake_suffix m) }
     {
         let n = self.rate - self.fill;
         let block = padding_block(n);
-        let padded = self.absorb_part(&block[..n]);
+        self.absorb_part(&block[..n])
+    }
+
+    // Fills out with SHAKE of what the sponge has absorbed.
+    pub fn squeeze(self, out: &mut [u8])
+        ensures { (m : List ℕ) → Absorbed self m → out.new ≡ shake self.rate m (length out.old) }
+    {
+        let padded = self.finish();
         padded.squeeze_blocks(out);
     }
 

@@ -1,6 +1,6 @@
 -- The front is read, and the lengths are those of the resolved shape and its rows.
 use native.Mathlib.Omega.{arith}
-use mathlib.Core.Path.{refl, sym, ap, ap₂, ◌∙◌}
+use mathlib.Core.Path.{refl, ap, ap₂, ◌∙◌}
 use borrow.Author.Tests.{ne_eqb}
 use Rattle.spec.specs.Shapes.{tree_bytes, leaf_commitments_bytes, matrix_bytes}
 use Rattle.record_reading.specs.Front.{number_of}

@@ -6,7 +6,7 @@ use Rattle.record_reading.proofs.Fronts.{numbered}
 use Rattle.named_broker.proofs.check_named.Goals as goal
 
 pub check_front-requires : goal.check_front-requires
-check_front-requires c = c.in-Ok.ensures.said
+check_front-requires c = record { number = sym c.in-Ok.ensures.said.read; said = c.in-Ok.ensures.said }
 
 pub returns-in-Ok : goal.returns-in-Ok
 returns-in-Ok c = same-as-record faest _ (front-passed _ (sym c.in-Ok.ensures.number)) _ _ _ c.check_front.ensures

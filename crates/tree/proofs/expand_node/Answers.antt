@@ -1,4 +1,4 @@
--- What `key_schedule` and `fill_keyed` ensure of the parts they are lent.
+-- What `KeySchedule::new` and `fill_keyed` ensure of the parts they are lent.
 use mathlib.Core.Path.{◌≡◌, sym, ap, ap₂, ◌∙◌}
 use mathlib.Core.List.{List, ◌++◌}
 use Prim.Native.Nat.{ℕ, ◌+◌, ◌-◌, ◌*◌, ◌/◌, ◌%◌, ◌^◌, ◌≤◌, ◌<◌}
