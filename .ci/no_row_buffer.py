@@ -1,7 +1,8 @@
 #!/usr/bin/env python3
 """Document 02, E5: outside the lent buffers no array holds more than 16 bytes of a row, or of a sum of rows.
 
-Shown of the public functions of both halves, those of version 2 and those of version 1 (document 02, E12), and of all that they call, from their .rt files:
+Shown of the public functions of both halves, those of version 2 and those of version 1 (document 02, E12), and of all that they call but the tests that they
+begin with (TESTS), from their .rt files:
 
 1. Where bytes of rows begin. A block that AES gives is one of a row, unless a crate of NO_ROWS asks for it, no number of 2^30 or more is in what its tweak is
    made of (a row's tweak is 2^31 + i), and no byte of a leaf's seed is in what its key is made of (version 1 has no tweak: there the key alone tells a row).
