@@ -1,7 +1,8 @@
 #!/usr/bin/env python3
 """Document 02, E5: outside the lent buffers no array holds more than 16 bytes of a row, or of a sum of rows.
 
-Shown of the public functions of both halves, those of version 2 and those of version 1 (document 02, E12), and of all that they call, from their .rt files:
+Shown of the public functions of both halves, those of version 2 and those of version 1 (document 02, E12), and of all that they call but the tests that they
+begin with (TESTS), from their .rt files:
 
 1. Where bytes of rows begin. A block that AES gives is one of a row, unless a crate of NO_ROWS asks for it, no number of 2^30 or more is in what its tweak is
    made of (a row's tweak is 2^31 + i), and no byte of a leaf's seed is in what its key is made of (version 1 has no tweak: there the key alone tells a row).
@@ -34,14 +35,19 @@ NO_ROWS = {'tree': 'nodes', 'leaf': 'seeds and leaf commitments', 'signer_forest
 # the function that makes the seeds of leaves, and the parameter to which it writes them
 SEEDS = 'leaf::commit_leaf', 'seed'
 GENERATOR, CIPHER, SUB_BYTES = 'generator', 'aes', 'aes_steps::sub_bytes'
+# the crates of the tests that calls begin with. They are not read: none reaches the generator, and what they are given has no byte of a row in it
+TESTS = ('refusals', 'plan_refusals', 'signer_refusals', 'verifier_refusals', 'slots')
 
 # the kit's functions that are called: the number of the argument to which they write the bytes of the others, or None where they return them
-KIT = {'slice::copy_from_slice': 0, 'std::num::wrapping_add_u32': None}
+KIT = {'spec::Answer::from': None, '.max': None, 'slice::copy_from_slice': 0, '.fill': 0, '.wrapping_add': None, '.min': None, '.iter': None, '.all': None, 'u64::from_le_bytes': None}
+# those of them that go by what the bytes are
+DECIDED = ('.all',)
 
 # each array above 16 bytes: its type, what it holds, and the crates that have it by value; others have it lent
 TABLE = {
     '[u8; 256]': ('the S-box of AES', 'aes_steps signer_commit reconstruction v1_signer v1_verifier'),
-    '[[[u8; 4]; 4]; 15]': ('the round keys of a key', 'aes_keys generator tree rows'),
+    '[[[u8; 4]; 4]; 15]': ('the round keys of a key', 'aes_keys'),
+    '[RoundKey; 15]': ('the same, stored in a key schedule', 'aes_keys generator tree rows'),
     '[[[u8; 4]; 4]; 8]': ('the first round keys of a key of 8 words', 'aes_keys'),
     '[[[u8; 4]; 4]; 7]': ('the later ones', 'aes_keys'),
     '[[[u8; 4]; 6]; 8]': ('the words of a key schedule, for a key of 6 words', 'aes_keys'),
@@ -50,11 +56,9 @@ TABLE = {
     '[u8; 128]': ('a leaf stretched: its seed, and what the leaf hash is xored to; in version 1 a leaf hashed: its seed and its commitment', 'leaf'),
     '[u8; 48]': ('what version 1 hashes of a leaf: its key and the IV', 'leaf'),
     '[u8; 32]': ('a seed', 'vector'),
-    '[[u64; 12]; 16]': ('the multiples of a hash key', 'field_384 field_576 field_768 leaf_hash leaf signer_vectors verifier_vector'),
-    '[u64; 6]': ('an element of the field of the leaf hash, of 384 bits', 'field_384'),
-    '[u64; 9]': ('of 576 bits', 'field_576'),
-    '[u64; 12]': ('of 768 bits, or one of the multiples', 'field_384 field_576 field_768'),
-    '[u64; 25]': ('the lanes of a sponge', 'keccak shake verifier_vector'),
+    '[[u64; 12]; 16]': ('the multiples of a hash key', 'field leaf_hash leaf signer_vectors verifier_vector'),
+    '[u64; 12]': ('an element of a field of the leaf hash, of 384, 576 or 768 bits, or one of the multiples', 'field'),
+    '[u64; 25]': ('the lanes of a sponge', 'keccak shake'),
     '[u64; 24]': ('the round constants of Keccak', 'keccak'),
     '[u64; 5]': ('the parities of Keccak\'s columns, or a plane of its state', 'keccak'),
     '[u8; 168]': ('a block of the sponge', 'shake'),
@@ -155,14 +159,26 @@ class Frame:
         given = [self.label(part) for part in e.parts]
         full = self.p.find(self.f.crate, e.info)
         if full in KIT:
-            every = self.union(e)
+            every = self.decided(e, e.parts) if full in DECIDED else self.union(e)
             return every if KIT[full] is None else self.mark(e.parts[KIT[full]], every) or 0
+        if full.split('::')[0] in TESTS:
+            return self.tested(e, full)
         callee = self.p.functions[full]
         made = self.callees[id(e)] = self.test.run(callee, tuple(self.given(callee, given)))
         for part, t, out in zip(e.parts, callee.params.values(), made.outs):
             if is_a(t, 'ref') and t[1]:
                 self.mark(part, out)
         return made.result
+
+    def tested(self, e, full):
+        """A call of the tests of a call: bytes of rows are none of what it is given, and so none of what it writes and answers."""
+        every = self.union(e)
+        if every & ROWS:
+            self.test.fault(f'{full} is given bytes of rows by {self.f.name}')
+        for part in e.parts:
+            if part.kind == 'lent' and part.info:
+                self.mark(part.parts[0], every)
+        return every
 
     def given(self, callee, labels):
         """What the arguments of a call bring: who asks for blocks may ask for a row's, and so does who gives a seed for a key; what AES is given to encrypt
@@ -184,6 +200,7 @@ class Held:
     def __init__(self, frame):
         self.frame, self.f, self.types, self.fault = frame, frame.f, frame.types, frame.test.fault
         self.own = self.chain = 0
+        self.again = frozenset()  # what is still to be read at the end of a turn of the loop
         self.sizes = {}
         for name, t in self.types.names.items():
             if frame.labels[name] & ROWS and not is_a(t, 'ref'):
@@ -255,6 +272,8 @@ class Held:
             return self.before(e.parts[0], frozenset().union(*ways))
         if e.kind in ('while', 'for'):
             return self.before_loop(e, after)
+        if e.kind == 'continue':
+            return self.again
         if e.kind == 'return':
             return self.before(e.parts[0], frozenset()) if e.parts else frozenset()
         path = e.info[0] if e.kind == 'let' else self.path(e.parts[0]) if e.kind == 'set' else None
@@ -267,11 +286,13 @@ class Held:
 
     def before_loop(self, e, after):
         *first, body = e.parts
-        now = None
+        now, outer = None, self.again
         while now != after:
             now = after
             for part in [body] + (first if e.kind == 'while' else []):
+                self.again = after
                 after = now | self.before(part, after)
+        self.again = outer
         for part in first:
             after = self.before(part, after)
         return after
@@ -298,7 +319,9 @@ class Test:
                 full = self.p.find(f.crate, e.info) if e.kind == 'call' else None
                 if full in self.p.functions:
                     self.reached[name] |= self.reach(full)
-                elif full and full not in KIT:
+                elif full and full[0] == '.' and full not in KIT:
+                    raise Refused(f'a method of {name} that is not known: {full[1:]}')
+                elif full and full not in KIT and full.split('::')[0] not in TESTS:
                     raise Refused(f'a call of {name} that is not found: {full}')
         return self.reached[name]
 
@@ -347,12 +370,18 @@ def check(texts):
 
 def sources():
     needs = crate_lines((TOP / 'crates.txt').read_text(encoding='utf-8'))
+    if GENERATOR in closure(needs, TESTS):
+        raise Refused('the tests of the calls reach the generator')
     texts = {}
     for name in sorted(closure(needs, HALVES)):
         files = list((TOP / 'crates' / name / 'src').glob('*.rt'))
         if [f.name for f in files] != ['lib.rt']:
             raise Refused(f'crate {name} has other files than lib.rt')
         texts[name] = files[0].read_text(encoding='utf-8')
+        if name in TESTS:
+            # nothing that could hold a row: no array but an empty one
+            if re.search(r';\s*\w+\s*\]', re.sub(r'//[^\n]*', '', texts.pop(name))):
+                raise Refused(f'{name} has an array')
     return texts
 
 
@@ -371,13 +400,13 @@ def edited(texts, edits):
 
 
 def block(n):
-    return f'generator::block(t, &aes::key_schedule(t, seed), 10, x, {n})'
+    return f'generator::block(sbox, &KeySchedule::new(sbox, seed), x, {n})'
 
 
 def at(n):
     """A function that makes block n, calls the next such function, and only then adds its block."""
-    head = f'fn at_{n}(t: &[u8; 256], seed: &[u8], x: Nonce, sum: &mut [u8])'
-    return head + f'{{ let one = {block(n)}; ' + (f'at_{n + 1}(t, seed, x, sum); ' if n < 4 else '') + f'add_block(one, 0, {16 * n}, sum); }}'
+    head = f'fn at_{n}(sbox: &Sbox, seed: &[u8], x: Nonce, sum: &mut [u8])'
+    return head + f'{{ let one = {block(n)}; ' + (f'at_{n + 1}(sbox, seed, x, sum); ' if n < 4 else '') + f'add_block(one, 0, {16 * n}, sum); }}'
 
 
 def with_tweak(tweak):
@@ -391,7 +420,7 @@ def stretched_with(tweak):
 
 
 ROW = [f'x{n}' for n in range(14)]
-STRETCH = 'stretch_leaf(t, m, s, key, x, &mut stretched'
+STRETCH = 'stretch_leaf(sbox, m, s, key, x, &mut stretched'
 FORMS = ('leaf', '', 'pub enum Form { One, Two }')
 ARMS = 'match Form::Two { Form::One => { tweak } Form::Two => tweak + %s, }'
 
@@ -399,11 +428,11 @@ ARMS = 'match Form::Two { Form::One => { tweak } Form::Two => tweak + %s, }'
 EDITS = [
     ('[u8; 8192] in rows::add_row (row) is not in the table', ('rows', 'fn add_row', 'let mut row = [0u8; 8192];')),
     ('row of rows::add_row, [u8; 32], holds bytes of rows',
-     ('rows', 'fn add_row', 'let mut row = [0u8; 32]; generator::fill(t, seed, x, 0, &mut row);')),
+     ('rows', 'fn add_row', 'let mut row = [0u8; 32]; generator::fill(sbox, seed, x, 0, &mut row);')),
     ('pair of rows::add_row, Blocks, holds bytes of rows',
      ('aes', 'pub first: [u8; 16],\n    pub second: [u8; 16],', 'pub both: [[u8; 16]; 2],'),
-     ('aes', 'first: bytes_of(last_round(t, x, keys[n])),\n        second: bytes_of(last_round(t, y, keys[n])),',
-      'both: [bytes_of(last_round(t, x, keys[n])), bytes_of(last_round(t, y, keys[n]))],'),
+     ('aes', 'first: bytes_of(last_round(sbox, x, schedule.round_key(n))),\n        second: bytes_of(last_round(sbox, y, schedule.round_key(n))),',
+      'both: [bytes_of(last_round(sbox, x, schedule.round_key(n))), bytes_of(last_round(sbox, y, schedule.round_key(n)))],'),
      *((crate, 'pair.' + old, 'pair.' + new) for crate in ('rows', 'generator') for old, new in (('first', 'both[0]'), ('second', 'both[1]')))),
     ('pair of vector::add_leaf, [u8; 32], holds bytes of rows',
      ('vector', 'fn add_leaf', 'let mut pair = [0u8; 32]; buffers::copy_part(sum, 0, 32, &mut pair, 0);')),
@@ -411,7 +440,7 @@ EDITS = [
     ('[u8; 8192] in signer_vectors::next_vector (sum) is not in the table', ('signer_vectors', 'fn next_vector', 'let mut sum = [0u8; 8192];')),
     ('hashes of signer_commit::write_commitment, [u8; 2048], holds bytes of rows', ('signer_vectors', 'fn convert', 'columns::add_part(hash, cols, 0);')),
     ('a form of rows::add_row that cannot be read: const ROW', ('rows', 'fn add_row', 'const ROW: [u8; 64] = [0; 64];')),
-    ('keys of tree::expand_node, [[[u8; 4]; 4]; 15], holds bytes of rows', ('signer_tree', 'iv, a, tree);', 'iv, a + 2147483648, tree);')),
+    ('schedule of tree::expand_node, KeySchedule, holds bytes of rows', ('signer_tree', 'iv, a, tree);', 'iv, a + 2147483648, tree);')),
     ('an item of columns that cannot be read: type Row', ('columns', '', 'type Row = u8;')),
     ('a method of rows::add_row that is not known: to_vec', ('rows', 'fn add_row', 'let copy = sum.to_vec();')),
     ('a call of leaf::hash_leaf_in_place that is not found: leaf::byte', ('leaf', '[0u8; 48]', '[byte(); 48]')),
@@ -423,10 +452,12 @@ EDITS = [
      ('rows', 'fn add_row', 'let row = Row { ' + ', '.join(f'{x}: {block(n)}' for n, x in enumerate(ROW)) + ' }; add_block(row.x0, 0, 0, sum);')),
     ('rows::add_row holds 224 bytes of rows at once',
      ('rows', 'fn add_row', ''.join(f'let {x} = {block(n)}; ' for n, x in enumerate(ROW)) + ''.join(f'add_block({x}, 0, 0, sum); ' for x in ROW))),
-    ('hold 80 bytes of rows at once', ('rows', 'fn add_row', 'at_0(t, seed, x, sum);'), ('rows', '', ''.join(map(at, range(5))))),
+    ('hold 80 bytes of rows at once', ('rows', 'fn add_row', 'at_0(sbox, seed, x, sum);'), ('rows', '', ''.join(map(at, range(5))))),
     ('rows::again calls itself', ('rows', 'fn add_row', 'again(sum);'), ('rows', '', 'fn again(sum: &mut [u8]) { again(sum); }')),
+    ('held of rows::add_row, KeySchedule, holds bytes of rows',
+     ('rows', 'let mid =', 'let mut held = schedule; held.round_keys[0].bytes = one; let mid =')),
     ('held of rows::add_row, [[[u8; 4]; 4]; 15], holds bytes of rows',
-     ('rows', 'let mid =', 'let mut held = keys; held[0] = aes::load_state(&one); let mid =')),
+     ('rows', 'let mid =', 'let mut held = [[[0u8; 4]; 4]; 15]; held[0] = aes::load_state(&one); let mid =')),
     # the tweak of rows for a leaf, however it is written
     *map(stretched_with, ('0x80000000', '0x8000_0000u32', '0b1 << 31', 'tweak + 2_147_483_648', 'tweak + 2 * HALF', 'leaf_tweak(HALF as usize, HALF as usize)',
                           ARMS % '0x80000000')),
@@ -446,10 +477,21 @@ EDITS = [
     ('hashes of v1_verifier::write_reconstruction, [u8; 2048], holds bytes of rows', ('v1_verifier', 'fn write_all', 'buffers::copy(corrections, hashes);')),
     ('roots of signer_forest::grow_trees, [u8; 1024], holds bytes of rows', ('signer_forest', 'tweak: 0,', 'tweak: 2147483648,')),
     ('row of leaf::commit_leaf, [u8; 128], holds bytes of rows',
-     ('leaf', 'fn commit_leaf', 'let mut row = [0u8; 128]; generator::fill(t, seed, x, 0, &mut row);')),
-    ('keys of tree::expand_node, [[[u8; 4]; 4]; 15], holds bytes of rows',
-     ('vector', 'fn add_leaf', 'tree::expand_node(t, 16, Version::One, [0u8; 16], 0, seed);')),
+     ('leaf', 'fn commit_leaf', 'let mut row = [0u8; 128]; generator::fill(sbox, seed, x, 0, &mut row);')),
+    ('schedule of tree::expand_node, KeySchedule, holds bytes of rows',
+     ('vector', 'fn add_leaf', 'tree::expand_node(sbox, 16, Version::One, [0u8; 16], 0, seed);')),
+    ('a branch, a loop or a bound of vector::add_leaf depends on bytes of rows', ('vector', 'fn add_leaf', 'let clear = sum[0..8].iter().all(|x| *x == 0);')),
+    ('a closure of vector::add_leaf that is not a test', ('vector', 'fn add_leaf', 'let clear = sum[0..8].iter().all(|x| held(*x));')),
     ('a branch, a loop or a bound of vector::add_leaf depends on bytes of rows', ('vector', 'fn add_leaf', 'if sum[0] == 1 { seed[0] = 1; }')),
+    # through a method, a const parameter, and the code of a trait's impl
+    ('sponge of vector::add_leaf, Sponge, holds bytes of rows',
+     ('vector', '', 'use shake::Sponge;'), ('vector', 'fn add_leaf', 'let sponge = Sponge::new(168).absorb(sum);')),
+    ('x of vector::first, [u8; 32], holds bytes of rows',
+     ('vector', '', 'fn first<const N: usize>(x: [u8; N]) -> u8 { x[0] }'),
+     ('vector', 'fn add_leaf', 'let mut pair = [0u8; 32]; buffers::copy_part(sum, 0, 32, &mut pair, 0); seed[0] = first::<32>(pair);')),
+    ('[u64; 40] in field::Field::reduce (many) is not in the table', ('field', 'c ^ (c << 2)', 'let many = [0u64; 40]; c ^ (c << 2)')),
+    # the tests that a call begins with, given bytes of rows
+    ('verifier_refusals::test_reconstruct is given bytes of rows by verifier::reconstruct_stretch', ('verifier', 'x, challenge, opening)', 'x, corrections, opening)')),
 ]
 ALLOWED = [
     [('leaf', STRETCH, with_tweak(ARMS % '1')), FORMS],

@@ -16,10 +16,10 @@ from sources import TOP, Refused, closure, crate_lines
 CRATES, README = 'crates.txt', 'README.md'
 
 GROUPS = {
-    'base': 'spec laws planning_laws numbers rules refusals v1_rules lengths buffers job host_words',
+    'base': 'spec laws planning_laws rules refusals v1_rules lengths buffers job host_words',
     'planning': 'challenge planning plan_refusals',
     'decode and plan': 'shape shape_host',
-    'primitives': 'aes_steps aes_keys aes generator keccak shake field_limbs field_384 field_576 field_768 leaf_hash',
+    'primitives': 'aes_steps aes_keys aes generator keccak shake field leaf_hash',
     'vectors': 'tree leaf columns rows vector',
     'signing': 'signer_refusals signer_tree signer_vectors signer_commit opening signer_open signer signer_host',
     'signing of version 1': 'signer_forest v1_opening v1_signer v1_signer_host',

@@ -2,9 +2,10 @@
 never passed over.
 
 An expression or a statement is a Node: its kind, what it says beside its parts, and its parts. The kinds, with what they say: number (value, type),
-bytes (length), name (path), call (path), array, repeat, struct (name, fields), field (name), index, part, len, lent (mutable), unary and binary (operator),
-cast (type), if, match, block; let (name, mutable, type), set (of a place and a value), while, for (name), return, do, and value, the value of its block.
-A type is a name, ('ref', mutable, type), ('slice', type) or ('array', type, length).
+bytes (length), name (path), call (path; of a method '.' and its name, and what it is called of is lent to it), array, repeat, struct (name, fields),
+field (name), index, part, len, lent (mutable), unary and binary (operator), cast (type), test (name; a closure), if, match, block; let (name, mutable, type),
+set (of a place and a value), while, for (name), return, continue, do, try (an expression with ? behind it), and value, the value of its block.
+A type is a name, without its arguments, ('ref', mutable, type), ('slice', type) or ('array', type, length).
 """
 import operator
 import re
@@ -51,14 +52,16 @@ KEYWORDS = set('as break const continue else enum extern fn for if impl in let l
 
 def tokens(text):
     text = re.sub(r'//[^\n]*', '', text)
-    return TOKEN.findall(re.sub(r'^ghost use [^;]*;', '', text, flags=re.M))
+    return TOKEN.findall(re.sub(r'^ *ghost use [^;]*;', '', text, flags=re.M))
 
 
 class Reader:
     """Reads what begins at token i; `of` is the crate or the function that it belongs to, for messages."""
 
-    def __init__(self, ts, of):
-        self.ts, self.i, self.of = ts, 0, of
+    def __init__(self, ts, of, most=0):
+        self.ts, self.i, self.of, self.most = ts, 0, of, most
+        # of the function that is read: the trait of each type parameter, and what each const parameter is measured as
+        self.bounds, self.numbers = {}, {}
 
     def peek(self):
         return self.ts[self.i] if self.i < len(self.ts) else ''
@@ -101,10 +104,45 @@ class Reader:
         return t
 
     def path(self):
+        """A path without the arguments behind `::<`. What is named by a type parameter is its trait's."""
         found = [self.word()]
+        found[0] = self.bounds.get(found[0], found[0])
         while self.skip('::'):
+            if self.arguments():
+                break
             found.append(self.word())
         return tuple(found)
+
+    def arguments(self):
+        """Passes over arguments between < and >, if they come next."""
+        if not self.skip('<'):
+            return False
+        self.list('>', self.next)
+        return True
+
+    def skip_arguments(self):
+        """Passes over the arguments of a type, whatever they are."""
+        depth = 0
+        while depth or self.peek() == '<':
+            t = self.next()
+            depth += (t == '<') - (t == '>')
+
+    def parameters(self):
+        """Type parameters, each with one trait for its bound, and const parameters. These are measured as the largest number that an impl or a call gives one;
+        where a call gives none, it is the length of an array that the caller has, which is measured there."""
+        self.bounds, self.numbers = {}, {}
+        while self.skip('<') or self.skip(','):
+            if self.skip('const'):
+                self.numbers[self.word()] = self.most
+                self.next(':')
+                self.next('usize')
+            else:
+                name = self.word()
+                self.next(':')
+                self.bounds[name] = self.word()
+                self.arguments()
+        if (self.bounds or self.numbers) and self.next('>') and self.numbers and not self.most:
+            raise Refused(f'a const parameter of {self.of} that cannot be measured')
 
     def type(self):
         if self.skip('&'):
@@ -112,13 +150,16 @@ class Reader:
                 self.next()
             return ('ref', self.skip('mut'), self.type())
         if not self.skip('['):
-            return self.path()[-1]
+            name = self.path()[-1]
+            self.skip_arguments()
+            return name
         inner = self.type()
         if self.skip(']'):
             return ('slice', inner)
         self.next(';')
         count = self.next()
         self.next(']')
+        count = str(self.numbers.get(count, count))
         if not count.isdigit():
             raise Refused(f'an array type of {self.of} that cannot be measured: {count}')
         return ('array', inner, int(count))
@@ -158,6 +199,8 @@ class Reader:
             return e
         if self.skip('['):
             return self.array()
+        if self.skip('|'):
+            return self.test()
         path = self.path()
         if self.skip('('):
             return Node('call', path, self.list(')', self.expression))
@@ -165,6 +208,15 @@ class Reader:
             fields = self.list('}', self.field)
             return Node('struct', (path[-1], [name for name, _ in fields]), [e for _, e in fields])
         return Node('name', path, [])
+
+    def test(self):
+        """A closure that asks something of a byte: names, numbers and operators alone."""
+        name = self.word()
+        self.next('|')
+        e = self.expression()
+        if any(part.kind not in ('name', 'number', 'unary', 'binary') for part in walk(e)):
+            raise Refused(f'a closure of {self.of} that is not a test')
+        return Node('test', name, [e])
 
     def array(self):
         one = self.expression()
@@ -182,9 +234,10 @@ class Reader:
 
     def behind(self, e):
         """Indices, parts, fields and lengths behind an expression."""
-        while self.peek() in ('[', '.'):
-            if self.next() == '[':
-                e = self.place(e)
+        while self.peek() in ('[', '.', '?'):
+            behind = self.next()
+            if behind != '.':
+                e = self.place(e) if behind == '[' else Node('try', None, [e])
                 continue
             name = self.next()
             if not self.skip('('):
@@ -196,7 +249,7 @@ class Reader:
                 # a call of the kit, which is lent the place that it writes to
                 e = Node('call', ('slice', name), [Node('lent', True, [e]), *self.list(')', self.expression)])
             else:
-                raise Refused(f'a method of {self.of} that is not known: {name}')
+                e = Node('call', ('.', name), [Node('lent', False, [e]), *self.list(')', self.expression)])
         return e
 
     def place(self, e):
@@ -215,18 +268,24 @@ class Reader:
         return Node('if', None, found)
 
     def match(self):
-        """A match on an enum without fields, or on a number: a pattern binds no name."""
+        """A match on an enum without fields or on a number, whose patterns bind no name, or on a result, of which they bind the count or the refusal."""
         self.next('match')
-        found = [self.expression(structs=False)]
+        of = self.expression(structs=False)
+        found = [of]
         self.next('{')
         while not self.skip('}'):
             start = self.i
             while not self.skip('=>'):
                 self.next()
             pattern = ' '.join(self.ts[start:self.i - 1])
-            if not re.fullmatch(r'(\w+( :: \w+)+|\d\w*|_)( \| (\w+( :: \w+)+|\d\w*))*', pattern):
+            result = re.fullmatch(r'(Ok|Err) \( (\( \)|\w+) \)', pattern)
+            if not result and not re.fullmatch(r'(\w+( :: \w+)+|\d\w*|_)( \| (\w+( :: \w+)+|\d\w*))*', pattern):
                 raise Refused(f'a pattern of {self.of} that cannot be read: {pattern}')
-            found.append(self.expression())
+            arm = self.expression()
+            if result and result[2] != '( )':
+                bound = Node('let', (result[2], False, 'usize' if result[1] == 'Ok' else 'Refusal'), [of])
+                arm = Node('block', None, [bound, Node('value', None, [arm])])
+            found.append(arm)
             self.skip(',')
         return Node('match', None, found)
 
@@ -241,6 +300,10 @@ class Reader:
 
     def statement(self):
         t = self.peek()
+        if t == 'continue':
+            self.next()
+            self.next(';')
+            return Node('continue', None, [])
         if t in ('let', 'while', 'for', 'return'):
             self.next()
             return {'let': self.let, 'while': self.repeated, 'for': self.counted, 'return': self.returned}[t]()
@@ -271,12 +334,41 @@ class Reader:
         return Node('while', None, [self.expression(structs=False), self.block()])
 
     def counted(self):
+        """A loop over a..b, over (a..b).rev(), or over the elements of &a or of a.iter_mut().enumerate(), which is read as a loop over their places."""
+        if self.skip('('):
+            return self.enumerated()
         name = self.word()
         self.next('in')
+        start = self.i
+        down = self.skip('(')
         low = self.expression(structs=False)
+        if down and self.peek() != '..':
+            self.i, down = start, False
+            low = self.expression(structs=False)
+        if low.kind == 'lent' and self.peek() == '{':
+            body, place = self.block(), 'place of ' + name
+            body.parts.insert(0, Node('let', (name, False, None), [Node('index', None, [low.parts[0], Node('name', (place,), [])])]))
+            return Node('for', place, [Node('number', (0, None), []), Node('len', None, low.parts), body])
         if not self.skip('..='):
             self.next('..')
-        return Node('for', name, [low, self.expression(structs=False), self.block()])
+        high = self.expression(structs=False)
+        for t in (')', '.', 'rev', '(', ')') if down else ():
+            self.next(t)
+        return Node('for', name, [low, high, self.block()])
+
+    def enumerated(self):
+        """A loop over the places of a lent list and its elements, which are written through their names."""
+        at = self.word()
+        self.next(',')
+        name = self.word()
+        for t in (')', 'in'):
+            self.next(t)
+        of = Node('name', (self.word(),), [])
+        for t in ('.', 'iter_mut', '(', ')', '.', 'enumerate', '(', ')'):
+            self.next(t)
+        element = Node('index', None, [of, Node('name', (at,), [])])
+        body = with_place(self.block(), Node('unary', '*', [Node('name', (name,), [])]), element)
+        return Node('for', at, [Node('number', (0, None), []), Node('len', None, [of]), body])
 
     def returned(self):
         found = [] if self.peek() == ';' else [self.expression()]
@@ -284,17 +376,23 @@ class Reader:
         return Node('return', None, found)
 
 
+def with_place(e, old, new):
+    """An expression or a statement with one part in the place of another."""
+    return new if e == old else Node(e.kind, e.info, [with_place(part, old, new) for part in e.parts])
+
+
 # ---- a program
 
 class Program:
-    """The functions, structs, enums without fields and constants of some crates, of which the texts are given, and what each crate makes public."""
+    """The functions, methods, structs, enums without fields and constants of some crates, of which the texts are given, and what each crate makes public."""
 
     def __init__(self, texts):
-        self.functions, self.structs, self.enums, self.consts = {}, {}, {}, {}
+        self.functions, self.structs, self.enums, self.consts, self.methods = {}, {}, {}, {}, {}
         self.names = {crate: {} for crate in texts}
         self.public = {crate: [] for crate in texts}
+        given = [n for text in texts.values() for n in re.findall(r'(?:^impl \w+|::)<[^<>()\n]*?\b(\d+)>', text, re.M)]
         for crate, text in texts.items():
-            r = Reader(tokens(text), crate)
+            r = Reader(tokens(text), crate, max(map(int, given), default=0))
             while r.peek():
                 self.item(crate, r)
 
@@ -306,7 +404,8 @@ class Program:
                 return
         public = r.skip('pub')
         word = r.next()
-        kinds = {'use': self.use, 'const': self.const, 'struct': self.struct, 'enum': self.enum, 'fn': self.function}
+        kinds = {'use': self.use, 'const': self.const, 'struct': self.struct, 'enum': self.enum, 'fn': self.function, 'trait': self.trait,
+                 'impl': self.impl}
         if word not in kinds:
             raise Refused(f'an item of {crate} that cannot be read: {word} {r.peek()}')
         name = kinds[word](crate, r)
@@ -314,9 +413,13 @@ class Program:
             self.public[crate] += name if word == 'use' else [name]
 
     def use(self, crate, r):
-        """A name of another crate, or several: `use a::b;`, `use a::{b, c};`."""
+        """A name of another crate, or several: `use a::b;`, `use a::{b, c};`. Of std's traits the one that says what a contract sees."""
         of = r.word()
         r.next('::')
+        if of == 'std' and r.skip('marker'):
+            for t in ('::', 'Model', ';'):
+                r.next(t)
+            return []
         names = r.list('}', r.word) if r.skip('{') else [r.word()]
         if r.peek() != ';':
             raise Refused(f'a use of {crate} that cannot be read: {of}::{names[-1]} {r.peek()}')
@@ -335,11 +438,45 @@ class Program:
 
     def struct(self, crate, r):
         name = r.word()
+        if r.skip(';'):
+            return crate + '::' + name
         r.next('{')
-        fields = dict(r.list('}', lambda: (r.skip('pub'), r.word(), r.next(':'), r.type())[1::2]))
+        fields = dict(filter(None, r.list('}', lambda: self.struct_field(r))))
         if self.structs.setdefault(name, fields) is not fields:
             raise Refused('two structs of one name: ' + name)
         return crate + '::' + name
+
+    def struct_field(self, r):
+        """A field's name and type; None for a ghost field, which is a fact and no value."""
+        r.skip('pub')
+        ghost = r.skip('ghost')
+        name = r.word()
+        r.next(':')
+        return r.skip_group() if ghost else (name, r.type())
+
+    def impl(self, crate, r):
+        """The functions of a struct, what a contract sees of it, or the functions of a trait for a type."""
+        owner = r.word()
+        r.arguments()
+        if r.skip('for'):
+            return self.model(crate, r) if owner == 'Model' else self.of_trait(crate, r, owner)
+        r.next('{')
+        while not r.skip('}'):
+            public = r.skip('pub')
+            r.next('fn')
+            name = self.function(crate, r, owner)
+            if public:
+                self.public[crate].append(name)
+        return owner
+
+    def model(self, crate, r):
+        """What a contract sees of a struct: ghost members alone."""
+        owner = r.word()
+        r.next('{')
+        while not r.skip('}'):
+            if not self.ghost(r):
+                raise Refused(f'an item of {crate} that cannot be read: impl Model for {owner}')
+        return owner
 
     def enum(self, crate, r):
         name = r.word()
@@ -347,37 +484,116 @@ class Program:
         self.enums[name] = r.list('}', r.word)
         return crate + '::' + name
 
-    def function(self, crate, r):
-        r.of = crate + '::' + r.word()
+    def trait(self, crate, r):
+        """Ghost members, and functions without a body: their code is in the impls."""
+        name = r.of = r.word()
+        r.parameters()
+        r.next('{')
+        while not r.skip('}'):
+            if self.ghost(r):
+                continue
+            r.next('fn')
+            self.head(r, '::'.join([crate, name, r.word()]))
+            r.next(';')
+        r.of = crate
+        return crate + '::' + name
+
+    def of_trait(self, crate, r, trait):
+        """The functions of a trait for a type without fields. A call of one by a bound is of any of its impls."""
+        r.word()
+        r.next('{')
+        while not r.skip('}'):
+            if self.ghost(r):
+                continue
+            r.next('fn')
+            name = '::'.join([crate, trait, r.word()])
+            params, result = self.head(r, name)
+            body = r.block()
+            other = self.functions.get(name)
+            if other and (other.crate, other.params, other.result) != (crate, params, result):
+                raise Refused('two functions of one name: ' + name)
+            if other:
+                one_of = Node('match', None, [Node('number', (0, 'u8'), []), other.body, body])
+                body = Node('block', None, [Node('value', None, [one_of])])
+            self.functions[name] = Function(crate, name, params, result, body)
+        r.of = crate
+
+    def ghost(self, r):
+        """Passes over a ghost member, if it comes next."""
+        if not r.skip('ghost'):
+            return False
+        while not r.skip(';'):
+            r.skip_group() if r.peek() == '{' else r.next()
+        return True
+
+    def head(self, r, name, owner=None):
+        """The parameters and the result behind a function's name."""
+        r.of = name
+        r.parameters()
+        self.consts.update({name.split('::')[0] + '::' + n: ('usize', Node('number', (most, 'usize'), [])) for n, most in r.numbers.items()})
         r.next('(')
-        params = dict(r.list(')', lambda: (r.skip('mut'), r.word(), r.next(':'), r.type())[1::2]))
-        result = r.type() if r.skip('->') else None
+        params = dict(r.list(')', lambda: self.param(r, owner)))
+        result = of_owner(r.type(), owner) if r.skip('->') else None
+        if 'self' in params and self.methods.setdefault(name.rsplit('::', 1)[1], name) != name:
+            raise Refused('two methods of one name: ' + name.rsplit('::', 1)[1])
         while r.peek() in ('requires', 'ensures'):
             r.next()
             if r.peek() != '{':
                 r.word()
             r.skip_group()
-        name = r.of
+        return params, result
+
+    def function(self, crate, r, owner=None):
+        name = '::'.join([crate, *[owner] * bool(owner), r.word()])
+        params, result = self.head(r, name, owner)
         self.functions[name] = Function(crate, name, params, result, r.block())
-        r.of = crate
+        r.of, r.bounds, r.numbers = crate, {}, {}
         return name
 
+    def param(self, r, owner):
+        """A parameter's name and type. In a struct's function the first may be the struct."""
+        lent = owner and r.skip('&')
+        mutable = r.skip('mut')
+        name = r.word()
+        if owner and name == 'self':
+            return name, ('ref', mutable, owner) if lent else owner
+        if lent:
+            raise Refused(f'a form of {r.of} that cannot be read: & {name}')
+        r.next(':')
+        return name, of_owner(r.type(), owner)
+
     def find(self, crate, path):
-        """The full name of the function or the constant that a crate calls by this path."""
-        full = '::'.join(path) if len(path) > 1 else crate + '::' + path[0]
-        while full not in self.functions and full not in self.consts:
+        """The full name of the function or the constant that a crate calls by this path; a method that is not there keeps its dot."""
+        if path[0] == '.':
+            return self.methods.get(path[1], '.' + path[1])
+        if len(path) == 2 and path[0] not in self.names and path[0][0].isupper():
+            # a function of a struct, by the struct's name here
+            struct = self.found(crate + '::' + path[0])
+            return struct + '::' + path[1]
+        return self.found('::'.join(path) if len(path) > 1 else crate + '::' + path[0])
+
+    def found(self, full):
+        """A name, or what stands for it where a crate has it from another."""
+        seen = set()
+        while full not in seen:
+            seen.add(full)
             owner, name = full.rsplit('::', 1)
-            if name not in self.names.get(owner, {}):
-                break
-            full = self.names[owner][name]
+            full = self.names.get(owner, {}).get(name, full)
         return full
 
 
 # ---- types
 
+def of_owner(t, owner):
+    """A type, with the struct's name for `Self`."""
+    if isinstance(t, tuple):
+        return tuple(of_owner(part, owner) for part in t)
+    return owner if t == 'Self' and owner else t
+
+
 PLACES = ('lent', 'index', 'part', 'field', 'unary')
 COMPARED = ('==', '!=', '<', '>', '<=', '>=')
-SIZES = {'u8': 1, 'bool': 1, 'u16': 2, 'u32': 4, 'u64': 8, 'usize': 8, None: 8}
+SIZES = {'u8': 1, 'bool': 1, 'u16': 2, 'u32': 4, 'u64': 8, 'usize': 8, None: 8, 'Refusal': 16, 'Result': 24}
 OPERATORS = {'+': operator.add, '-': operator.sub, '*': operator.mul, '|': operator.or_, '&': operator.and_, '^': operator.xor, '>>': operator.rshift,
              '<<': lambda a, b: a << min(b, 64), '/': lambda a, b: a // max(b, 1), '%': lambda a, b: a % max(b, 1)}
 
@@ -405,8 +621,8 @@ class Types:
     def __init__(self, p, f):
         self.p, self.f, self.names, self.values = p, f, dict(f.params), {}
         for e in walk(f.body):
-            if e.kind == 'for':
-                self.declare(e.info, 'usize')
+            if e.kind in ('for', 'test'):
+                self.declare(e.info, 'usize' if e.kind == 'for' else 'u8')
         lets = [e for e in walk(f.body) if e.kind == 'let']
         every = [*self.names, *(e.info[0] for e in lets)]
         for e in lets:
@@ -453,9 +669,11 @@ class Types:
             return self.of_name(info)
         if kind == 'call':
             f = self.p.functions.get(self.p.find(self.f.crate, info))
+            if f and info[0] == '.' and self.lent(parts[0].parts[0]) != f.name.split('::')[-2]:
+                self.unknown('method', info[1])
             return f and f.result
         if kind == 'field':
-            fields = self.p.structs.get(self.of(parts[0]), {})
+            fields = self.p.structs.get(self.lent(parts[0]), {})
             return fields[info] if info in fields else self.unknown('field', info)
         if kind in ('array', 'repeat'):
             count = len(parts) if kind == 'array' else self.value(parts[1])

@@ -1,7 +1,6 @@
 #!/usr/bin/env python3
 """What the second implementation lists for the input of crates/list_challenges, its file `stdin`, and for those of crates/list_challenges_runs, the texts of
-the lists `run_all(rt, &[".."])` and `run_digests(rt, &[".."])` of its main.rt, one after another; of the second kind the SHAKE128 digest, made by Python's
-hashlib.
+the tables `SHORT`, `LONG` and `REFUSED` of its main.rt, one after another; of those of LONG the SHAKE128 digest, made by Python's hashlib.
 
     derive_enumeration.py            compares it with the file `stdout` of each; exit status 1 where one differs
     derive_enumeration.py --write    writes these files
@@ -24,12 +23,12 @@ def listed(line):
 
 def run(name, line):
     text = listed(line)
-    return text if name == 'run_all' else f'shake128 {hashlib.shake_128(text).hexdigest(32)}\n'.encode()
+    return text if name != 'LONG' else f'shake128 {hashlib.shake_128(text).hexdigest(32)}\n'.encode()
 
 
 source = (CRATES / 'list_challenges_runs' / 'src' / 'main.rt').read_text()
-lists = re.findall(r'\b(run_all|run_digests)\(\s*rt,\s*&\[(.*?)\],?\s*\)', source, re.S)
-runs = [(name, ast.literal_eval('b' + text)) for name, found in lists for text in re.findall(r'"(?:[^"\\]|\\.)*"', found)]
+tables = re.findall(r'^const (SHORT|LONG|REFUSED): \[&str; \d+\] = \[\n(.*?)^\];', source, re.S | re.M)
+runs = [(name, ast.literal_eval('b' + text)) for name, table in tables for text in re.findall(r'^    ("(?:[^"\\]|\\.)*"),$', table, re.M)]
 if len(runs) != 66:
     sys.exit(f'derive_enumeration: {len(runs)} inputs found, and not 66')
 derived = {

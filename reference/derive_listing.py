@@ -1,6 +1,6 @@
 #!/usr/bin/env python3
-"""What the second implementation prints for the input of crates/list_nodes, its file `stdin`, and for those of crates/list_nodes_runs, the texts of the lists
-`run_all(rt, &[".."])` of its main.rt, one after another.
+"""What the second implementation prints for the input of crates/list_nodes, its file `stdin`, and for those of crates/list_nodes_runs, the texts of
+the table `INPUTS` of its main.rt, one after another.
 
     derive_listing.py            compares it with the file `stdout` of each; exit status 1 where one differs
     derive_listing.py --write    writes these files
@@ -20,8 +20,8 @@ def listed(line):
     return subprocess.run([PROGRAM, 'list'], input=line, capture_output=True, check=True).stdout
 
 
-lists = re.findall(r'\brun_all\(\s*rt,\s*&\[(.*?)\],?\s*\)', (CRATES / 'list_nodes_runs' / 'src' / 'main.rt').read_text(), re.S)
-runs = [ast.literal_eval('b' + text) for found in lists for text in re.findall(r'"(?:[^"\\]|\\.)*"', found)]
+table = re.search(r'^const INPUTS: \[&str; \d+\] = \[\n(.*?)^\];', (CRATES / 'list_nodes_runs' / 'src' / 'main.rt').read_text(), re.S | re.M).group(1)
+runs = [ast.literal_eval('b' + text) for text in re.findall(r'^    ("(?:[^"\\]|\\.)*"),$', table, re.M)]
 if len(runs) != 60:
     sys.exit(f'derive_listing: {len(runs)} inputs found, and not 60')
 derived = {

@@ -1,6 +1,6 @@
 #!/usr/bin/env python3
 """What the second implementation reports of the input of crates/report_openings, its file `stdin`, and of those of crates/report_runs, which are made here
-anew by the lines `record(..)`, `set(..)`, `repeat(..)` and `run(..)` of its main.rt, one after another.
+anew by the lines `record(..)`, `set(..)`, `repeat(..)`, `run(..)` and `input.fill(0)` of its main.rt, one after another.
 
     derive_report.py            compares it with the file `stdout` of each, and `stdin` with the records below; exit status 1 where one differs
     derive_report.py --write    writes these files
@@ -47,7 +47,7 @@ class Runs:
 
     def step(self, name, call, words):
         values = [self.value(word) for word in words]
-        if call == 'clear':
+        if call == 'fill':
             self.input = bytearray(ROOM)
         elif call == 'record':
             text = record(*values[1:])
@@ -70,7 +70,8 @@ class Runs:
 def runs():
     source = (CRATES / 'report_runs' / 'src' / 'main.rt').read_text()
     found = Runs()
-    for name, call, words in re.findall(r'^    (?:let (\w) = )?(\w+)\((?:rt, )?input((?:, \w+)*)\)(?:\??;)?$', source[source.index('\nfn single('):], re.M):
+    steps = r'^    (?:let (\w) = )?(?:input\.)?(\w+)\((?:(?:rt, )?input((?:, \w+)*)|0)\)(?:\??;)?$'
+    for name, call, words in re.findall(steps, source[source.index('\nfn single('):], re.M):
         found.step(name, call, words.split(', ')[1:])
     if len(found.outputs) != 47:
         sys.exit(f'derive_report: {len(found.outputs)} runs found, and not 47')

@@ -151,7 +151,7 @@ enum {
     RACHNOEL_RECORD_MOST = 273555     /* no record has more bytes */
 };
 
-/* stack in bytes, for any call at any shape; the deepest that was measured, 17,768 of v1_commit, is at most seven eighths of it */
+/* stack in bytes, for any call at any shape; the deepest that was measured, 14,992 of v1_commit, is at most seven eighths of it */
 enum { RACHNOEL_STACK = 20 * 1024 };
 
 typedef struct rachnoel_sizes {

@@ -1,16 +1,15 @@
-// AES, FIPS 197, over the steps of crate aes_steps, of which it re-exports `table`, `pack` and `unpack`, and the round keys of aes_keys. A state or a round key is its
-// four columns of four bytes, by value.
+// AES, FIPS 197, over the steps of crate aes_steps, of which it re-exports `Sbox`, `table`, `pack` and `unpack`, and the key schedules of aes_keys. A state or
+// a round key is its four columns of four bytes, by value.
 #![tactic(auto)]
 
-ghost use Rattle.std.specs.Prelude.{◌≡◌, List, ℕ, ◌+◌, ◌-◌, ◌%◌, ◌≤◌, length};
-ghost use Rattle.spec.specs.Gf256.{SboxTable};
-ghost use Rattle.spec.specs.Aes.{state_of, bytes_of, add_round_key, round_of, last_round, cipher, key_expansion};
-ghost use Rattle.aes_keys.specs.RoundKeys.{Keyed};
-ghost use Rattle.aes.specs.Rounded.{Rounded};
+ghost use Rattle.std.specs.Prelude.{◌≡◌, List, ℕ, ◌+◌, length};
+ghost use Rattle.spec.specs.Aes.{state_of, bytes_of, add_round_key, round_of, last_round};
+ghost use Rattle.aes_keys.specs.RoundKeys.{words};
+ghost use Rattle.aes.specs.Ciphers.{encrypted, after};
 
-pub use aes_keys::key_schedule;
+pub use aes_keys::KeySchedule;
 use aes_steps::{mix_columns, shift_rows, sub_bytes, xor_word};
-pub use aes_steps::{pack, table, unpack};
+pub use aes_steps::{Sbox, pack, table, unpack};
 
 // ---- the state
 
@@ -53,54 +52,52 @@ pub fn add_round_key(s: [[u8; 4]; 4], k: [[u8; 4]; 4]) -> [[u8; 4]; 4]
 // The rounds of a key of four words; longer keys have more.
 const FEWEST: usize = 10;
 
-pub fn last_round(t: &[u8; 256], s: [[u8; 4]; 4], k: [[u8; 4]; 4]) -> [[u8; 4]; 4]
-    requires { SboxTable t.now }
+pub fn last_round(sbox: &Sbox, s: [[u8; 4]; 4], k: [[u8; 4]; 4]) -> [[u8; 4]; 4]
     ensures { result ≡ last_round s k }
 {
-    add_round_key(shift_rows(sub_bytes(t, s)), k)
+    add_round_key(shift_rows(sub_bytes(sbox, s)), k)
 }
 
 // Two rounds, with the keys k and l.
-fn two_rounds(t: &[u8; 256], s: [[u8; 4]; 4], k: [[u8; 4]; 4], l: [[u8; 4]; 4]) -> [[u8; 4]; 4]
-    requires { SboxTable t.now }
+fn two_rounds(sbox: &Sbox, s: [[u8; 4]; 4], k: [[u8; 4]; 4], l: [[u8; 4]; 4]) -> [[u8; 4]; 4]
     ensures { result ≡ round_of (round_of s k) l }
 {
-    let x = add_round_key(mix_columns(shift_rows(sub_bytes(t, s))), k);
-    add_round_key(mix_columns(shift_rows(sub_bytes(t, x))), l)
+    let x = add_round_key(mix_columns(shift_rows(sub_bytes(sbox, s))), k);
+    add_round_key(mix_columns(shift_rows(sub_bytes(sbox, x))), l)
 }
 
-// CIPHER in n rounds, for the round keys of any key. The nine rounds that every key has are counted by a constant and stand here by their steps, which is quicker;
-// those from 10 on of longer keys go by twos, as in `later_rounds`.
-pub fn encrypt(t: &[u8; 256], keys: &[[[u8; 4]; 4]; 15], n: usize, s: [[u8; 4]; 4]) -> [[u8; 4]; 4]
-    requires sbox_table { SboxTable t.now }
-    requires le_n { (10 ≤ n) × (n ≤ 14) × (n % 2 ≡ 0) }
-    ensures { (nk : ℕ) (key : List ℕ) → n ≡ nk + 6 → Keyed nk key keys.now → result ≡ cipher (nk + 6) (key_expansion nk key) s }
+// CIPHER with the schedule's key. The nine rounds that every key has are counted by a constant and stand here by their steps, which is quicker; those from 10
+// on of longer keys go by twos, as in `later_rounds`.
+pub fn encrypt(sbox: &Sbox, schedule: &KeySchedule, s: [[u8; 4]; 4]) -> [[u8; 4]; 4]
+    ensures { result ≡ encrypted schedule.now s }
 {
-    let mut x = add_round_key(s, keys[0]);
-    let mut i = 1;
-    while i < FEWEST {
-        let y = add_round_key(mix_columns(shift_rows(sub_bytes(t, x))), keys[i]);
+    let n = schedule.rounds();
+    let mut x = add_round_key(s, schedule.round_key(0));
+    for i in 1..FEWEST {
+        let y = add_round_key(
+            mix_columns(shift_rows(sub_bytes(sbox, x))),
+            schedule.round_key(i),
+        );
         x = y;
-        i += 1;
     }
+    let mut i = FEWEST;
     while i < n {
-        let y = two_rounds(t, x, keys[i], keys[i + 1]);
+        let y = two_rounds(sbox, x, schedule.round_key(i), schedule.round_key(i + 1));
         x = y;
         i += 2;
     }
-    last_round(t, x, keys[n])
+    last_round(sbox, x, schedule.round_key(n))
 }
 
 // The rounds of longer keys: from round 10 on, and before the last, round n. There are two or four, and they go by twos, which is quicker than one by one.
-fn later_rounds(t: &[u8; 256], keys: &[[[u8; 4]; 4]; 15], n: usize, s: [[u8; 4]; 4]) -> [[u8; 4]; 4]
-    requires sbox_table { SboxTable t.now }
-    requires le_n { (10 ≤ n) × (n ≤ 14) × (n % 2 ≡ 0) }
-    ensures { (nk : ℕ) (a : List (List ℕ)) → n ≡ nk + 6 → Rounded nk keys.now a s 9 → Rounded nk keys.now a result (n - 1) }
+fn later_rounds(sbox: &Sbox, schedule: &KeySchedule, s: [[u8; 4]; 4]) -> [[u8; 4]; 4]
+    ensures { (a : List (List ℕ)) → s ≡ after schedule.now a 9 → result ≡ after schedule.now a (words schedule.now + 5) }
 {
+    let n = schedule.rounds();
     let mut x = s;
     let mut i = FEWEST;
     while i < n {
-        let y = two_rounds(t, x, keys[i], keys[i + 1]);
+        let y = two_rounds(sbox, x, schedule.round_key(i), schedule.round_key(i + 1));
         x = y;
         i += 2;
     }
@@ -114,42 +111,32 @@ pub struct Blocks {
     pub second: [u8; 16],
 }
 
-// CIPHER of two states in n rounds, and the bytes of both. They go round by round: neither waits for the other, so a processor can work on both at once
-// (bench/README.md compares it with one after the other). The steps of a round stand here one by one, since the compiler would not inline a function of them
-// that is called twice. The nine rounds that every key has are counted by a constant, which is quicker; those from 10 on of longer keys go one state after the
-// other.
-pub fn encrypt_pair(
-    t: &[u8; 256],
-    keys: &[[[u8; 4]; 4]; 15],
-    n: usize,
-    a: [[u8; 4]; 4],
-    b: [[u8; 4]; 4],
-) -> Blocks
-    requires sbox_table { SboxTable t.now }
-    requires le_n { (10 ≤ n) × (n ≤ 14) × (n % 2 ≡ 0) }
-    ensures { (nk : ℕ) (key : List ℕ) → n ≡ nk + 6 → Keyed nk key keys.now
-        → (result.first ≡ bytes_of (cipher (nk + 6) (key_expansion nk key) a)) × (result.second ≡ bytes_of (cipher (nk + 6) (key_expansion nk key) b)) }
+// CIPHER of two states, and the bytes of both. They go round by round: neither waits for the other, so a processor can work on both at once (bench/README.md
+// compares it with one after the other). The steps of a round stand here one by one, since the compiler would not inline a function of them that is called
+// twice. The nine rounds that every key has are counted by a constant, which is quicker; those from 10 on of longer keys go one state after the other.
+pub fn encrypt_pair(sbox: &Sbox, schedule: &KeySchedule, a: [[u8; 4]; 4], b: [[u8; 4]; 4]) -> Blocks
+    ensures first { result.first ≡ bytes_of (encrypted schedule.now a) }
+    ensures second { result.second ≡ bytes_of (encrypted schedule.now b) }
 {
-    let mut x = add_round_key(a, keys[0]);
-    let mut y = add_round_key(b, keys[0]);
-    let mut i = 1;
-    while i < FEWEST {
-        let c = mix_columns(shift_rows(sub_bytes(t, x)));
-        let d = mix_columns(shift_rows(sub_bytes(t, y)));
-        let e = add_round_key(c, keys[i]);
-        let f = add_round_key(d, keys[i]);
+    let n = schedule.rounds();
+    let mut x = add_round_key(a, schedule.round_key(0));
+    let mut y = add_round_key(b, schedule.round_key(0));
+    for i in 1..FEWEST {
+        let c = mix_columns(shift_rows(sub_bytes(sbox, x)));
+        let d = mix_columns(shift_rows(sub_bytes(sbox, y)));
+        let e = add_round_key(c, schedule.round_key(i));
+        let f = add_round_key(d, schedule.round_key(i));
         x = e;
         y = f;
-        i += 1;
     }
     if FEWEST < n {
-        let c = later_rounds(t, keys, n, x);
-        let d = later_rounds(t, keys, n, y);
+        let c = later_rounds(sbox, schedule, x);
+        let d = later_rounds(sbox, schedule, y);
         x = c;
         y = d;
     }
     Blocks {
-        first: bytes_of(last_round(t, x, keys[n])),
-        second: bytes_of(last_round(t, y, keys[n])),
+        first: bytes_of(last_round(sbox, x, schedule.round_key(n))),
+        second: bytes_of(last_round(sbox, y, schedule.round_key(n))),
     }
 }

@@ -1,14 +1,15 @@
-// The key schedules of AES for keys of 128, 192 and 256 bits, FIPS 197, section 5.2. A word is four bytes, a round key four words. There is room for 15 round keys; the
-// unused ones behind those of a shorter key are zeros.
+// The key schedules of AES for keys of 128, 192 and 256 bits, FIPS 197, section 5.2. A word is four bytes, a round key four words. There is room for 15 round
+// keys; the unused ones behind those of a shorter key are zeros.
 #![tactic(auto)]
 
-ghost use Rattle.std.specs.Prelude.{◌≡◌, List, ℕ, ◌+◌, ◌*◌, ◌/◌, ◌%◌, ◌≤◌, length};
+ghost use Rattle.std.specs.Prelude.{◌≡◌, List, [], ◌∷◌, ℕ, ◌+◌, ◌-◌, ◌*◌, ◌%◌, ◌≤◌, length};
 ghost use Rattle.spec.specs.Bytes.{tabulate};
-ghost use Rattle.spec.specs.Gf256.{SboxTable};
 ghost use Rattle.spec.specs.Aes.{state, word_at, round_key, key_expansion};
-ghost use Rattle.aes_keys.specs.RoundKeys.{Keyed, chained, next_round_key, odd_round_key, six_of, six_words, lower_four, upper_four, next_six, three_keys};
+ghost use Rattle.aes_keys.specs.RoundKeys.{words, Keyed, key_of, chained, next_round_key, odd_round_key};
+ghost use Rattle.aes_keys.specs.RoundKeys.{six_of, six_words, lower_four, upper_four, next_six, three_keys};
 
-use aes_steps::{rot_word, sub_word, xor_word};
+use aes_steps::{Sbox, rot_word, sub_word, xor_word};
+use std::marker::Model;
 
 // Word i of a key.
 fn word(b: &[u8], i: usize) -> [u8; 4]
@@ -37,33 +38,31 @@ fn chain(k: [[u8; 4]; 4], a: [u8; 4]) -> [[u8; 4]; 4]
 
 // The four words from a word on whose number the key's length divides: k has those a key's length before them, p those just before them; rc is the round
 // constant's first byte.
-fn next_key(t: &[u8; 256], k: [[u8; 4]; 4], p: [[u8; 4]; 4], rc: u8) -> [[u8; 4]; 4]
-    requires { SboxTable t.now }
+fn next_key(sbox: &Sbox, k: [[u8; 4]; 4], p: [[u8; 4]; 4], rc: u8) -> [[u8; 4]; 4]
     ensures { result ≡ next_round_key k p rc }
 {
-    let s = sub_word(t, rot_word(p[3]));
+    let s = sub_word(sbox, rot_word(p[3]));
     chain(k, xor_word(k[0], xor_word(s, [rc, 0, 0, 0])))
 }
 
 // ---- keys of 4 words
 
 // KEYEXPANSION, by whole round keys.
-pub fn schedule_128(t: &[u8; 256], key: &[u8]) -> [[[u8; 4]; 4]; 15]
-    requires sbox_table { SboxTable t.now }
-    requires key_len { length key.now ≡ 16 }
+pub fn schedule_128(sbox: &Sbox, key: &[u8]) -> [[[u8; 4]; 4]; 15]
+    requires { length key.now ≡ 16 }
     ensures { Keyed 4 key.now result }
 {
     let k0 = four_words(key, 0);
-    let k1 = next_key(t, k0, k0, 1);
-    let k2 = next_key(t, k1, k1, 2);
-    let k3 = next_key(t, k2, k2, 4);
-    let k4 = next_key(t, k3, k3, 8);
-    let k5 = next_key(t, k4, k4, 16);
-    let k6 = next_key(t, k5, k5, 32);
-    let k7 = next_key(t, k6, k6, 64);
-    let k8 = next_key(t, k7, k7, 128);
-    let k9 = next_key(t, k8, k8, 27);
-    let k10 = next_key(t, k9, k9, 54);
+    let k1 = next_key(sbox, k0, k0, 1);
+    let k2 = next_key(sbox, k1, k1, 2);
+    let k3 = next_key(sbox, k2, k2, 4);
+    let k4 = next_key(sbox, k3, k3, 8);
+    let k5 = next_key(sbox, k4, k4, 16);
+    let k6 = next_key(sbox, k5, k5, 32);
+    let k7 = next_key(sbox, k6, k6, 64);
+    let k8 = next_key(sbox, k7, k7, 128);
+    let k9 = next_key(sbox, k8, k8, 27);
+    let k10 = next_key(sbox, k9, k9, 54);
     let z = [[0u8; 4]; 4];
     [k0, k1, k2, k3, k4, k5, k6, k7, k8, k9, k10, z, z, z, z]
 }
@@ -99,30 +98,28 @@ fn upper_four(k: [[u8; 4]; 6]) -> [[u8; 4]; 4]
 }
 
 // The block after k.
-fn next_six(t: &[u8; 256], k: [[u8; 4]; 6], rc: u8) -> [[u8; 4]; 6]
-    requires { SboxTable t.now }
+fn next_six(sbox: &Sbox, k: [[u8; 4]; 6], rc: u8) -> [[u8; 4]; 6]
     ensures { result ≡ next_six k rc }
 {
-    let a = next_key(t, lower_four(k), upper_four(k), rc);
+    let a = next_key(sbox, lower_four(k), upper_four(k), rc);
     let e = xor_word(k[4], a[3]);
     let f = xor_word(k[5], e);
     [a[0], a[1], a[2], a[3], e, f]
 }
 
 // The blocks of words 0 to 47.
-fn blocks_192(t: &[u8; 256], key: &[u8]) -> [[[u8; 4]; 6]; 8]
-    requires sbox_table { SboxTable t.now }
-    requires key_len { length key.now ≡ 24 }
+fn blocks_192(sbox: &Sbox, key: &[u8]) -> [[[u8; 4]; 6]; 8]
+    requires { length key.now ≡ 24 }
     ensures { result ≡ tabulate 8 (six_words (key_expansion 6 key.now)) }
 {
     let b0 = six_words(key);
-    let b1 = next_six(t, b0, 1);
-    let b2 = next_six(t, b1, 2);
-    let b3 = next_six(t, b2, 4);
-    let b4 = next_six(t, b3, 8);
-    let b5 = next_six(t, b4, 16);
-    let b6 = next_six(t, b5, 32);
-    let b7 = next_six(t, b6, 64);
+    let b1 = next_six(sbox, b0, 1);
+    let b2 = next_six(sbox, b1, 2);
+    let b3 = next_six(sbox, b2, 4);
+    let b4 = next_six(sbox, b3, 8);
+    let b5 = next_six(sbox, b4, 16);
+    let b6 = next_six(sbox, b5, 32);
+    let b7 = next_six(sbox, b6, 64);
     [b0, b1, b2, b3, b4, b5, b6, b7]
 }
 
@@ -134,17 +131,16 @@ fn three_keys(a: [[u8; 4]; 6], b: [[u8; 4]; 6]) -> [[[u8; 4]; 4]; 3]
 }
 
 // KEYEXPANSION: twelve round keys out of the blocks, and the last from those.
-pub fn schedule_192(t: &[u8; 256], key: &[u8]) -> [[[u8; 4]; 4]; 15]
-    requires sbox_table { SboxTable t.now }
-    requires key_len { length key.now ≡ 24 }
+pub fn schedule_192(sbox: &Sbox, key: &[u8]) -> [[[u8; 4]; 4]; 15]
+    requires { length key.now ≡ 24 }
     ensures { Keyed 6 key.now result }
 {
-    let b = blocks_192(t, key);
+    let b = blocks_192(sbox, key);
     let i = three_keys(b[0], b[1]);
     let j = three_keys(b[2], b[3]);
     let k = three_keys(b[4], b[5]);
     let l = three_keys(b[6], b[7]);
-    let m = next_key(t, lower_four(b[7]), l[2], 128);
+    let m = next_key(sbox, lower_four(b[7]), l[2], 128);
     let z = [[0u8; 4]; 4];
     [
         i[0], i[1], i[2], j[0], j[1], j[2], k[0], k[1], k[2], l[0], l[1], l[2], m, z, z,
@@ -154,55 +150,51 @@ pub fn schedule_192(t: &[u8; 256], key: &[u8]) -> [[[u8; 4]; 4]; 15]
 // ---- keys of 8 words
 
 // The round key with an odd number after p; k is the one before p.
-fn odd_key(t: &[u8; 256], k: [[u8; 4]; 4], p: [[u8; 4]; 4]) -> [[u8; 4]; 4]
-    requires { SboxTable t.now }
+fn odd_key(sbox: &Sbox, k: [[u8; 4]; 4], p: [[u8; 4]; 4]) -> [[u8; 4]; 4]
     ensures { result ≡ odd_round_key k p }
 {
-    let s = sub_word(t, p[3]);
+    let s = sub_word(sbox, p[3]);
     chain(k, xor_word(k[0], s))
 }
 
 // Round keys 0 to 7.
-fn first_keys(t: &[u8; 256], key: &[u8]) -> [[[u8; 4]; 4]; 8]
-    requires sbox_table { SboxTable t.now }
-    requires key_len { length key.now ≡ 32 }
+fn first_keys(sbox: &Sbox, key: &[u8]) -> [[[u8; 4]; 4]; 8]
+    requires { length key.now ≡ 32 }
     ensures { result ≡ tabulate 8 (round_key (key_expansion 8 key.now)) }
 {
     let k0 = four_words(key, 0);
     let k1 = four_words(key, 4);
-    let k2 = next_key(t, k0, k1, 1);
-    let k3 = odd_key(t, k1, k2);
-    let k4 = next_key(t, k2, k3, 2);
-    let k5 = odd_key(t, k3, k4);
-    let k6 = next_key(t, k4, k5, 4);
-    let k7 = odd_key(t, k5, k6);
+    let k2 = next_key(sbox, k0, k1, 1);
+    let k3 = odd_key(sbox, k1, k2);
+    let k4 = next_key(sbox, k2, k3, 2);
+    let k5 = odd_key(sbox, k3, k4);
+    let k6 = next_key(sbox, k4, k5, 4);
+    let k7 = odd_key(sbox, k5, k6);
     [k0, k1, k2, k3, k4, k5, k6, k7]
 }
 
 // Round keys 8 to 14, from the two before them.
-fn later_keys(t: &[u8; 256], k6: [[u8; 4]; 4], k7: [[u8; 4]; 4]) -> [[[u8; 4]; 4]; 7]
-    requires { SboxTable t.now }
+fn later_keys(sbox: &Sbox, k6: [[u8; 4]; 4], k7: [[u8; 4]; 4]) -> [[[u8; 4]; 4]; 7]
     ensures { (key : List ℕ) → k6 ≡ round_key (key_expansion 8 key) 6 → k7 ≡ round_key (key_expansion 8 key) 7
         → result ≡ tabulate 7 (λ i. round_key (key_expansion 8 key) (8 + i)) }
 {
-    let k8 = next_key(t, k6, k7, 8);
-    let k9 = odd_key(t, k7, k8);
-    let k10 = next_key(t, k8, k9, 16);
-    let k11 = odd_key(t, k9, k10);
-    let k12 = next_key(t, k10, k11, 32);
-    let k13 = odd_key(t, k11, k12);
-    let k14 = next_key(t, k12, k13, 64);
+    let k8 = next_key(sbox, k6, k7, 8);
+    let k9 = odd_key(sbox, k7, k8);
+    let k10 = next_key(sbox, k8, k9, 16);
+    let k11 = odd_key(sbox, k9, k10);
+    let k12 = next_key(sbox, k10, k11, 32);
+    let k13 = odd_key(sbox, k11, k12);
+    let k14 = next_key(sbox, k12, k13, 64);
     [k8, k9, k10, k11, k12, k13, k14]
 }
 
 // KEYEXPANSION, by whole round keys.
-pub fn schedule_256(t: &[u8; 256], key: &[u8]) -> [[[u8; 4]; 4]; 15]
-    requires sbox_table { SboxTable t.now }
-    requires key_len { length key.now ≡ 32 }
+pub fn schedule_256(sbox: &Sbox, key: &[u8]) -> [[[u8; 4]; 4]; 15]
+    requires { length key.now ≡ 32 }
     ensures { Keyed 8 key.now result }
 {
-    let a = first_keys(t, key);
-    let b = later_keys(t, a[6], a[7]);
+    let a = first_keys(sbox, key);
+    let b = later_keys(sbox, a[6], a[7]);
     [
         a[0], a[1], a[2], a[3], a[4], a[5], a[6], a[7], b[0], b[1], b[2], b[3], b[4], b[5], b[6],
     ]
@@ -210,17 +202,139 @@ pub fn schedule_256(t: &[u8; 256], key: &[u8]) -> [[[u8; 4]; 4]; 15]
 
 // ---- by the key's length
 
-pub fn key_schedule(t: &[u8; 256], key: &[u8]) -> [[[u8; 4]; 4]; 15]
-    requires sbox_table { SboxTable t.now }
-    requires in_bounds { (16 ≤ length key.now) × (length key.now ≤ 32) × (length key.now % 8 ≡ 0) }
-    ensures { Keyed (length key.now / 4) key.now result }
+// KEYEXPANSION, with zeros behind the round keys of a shorter key.
+pub fn key_schedule(sbox: &Sbox, key: &[u8]) -> [[[u8; 4]; 4]; 15]
+    requires { (16 ≤ length key.now) × (length key.now ≤ 32) × (length key.now % 8 ≡ 0) }
+    ensures { Keyed (words key.now) key.now result }
 {
     let n = key.len();
     if n == 16 {
-        return schedule_128(t, key);
+        return schedule_128(sbox, key);
     }
     if n == 24 {
-        return schedule_192(t, key);
+        return schedule_192(sbox, key);
     }
-    schedule_256(t, key)
+    schedule_256(sbox, key)
+}
+
+// A round key, its columns one after the other, since a struct literal holds no array of arrays. A clause sees the columns.
+#[derive(Drop)]
+struct RoundKey {
+    bytes: [u8; 16],
+}
+
+impl Model for RoundKey {
+    ghost use Rattle.std.specs.Prelude.{List, ℕ};
+    ghost use Rattle.spec.specs.Aes.{state_of};
+
+    ghost Value = { List (List ℕ) };
+
+    ghost view = { λ k. state_of k.bytes };
+}
+
+impl RoundKey {
+    fn of(a: [u8; 4], b: [u8; 4], c: [u8; 4], d: [u8; 4]) -> Self
+        ensures { result ≡ a ∷ b ∷ c ∷ d ∷ [] }
+    {
+        RoundKey {
+            bytes: [
+                a[0], a[1], a[2], a[3], b[0], b[1], b[2], b[3], c[0], c[1], c[2], c[3], d[0], d[1],
+                d[2], d[3],
+            ],
+        }
+    }
+
+    fn columns(&self) -> [[u8; 4]; 4]
+        ensures { result ≡ self.now }
+    {
+        four_words(&self.bytes, 0)
+    }
+}
+
+// A round key as a schedule holds it.
+fn stored(k: [[u8; 4]; 4]) -> RoundKey
+    ensures { result ≡ k }
+{
+    RoundKey::of(k[0], k[1], k[2], k[3])
+}
+
+// All the round keys, the same way.
+fn stored_keys(keys: &[[[u8; 4]; 4]; 15]) -> [RoundKey; 15]
+    ensures { result ≡ keys.now }
+{
+    [
+        stored(keys[0]),
+        stored(keys[1]),
+        stored(keys[2]),
+        stored(keys[3]),
+        stored(keys[4]),
+        stored(keys[5]),
+        stored(keys[6]),
+        stored(keys[7]),
+        stored(keys[8]),
+        stored(keys[9]),
+        stored(keys[10]),
+        stored(keys[11]),
+        stored(keys[12]),
+        stored(keys[13]),
+        stored(keys[14]),
+    ]
+}
+
+// The round keys of a key, and how many rounds they are for. A clause sees the key.
+#[derive(Drop)]
+pub struct KeySchedule {
+    round_keys: [RoundKey; 15],
+    rounds: usize,
+}
+
+impl Model for KeySchedule {
+    ghost use Rattle.std.specs.Prelude.{List, ℕ};
+
+    ghost Value = { List ℕ };
+
+    ghost use Rattle.aes_keys.specs.Scheduled.{scheduled_key, Scheduled};
+
+    ghost view = { scheduled_key };
+
+    ghost invariant = { Scheduled };
+}
+
+impl KeySchedule {
+    // The schedule of a key of 16, 24 or 32 bytes.
+    pub fn new(sbox: &Sbox, key: &[u8]) -> Self
+        requires { (16 ≤ length key.now) × (length key.now ≤ 32) × (length key.now % 8 ≡ 0) }
+        ensures { result ≡ key.now }
+    {
+        KeySchedule::of_round_keys(&key_schedule(sbox, key), key.len() / 4 + 6)
+    }
+
+    // The schedule that these round keys make, those of the key that they begin with.
+    pub fn of_round_keys(keys: &[[[u8; 4]; 4]; 15], rounds: usize) -> Self
+        requires bounds { (10 ≤ rounds) × (rounds ≤ 14) × (rounds % 2 ≡ 0) }
+        requires keyed { Keyed (rounds - 6) (key_of (rounds - 6) keys.now) keys.now }
+        ensures { result ≡ key_of (rounds - 6) keys.now }
+    {
+        KeySchedule {
+            round_keys: stored_keys(keys),
+            rounds,
+        }
+    }
+
+    // The number of rounds: 10, 12 or 14.
+    pub fn rounds(&self) -> usize
+        ensures count { result ≡ words self.now + 6 }
+        ensures bounds { (10 ≤ result) × (result ≤ 14) × (result % 2 ≡ 0) }
+    {
+        self.rounds
+    }
+
+    // Round key i.
+    pub fn round_key(&self, i: usize) -> [[u8; 4]; 4]
+        requires { i ≤ words self.now + 6 }
+        ensures { result ≡ round_key (key_expansion (words self.now) self.now) i }
+    {
+        let keys = &self.round_keys;
+        keys[i].columns()
+    }
 }

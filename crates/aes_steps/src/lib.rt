@@ -1,5 +1,5 @@
-// The S-box, words and the state's steps of AES, FIPS 197, that take no key. A state is its four columns of four bytes, by value. The table of the S-box is
-// made once, by `table`, and lent to every step, since each mention of a constant array builds it anew.
+// The S-box, words and the state's steps of AES, FIPS 197, that take no key. A state is its four columns of four bytes, by value. The S-box is
+// made once, by `Sbox::new`, and lent to every step, since each mention of a constant array builds it anew.
 #![tactic(auto)]
 
 ghost use Rattle.std.specs.Prelude.{◌≡◌, ◌<◌};
@@ -33,24 +33,42 @@ pub fn table() -> [u8; 256]
     SBOX
 }
 
-// ---- words
-
-pub fn sub_byte(t: &[u8; 256], x: u8) -> u8
-    requires { SboxTable t.now }
-    ensures { result ≡ sbox x }
-{
-    t[x as usize]
+// The S-box: each value of the type holds its table.
+#[derive(Drop)]
+pub struct Sbox {
+    entries: [u8; 256],
+    ghost is_table: { SboxTable entries },
 }
 
-pub fn sub_word(t: &[u8; 256], a: [u8; 4]) -> [u8; 4]
-    requires { SboxTable t.now }
+impl Sbox {
+    pub fn new() -> Self {
+        Sbox { entries: table() }
+    }
+
+    // The S-box of a lent table, copied.
+    pub fn of_table(entries: &[u8; 256]) -> Self
+        requires { SboxTable entries.now }
+    {
+        Sbox { entries: *entries }
+    }
+
+    pub fn sub_byte(&self, x: u8) -> u8
+        ensures { result ≡ sbox x }
+    {
+        self.entries[x as usize]
+    }
+}
+
+// ---- words
+
+pub fn sub_word(sbox: &Sbox, a: [u8; 4]) -> [u8; 4]
     ensures { result ≡ sub_word a }
 {
     [
-        sub_byte(t, a[0]),
-        sub_byte(t, a[1]),
-        sub_byte(t, a[2]),
-        sub_byte(t, a[3]),
+        sbox.sub_byte(a[0]),
+        sbox.sub_byte(a[1]),
+        sbox.sub_byte(a[2]),
+        sbox.sub_byte(a[3]),
     ]
 }
 
@@ -117,15 +135,14 @@ pub fn mix_column(a: [u8; 4]) -> [u8; 4]
 
 // ---- the state
 
-pub fn sub_bytes(t: &[u8; 256], s: [[u8; 4]; 4]) -> [[u8; 4]; 4]
-    requires { SboxTable t.now }
+pub fn sub_bytes(sbox: &Sbox, s: [[u8; 4]; 4]) -> [[u8; 4]; 4]
     ensures { result ≡ sub_bytes s }
 {
     [
-        sub_word(t, s[0]),
-        sub_word(t, s[1]),
-        sub_word(t, s[2]),
-        sub_word(t, s[3]),
+        sub_word(sbox, s[0]),
+        sub_word(sbox, s[1]),
+        sub_word(sbox, s[2]),
+        sub_word(sbox, s[3]),
     ]
 }
 

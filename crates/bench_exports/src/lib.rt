@@ -15,10 +15,12 @@ ghost use Rattle.spec.specs.Shapes.{node_bytes, shape_ok, tree_bytes};
 ghost use Rattle.spec.specs.Primitives.{faest};
 ghost use Rattle.spec.specs.Signer.{signer_tree};
 ghost use Rattle.spec.specs.Calls.{Plan};
-ghost use Rattle.field_limbs.specs.Multiples.{Multiples};
-ghost use Rattle.field_384.specs.Field.{p384};
+ghost use Rattle.field.specs.Multiples.{Multiples};
+ghost use Rattle.field.specs.Fields.{p384};
 ghost use Rattle.columns.specs.Columns.{Xored};
 
+use aes::{KeySchedule, Sbox};
+use field::Field384;
 use job::{Nonce, Version};
 use spec::{Answer, Shape};
 
@@ -36,8 +38,9 @@ pub extern "C" fn rattle_schedule_and_block(t: &[u8; 256], key: &[u8; 16], out: 
     requires { SboxTable t.now }
     ensures { out.new ≡ encrypt 4 key.now key.now }
 {
-    let keys = aes::key_schedule(t, key);
-    let r = aes::bytes_of(aes::encrypt(t, &keys, 10, aes::load_state(key)));
+    let sbox = Sbox::of_table(t);
+    let schedule = KeySchedule::new(&sbox, key);
+    let r = aes::bytes_of(aes::encrypt(&sbox, &schedule, aes::load_state(key)));
     *out = r;
 }
 
@@ -47,13 +50,14 @@ pub extern "C" fn rattle_node(t: &[u8; 256], key: &[u8; 16], iv: &[u8; 16], out:
     requires { SboxTable t.now }
     ensures { out.new ≡ tabulate (length out.old) (λ p. generator_byte 4 key.now iv.now 5 (0 + p)) }
 {
+    let sbox = Sbox::of_table(t);
     let x = *iv;
     let y = Nonce {
         iv: x,
         tweak: 5,
         version: Version::Two,
     };
-    generator::fill(t, key, y, 0, out);
+    generator::fill(&sbox, key, y, 0, out);
 }
 
 // A row of 1,680 bits and some more: 224 bytes of the generator.
@@ -62,13 +66,14 @@ pub extern "C" fn rattle_row(t: &[u8; 256], key: &[u8; 16], iv: &[u8; 16], out: 
     requires { SboxTable t.now }
     ensures { out.new ≡ tabulate (length out.old) (λ p. generator_byte 4 key.now iv.now 5 (0 + p)) }
 {
+    let sbox = Sbox::of_table(t);
     let x = *iv;
     let y = Nonce {
         iv: x,
         tweak: 5,
         version: Version::Two,
     };
-    generator::fill(t, key, y, 0, out);
+    generator::fill(&sbox, key, y, 0, out);
 }
 
 #[unsafe(no_mangle)]
@@ -98,7 +103,7 @@ pub extern "C" fn rattle_h1(message: &[u8], out: &mut [u8])
 pub extern "C" fn rattle_multiples(key: &[u8; 48], m: &mut [[u64; 12]; 16])
     ensures { Multiples 384 p384 (number 8 key.now) m.new }
 {
-    let r = field_384::multiples(key);
+    let r = field::multiples::<Field384, 6>(key);
     *m = r;
 }
 
@@ -106,7 +111,7 @@ pub extern "C" fn rattle_multiples(key: &[u8; 48], m: &mut [[u64; 12]; 16])
 pub extern "C" fn rattle_leaf_hash(m: &[[u64; 12]; 16], stretched: &[u8; 64], out: &mut [u8; 48])
     ensures { (u : List ℕ) → Multiples 384 p384 (number 8 u) m.now → out.new ≡ tabulate 48 (leaf_hash_byte 384 p384 u (take 16 stretched.now) (drop 16 stretched.now)) }
 {
-    field_384::leaf_hash(m, stretched, out);
+    field::leaf_hash::<Field384, 6>(m, stretched, out);
 }
 
 // The tree of a root, at level 128.
@@ -133,7 +138,8 @@ pub extern "C" fn rattle_grow(
         level: 128,
         kind: 0,
     };
-    signer_tree::grow(t, s, root, *iv, tree);
+    let sbox = Sbox::of_table(t);
+    signer_tree::grow(&sbox, s, root, *iv, tree);
 }
 
 // A row, added to a sum of rows.
@@ -149,13 +155,14 @@ pub extern "C" fn rattle_add_row(
     requires seed_len { (length seed.now ≡ 16) × (length sum.old ≤ 8192) }
     ensures { Xored 0 (length sum.old) (λ p. generator_byte 4 seed.now iv.now tweak (0 + p)) sum.old sum.new }
 {
+    let sbox = Sbox::of_table(t);
     let x = *iv;
     let y = Nonce {
         iv: x,
         tweak,
         version: Version::Two,
     };
-    rows::add_row(t, seed, y, 0, sum);
+    rows::add_row(&sbox, seed, y, 0, sum);
 }
 
 fn count_of(r: Answer) -> usize

@@ -11,21 +11,19 @@ use spec::Answer;
 pub fn work_lengths(record: &[u8]) -> Lengths
     ensures { WorkLengths «record».now result }
 {
-    let f = record_reading::front_of(record);
-    if f.number != 0 {
-        return Lengths {
-            number: f.number,
+    match record_reading::front_of(record) {
+        Ok(f) => Lengths {
+            number: 0,
+            tree: lengths::tree_bytes(f.resolved),
+            leaf_commitments: lengths::leaf_commitments_bytes(f.resolved),
+            q: lengths::matrix_bytes(f.resolved, f.row_bytes),
+        },
+        Err(refusal) => Lengths {
+            number: refusal.number(),
             tree: 0,
             leaf_commitments: 0,
             q: 0,
-        };
-    }
-    let s = f.resolved;
-    Lengths {
-        number: 0,
-        tree: lengths::tree_bytes(s),
-        leaf_commitments: lengths::leaf_commitments_bytes(s),
-        q: lengths::matrix_bytes(s, f.row_bytes),
+        },
     }
 }
 
@@ -41,6 +39,6 @@ pub fn check_record(
         (record { tree = tree.exit.now; leaf_commitments = leaf_commitments.new; q = q.new })
         result }
 {
-    let f = record_reading::front_of(record);
-    record_check::check_front(record, f, tree, leaf_commitments, q)
+    let front = record_reading::front_of(record);
+    record_check::check_front(record, front, tree, leaf_commitments, q)
 }

@@ -7,6 +7,8 @@ ghost use Rattle.record.specs.RecordCalls.{answered};
 ghost use Rattle.record.specs.HostRecordCalls.{HostCheckRecord, HostWorkLengths};
 ghost use Rattle.named_sets.specs.NamedCalls.{HostCheckNamed};
 
+use spec::Answer;
+
 // With 11 the count is given as with 0.
 fn counting_number(number: usize) -> usize
     ensures { result ≡ answered number }
@@ -33,7 +35,10 @@ pub extern "C" fn rachnoel_check_record(
 {
     let n = host_words::passed_on(tree.len(), count.len());
     let a = broker::check_record(record, &mut tree[..n], leaf_commitments, q);
-    let given = rules::answer(counting_number(a.number), a.count);
+    let given = Answer {
+        number: counting_number(a.number),
+        count: a.count,
+    };
     host_words::give(given, count);
     a.number
 }

@@ -25,11 +25,7 @@ pub fn clear_from(out: &mut [u8], at: usize)
     requires { at ≤ length out.old }
     ensures { out.new ≡ take at out.old ++ zeros (length out.old - at) }
 {
-    let mut p = at;
-    while p < out.len() {
-        out[p] = 0;
-        p += 1;
-    }
+    out[at..].fill(0);
 }
 
 // Whether each byte from byte `at` on is 0.
@@ -37,12 +33,5 @@ pub fn is_clear_from(xs: &[u8], at: usize) -> bool
     requires { at ≤ length xs.now }
     ensures { result ≡ all_zero (drop at xs.now) }
 {
-    let mut p = at;
-    while p < xs.len() {
-        if xs[p] != 0 {
-            return false;
-        }
-        p += 1;
-    }
-    true
+    xs[at..].iter().all(|x| *x == 0)
 }

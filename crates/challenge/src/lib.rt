@@ -21,9 +21,7 @@ fn index(ch: &[u8], at: usize, k: usize) -> usize
     ensures { (result ≡ index_at ch.now at k) × (result < 2 ^ k) }
 {
     let mut v: usize = 0;
-    let mut j = k;
-    while 0 < j {
-        j -= 1;
+    for j in (0..k).rev() {
         v = 2 * v + bit(ch, at + j);
     }
     v
@@ -34,12 +32,10 @@ fn clear(ch: &[u8], at: usize, n: usize) -> bool
     requires { (at + n ≤ 8 * length ch.now) × (length ch.now ≤ 32) }
     ensures { result ≡ clear_at ch.now at n }
 {
-    let mut j = 0;
-    while j < n {
+    for j in 0..n {
         if bit(ch, at + j) != 0 {
             return false;
         }
-        j += 1;
     }
     true
 }
@@ -75,9 +71,7 @@ pub fn write_indices(s: Shape, ch: &[u8], out: &mut [u32])
     requires { (shape_ok s ≡ true) × (length ch.now ≡ challenge_bytes s) × (length out.old ≡ s.tau) }
     ensures { out.new ≡ hidden_indices s ch.now }
 {
-    let mut i = 0;
-    while i < out.len() {
-        out[i] = hidden_index(s, ch, i) as u32;
-        i += 1;
+    for (i, index) in out.iter_mut().enumerate() {
+        *index = hidden_index(s, ch, i) as u32;
     }
 }

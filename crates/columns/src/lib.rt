@@ -70,6 +70,7 @@ fn block_at(d: &[u8], at: usize) -> [u8; 16]
 }
 
 // Xors n bytes of d from byte `from` on into those from byte `to` on, which stand before them. By blocks, for which the compiler sees that they do not overlap.
+// The loop is a `while`, since a turn goes on by 16 bytes or by one.
 fn xor_within(d: &mut [u8], from: usize, to: usize, n: usize)
     requires { (to + n ≤ from) × (from + n ≤ length d.old) }
     ensures { Xored to (to + n) (λ p. get_or d.old (from + (p - to)) 0) d.old d.new }
@@ -92,13 +93,10 @@ pub fn add_last(cols: &mut [u8], b: usize, h: usize, number: usize)
     requires { (h ≤ 11) × (length cols.old ≡ b * (h + 1)) }
     ensures { Done b h (λ j p. bit j number * get_or cols.old (b * h + p) 0) cols.old cols.new }
 {
-    let mut j = 0;
-    while j < h {
-        if (number >> j) % 2 == 1 {
+    for j in 0..h {
+        let set = (number >> j) % 2 == 1;
+        if set {
             xor_within(cols, b * h, b * j, b);
-            j += 1;
-        } else {
-            j += 1;
         }
     }
 }

@@ -12,7 +12,8 @@ ghost use Rattle.enumeration.specs.Pieces.{Reads, Readable, lines_from, totals_t
 
 use spec::Shape;
 
-// What an input gives: 0 or the number of its refusal, and with 0 the shape, four zeros resolved.
+// What an input gives: 0 or the number of its refusal, and with 0 the shape, four zeros resolved. The number stands beside the shape because the
+// theorem `Whole` (../specs/Pieces.antt) speaks of every such value.
 #[derive(Clone, Copy)]
 pub struct Reading {
     pub number: usize,
@@ -76,11 +77,9 @@ fn challenge_at(x: usize) -> [u8; 16]
 {
     let mut challenge = [0u8; 16];
     let mut rest = x;
-    let mut i = 0;
-    while i < 16 {
-        challenge[i] = (rest % 256) as u8;
+    for byte in &mut challenge {
+        *byte = (rest % 256) as u8;
         rest = rest / 256;
-        i += 1;
     }
     challenge
 }
@@ -110,10 +109,8 @@ fn put_lines(s: Shape, from: usize, n: usize, out: &mut [u8]) -> usize
     ensures { Put (lines_from s from n) 0 out.old out.new result }
 {
     let mut end = 0;
-    let mut i = 0;
-    while i < n {
+    for i in 0..n {
         end = put_line(s, from + i, out, end);
-        i += 1;
     }
     end
 }
@@ -142,12 +139,10 @@ fn count_all(s: Shape) -> Totals
     let t = s.t;
     let mut within: usize = 0;
     let mut total: usize = 0;
-    let mut x: usize = 0;
-    while x < all {
+    for x in 0..all {
         let count = count_of(s, challenge_at(x));
         within += one_within(count, t);
         total += count;
-        x += 1;
     }
     Totals { within, total }
 }
@@ -188,7 +183,7 @@ fn put_list_piece(s: Shape, i: usize, out: &mut [u8]) -> usize
 {
     if i < line_pieces(s) {
         let from = 1024 * i;
-        let n = numbers::min(1024, line_count(s) - from);
+        let n = (line_count(s) - from).min(1024);
         return put_lines(s, from, n, out);
     }
     put_totals(s, out)

@@ -28,10 +28,8 @@ fn put_hex(out: &mut [u8], at: usize, bytes: &[u8]) -> usize
     ensures { Put (hex_text bytes.now) at out.old out.new result }
 {
     let mut end = at;
-    let mut i = 0;
-    while i < bytes.len() {
-        end = put_hex_byte(out, end, bytes[i]);
-        i += 1;
+    for byte in bytes {
+        end = put_hex_byte(out, end, *byte);
     }
     end
 }

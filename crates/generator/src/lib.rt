@@ -1,17 +1,17 @@
-// The generator, for keys of 128, 192 and 256 bits: AES in counter mode. That of document 000, section 3.3, figure 3.6, with a tweak, and that of version 1, which differs in the counter alone.
+// The generator, for keys of 128, 192 and 256 bits: AES in counter mode. That of document 000, section 3.3, figure 3.6, with a tweak, and that of version 1,
+// which differs in the counter alone.
 #![tactic(auto)]
 
-ghost use Rattle.std.specs.Prelude.{◌≡◌, ℕ, ◌+◌, ◌*◌, ◌%◌, ◌^◌, ◌<◌, ◌≤◌, List, length};
+ghost use Rattle.std.specs.Prelude.{◌≡◌, ℕ, ◌+◌, ◌*◌, ◌%◌, ◌^◌, ◌<◌, ◌≤◌, length};
 ghost use Rattle.spec.specs.Bytes.{tabulate};
-ghost use Rattle.spec.specs.Gf256.{SboxTable};
 ghost use Rattle.spec.specs.Aes.{state_of};
 ghost use Rattle.spec.specs.Generator.{add_to_word, add_to_upper_word, add_to_lower_word};
 ghost use Rattle.spec.specs.Version1.{add_to_iv};
 ghost use Rattle.job.specs.Versions.{counter_of, block_of, byte_of};
-ghost use Rattle.aes_keys.specs.RoundKeys.{Keyed};
+ghost use Rattle.aes_keys.specs.RoundKeys.{words};
 ghost use Rattle.generator.specs.Stored.{Stored};
 
-use aes::Blocks;
+use aes::{Blocks, KeySchedule, Sbox};
 use job::{Nonce, Version};
 
 // An IV of 16 lent bytes.
@@ -25,7 +25,7 @@ pub fn load_iv(s: &[u8]) -> [u8; 16]
 fn add_to_word(a: [u8; 4], v: u32) -> [u8; 4]
     ensures { result ≡ add_to_word a v }
 {
-    aes::unpack(std::num::wrapping_add_u32(aes::pack(a), v))
+    aes::unpack(aes::pack(a).wrapping_add(v))
 }
 
 // The counter of version 2: the tweak goes into the upper word, the block's number into the lower one.
@@ -46,16 +46,14 @@ fn add_to_iv(iv: [u8; 16], n: u32) -> [u8; 16]
 {
     let mut out = iv;
     let mut carry = n as u64;
-    let mut i = 16;
-    while 0 < i {
+    for i in 0..16 {
         if carry == 0 {
             return out;
         }
-        let at = i - 1;
+        let at = 15 - i;
         let sum = (out[at] as u64) + carry;
         out[at] = (sum % 256) as u8;
         carry = sum / 256;
-        i = at;
     }
     out
 }
@@ -75,34 +73,25 @@ fn counter(x: Nonce, n: u32) -> [[u8; 4]; 4]
     }
 }
 
-// Block n, for the round keys of any key.
-pub fn block(t: &[u8; 256], keys: &[[[u8; 4]; 4]; 15], rounds: usize, x: Nonce, n: u32) -> [u8; 16]
-    requires sbox_table { SboxTable t.now }
-    requires le_rounds { (10 ≤ rounds) × (rounds ≤ 14) × (rounds % 2 ≡ 0) }
-    ensures { (nk : ℕ) (key : List ℕ) → rounds ≡ nk + 6 → Keyed nk key keys.now → result ≡ block_of nk key x n }
+// Block n of the schedule's key.
+pub fn block(sbox: &Sbox, schedule: &KeySchedule, x: Nonce, n: u32) -> [u8; 16]
+    ensures { result ≡ block_of (words schedule.now) schedule.now x n }
 {
-    aes::bytes_of(aes::encrypt(t, keys, rounds, counter(x, n)))
+    aes::bytes_of(aes::encrypt(sbox, schedule, counter(x, n)))
 }
 
 // Blocks n and n + 1, encrypted together.
-pub fn block_pair(
-    t: &[u8; 256],
-    keys: &[[[u8; 4]; 4]; 15],
-    rounds: usize,
-    x: Nonce,
-    n: u32,
-) -> Blocks
-    requires sbox_table { SboxTable t.now }
-    requires n_bound { (n + 1 < 2 ^ 32) × (10 ≤ rounds) × (rounds ≤ 14) × (rounds % 2 ≡ 0) }
-    ensures { (nk : ℕ) (key : List ℕ) → rounds ≡ nk + 6 → Keyed nk key keys.now
-        → (result.first ≡ block_of nk key x n) × (result.second ≡ block_of nk key x (n + 1)) }
+pub fn block_pair(sbox: &Sbox, schedule: &KeySchedule, x: Nonce, n: u32) -> Blocks
+    requires { n + 1 < 2 ^ 32 }
+    ensures first { result.first ≡ block_of (words schedule.now) schedule.now x n }
+    ensures second { result.second ≡ block_of (words schedule.now) schedule.now x (n + 1) }
 {
     let iv = x.iv;
     let version = x.version;
     match version {
         Version::One => {
-            let one = block(t, keys, rounds, x, n);
-            let two = block(t, keys, rounds, x, n + 1);
+            let one = block(sbox, schedule, x, n);
+            let two = block(sbox, schedule, x, n + 1);
             Blocks {
                 first: one,
                 second: two,
@@ -111,9 +100,8 @@ pub fn block_pair(
         Version::Two => {
             let s = aes::load_state(&iv);
             aes::encrypt_pair(
-                t,
-                keys,
-                rounds,
+                sbox,
+                schedule,
                 add_to_words(s, x.tweak, n),
                 add_to_words(s, x.tweak, n + 1),
             )
@@ -137,7 +125,7 @@ fn store_part(block: [u8; 16], from: usize, p: usize, out: &mut [u8]) -> usize
     requires { (from < 16) × (p ≤ length out.old) }
     ensures { Stored block from p result out.old out.new }
 {
-    let n = numbers::min(16 - from, out.len() - p);
+    let n = (16 - from).min(out.len() - p);
     for k in 0..n {
         out[p + k] = block[from + k];
     }
@@ -157,24 +145,16 @@ fn store(block: [u8; 16], from: usize, p: usize, out: &mut [u8]) -> usize
     store_part(block, from, p, out)
 }
 
-// Fills out with the output from byte `first` on, for the round keys of any key: byte p of the output is byte p % 16 of block p / 16.
-pub fn fill_keyed(
-    t: &[u8; 256],
-    keys: &[[[u8; 4]; 4]; 15],
-    rounds: usize,
-    x: Nonce,
-    first: usize,
-    out: &mut [u8],
-)
-    requires sbox_table { SboxTable t.now }
-    requires le_rounds { (10 ≤ rounds) × (rounds ≤ 14) × (rounds % 2 ≡ 0) × (first + length out.old < 2 ^ 32) }
-    ensures { (nk : ℕ) (key : List ℕ) → rounds ≡ nk + 6 → Keyed nk key keys.now
-        → out.new ≡ tabulate (length out.old) (λ p. byte_of nk key x (first + p)) }
+// Fills out with the output of the schedule's key from byte `first` on: byte p of the output is byte p % 16 of block p / 16.
+pub fn fill_keyed(sbox: &Sbox, schedule: &KeySchedule, x: Nonce, first: usize, out: &mut [u8])
+    requires { first + length out.old < 2 ^ 32 }
+    ensures { out.new ≡ tabulate (length out.old) (λ p. byte_of (words schedule.now) schedule.now x (first + p)) }
 {
+    // a `while`, since a turn goes on by what it stored: the first block is cut in front, the last behind
     let mut p = 0;
     while p < out.len() {
         let at = first + p;
-        let pair = block_pair(t, keys, rounds, x, (at / 16) as u32);
+        let pair = block_pair(sbox, schedule, x, (at / 16) as u32);
         let one = pair.first;
         let two = pair.second;
         let mid = store(one, at % 16, p, out);
@@ -183,12 +163,11 @@ pub fn fill_keyed(
 }
 
 // The same for a key.
-pub fn fill(t: &[u8; 256], key: &[u8], x: Nonce, first: usize, out: &mut [u8])
-    requires sbox_table { SboxTable t.now }
-    requires in_bounds { (16 ≤ length key.now) × (length key.now ≤ 32) × (length key.now % 8 ≡ 0) × (first + length out.old < 2 ^ 32) }
+pub fn fill(sbox: &Sbox, key: &[u8], x: Nonce, first: usize, out: &mut [u8])
+    requires { (16 ≤ length key.now) × (length key.now ≤ 32) × (length key.now % 8 ≡ 0) × (first + length out.old < 2 ^ 32) }
     ensures { (nk : ℕ) → length key.now ≡ 4 * nk
         → out.new ≡ tabulate (length out.old) (λ p. byte_of nk key.now x (first + p)) }
 {
-    let keys = aes::key_schedule(t, key);
-    fill_keyed(t, &keys, key.len() / 4 + 6, x, first, out);
+    let schedule = KeySchedule::new(sbox, key);
+    fill_keyed(sbox, &schedule, x, first, out);
 }

@@ -51,11 +51,9 @@ fn put_words(words: &[u32], out: &mut [u8])
     requires { 4 * length words.now ≤ length out.old }
     ensures { out.new ≡ word_bytes words.now ++ drop (4 * length words.now) out.old }
 {
-    let mut i = 0;
-    while i < words.len() {
+    for (i, word) in words.iter().enumerate() {
         let at = 4 * i;
-        put_word(words[i] as usize, &mut out[at..at + 4]);
-        i += 1;
+        put_word(*word as usize, &mut out[at..at + 4]);
     }
 }
 

@@ -205,11 +205,9 @@ pub fn keccak_f(a: [u64; 25]) -> [u64; 25]
 {
     let constants = round_constants();
     let mut s = a;
-    let mut i = 0;
-    while i < 24 {
-        let t = round(s, constants[i]);
-        s = t;
-        i += 1;
+    for constant in &constants {
+        let next = round(s, *constant);
+        s = next;
     }
     s
 }

@@ -6,7 +6,7 @@ use Rattle.spec.specs.Bytes.{number}
 use Rattle.spec.specs.Shapes.{ordinary, leaf_commitment_bytes, field_width, field_polynomial}
 use Rattle.spec.specs.Primitives.{faest}
 use Rattle.spec.specs.Leaves.{hash_key}
-use Rattle.field_limbs.specs.Multiples.{Multiples}
+use Rattle.field.specs.Multiples.{Multiples}
 
 pub record HashKeys (s : Shape) (iv keys : List ℕ) : Type 0 where
   pub size : length keys ≡ leaf_commitment_bytes s * s.tau

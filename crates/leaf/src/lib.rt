@@ -2,7 +2,6 @@
 #![tactic(auto)]
 
 ghost use Rattle.std.specs.Prelude.{◌≡◌, true, false, List, ℕ, ◌+◌, ◌-◌, ◌*◌, ◌^◌, ◌≤◌, ◌<◌, length};
-ghost use Rattle.spec.specs.Gf256.{SboxTable};
 ghost use Rattle.spec.specs.Shapes.{ordinary, node_bytes, leaf_commitment_bytes, leaves, shape_ok};
 ghost use Rattle.spec.specs.Primitives.{faest};
 ghost use Rattle.spec.specs.Leaves.{leaf_seed, leaf_commitment};
@@ -11,6 +10,7 @@ ghost use Rattle.job.specs.declared.Version.TheVariants.{Two};
 ghost use Rattle.job.specs.Versions.{KindFits, leaf_seed_of, leaf_commitment_of};
 ghost use Rattle.leaf.specs.HashKeys.{HashKeys, HashMultiples};
 
+use aes::Sbox;
 use job::{Nonce, Version};
 use spec::Shape;
 
@@ -46,7 +46,7 @@ pub fn hash_multiples(s: Shape, i: usize, keys: &[u8]) -> [[u64; 12]; 16]
 
 // The seed and the commitment of the ordinary leaf `key` of vector i, with room for the stretched leaf lent; m has the multiples of the vector's hash key.
 fn stretch_leaf(
-    t: &[u8; 256],
+    sbox: &Sbox,
     m: &[[u64; 12]; 16],
     s: Shape,
     key: &[u8],
@@ -55,25 +55,23 @@ fn stretch_leaf(
     seed: &mut [u8],
     out: &mut [u8],
 )
-    requires sbox_table { SboxTable t.now }
-    requires s_value { (shape_ok s ≡ true) × (ordinary s ≡ true) × (x.version ≡ Two) × (length key.now ≡ node_bytes s) × (length stretched.old ≡ node_bytes s + leaf_commitment_bytes s) × (length seed.old ≡ node_bytes s) × (length out.old ≡ leaf_commitment_bytes s) }
+    requires { (shape_ok s ≡ true) × (ordinary s ≡ true) × (x.version ≡ Two) × (length key.now ≡ node_bytes s) × (length stretched.old ≡ node_bytes s + leaf_commitment_bytes s) × (length seed.old ≡ node_bytes s) × (length out.old ≡ leaf_commitment_bytes s) }
     ensures { (i : ℕ) → x.tweak ≡ i + leaves s - 1 → HashMultiples s x.iv i m.now
         → (seed.new ≡ leaf_seed faest s x.iv i key.now) × (out.new ≡ leaf_commitment faest s x.iv i key.now) }
 {
     let n = rules::node_bytes(s);
-    generator::fill(t, key, x, 0, stretched);
+    generator::fill(sbox, key, x, 0, stretched);
     leaf_hash::leaf_hash(s, m, stretched, out);
     buffers::copy_part(stretched, 0, n, seed, 0);
 }
 
 // The same of an Even-Mansour leaf: it is its own seed.
-fn em_leaf(t: &[u8; 256], s: Shape, key: &[u8], x: Nonce, seed: &mut [u8], out: &mut [u8])
-    requires sbox_table { SboxTable t.now }
-    requires s_value { (shape_ok s ≡ true) × (ordinary s ≡ false) × (x.version ≡ Two) × (length key.now ≡ node_bytes s) × (length seed.old ≡ node_bytes s) × (length out.old ≡ leaf_commitment_bytes s) }
+fn em_leaf(sbox: &Sbox, s: Shape, key: &[u8], x: Nonce, seed: &mut [u8], out: &mut [u8])
+    requires { (shape_ok s ≡ true) × (ordinary s ≡ false) × (x.version ≡ Two) × (length key.now ≡ node_bytes s) × (length seed.old ≡ node_bytes s) × (length out.old ≡ leaf_commitment_bytes s) }
     ensures { (i : ℕ) → x.tweak ≡ i + leaves s - 1
         → (seed.new ≡ leaf_seed faest s x.iv i key.now) × (out.new ≡ leaf_commitment faest s x.iv i key.now) }
 {
-    generator::fill(t, key, x, 0, out);
+    generator::fill(sbox, key, x, 0, out);
     buffers::copy_part(key, 0, key.len(), seed, 0);
 }
 
@@ -120,7 +118,7 @@ fn hash_leaf_in_place(s: Shape, key: &[u8], iv: [u8; 16], seed: &mut [u8], out: 
 
 // The same of a leaf of version 2, of the shape's kind; m has the multiples of the vector's hash key, where it has one.
 fn leaf_of_kind(
-    t: &[u8; 256],
+    sbox: &Sbox,
     m: &[[u64; 12]; 16],
     s: Shape,
     key: &[u8],
@@ -128,23 +126,22 @@ fn leaf_of_kind(
     seed: &mut [u8],
     out: &mut [u8],
 )
-    requires sbox_table { SboxTable t.now }
-    requires s_value { (shape_ok s ≡ true) × (x.version ≡ Two) × (length key.now ≡ node_bytes s) × (length seed.old ≡ node_bytes s) × (length out.old ≡ leaf_commitment_bytes s) }
+    requires { (shape_ok s ≡ true) × (x.version ≡ Two) × (length key.now ≡ node_bytes s) × (length seed.old ≡ node_bytes s) × (length out.old ≡ leaf_commitment_bytes s) }
     ensures { (i : ℕ) → x.tweak ≡ i + leaves s - 1 → HashMultiples s x.iv i m.now
         → (seed.new ≡ leaf_seed faest s x.iv i key.now) × (out.new ≡ leaf_commitment faest s x.iv i key.now) }
 {
     if !rules::is_ordinary(s) {
-        em_leaf(t, s, key, x, seed, out);
+        em_leaf(sbox, s, key, x, seed, out);
         return;
     }
     let n = rules::node_bytes(s) + rules::commitment_bytes(s);
     let mut stretched = [0u8; 128];
-    stretch_leaf(t, m, s, key, x, &mut stretched[0..n], seed, out);
+    stretch_leaf(sbox, m, s, key, x, &mut stretched[0..n], seed, out);
 }
 
 // The same of a leaf of the shape's kind; m has the multiples of the vector's hash key, where it has one. A leaf of version 1 is that of a shape whose kind has no hash key.
 pub fn commit_leaf(
-    t: &[u8; 256],
+    sbox: &Sbox,
     m: &[[u64; 12]; 16],
     s: Shape,
     key: &[u8],
@@ -152,8 +149,7 @@ pub fn commit_leaf(
     seed: &mut [u8],
     out: &mut [u8],
 )
-    requires sbox_table { SboxTable t.now }
-    requires s_value { (shape_ok s ≡ true) × KindFits x.version s × (length key.now ≡ node_bytes s) × (length seed.old ≡ node_bytes s) × (length out.old ≡ leaf_commitment_bytes s) }
+    requires { (shape_ok s ≡ true) × KindFits x.version s × (length key.now ≡ node_bytes s) × (length seed.old ≡ node_bytes s) × (length out.old ≡ leaf_commitment_bytes s) }
     ensures { (i : ℕ) → x.tweak ≡ i + leaves s - 1 → HashMultiples s x.iv i m.now
         → (seed.new ≡ leaf_seed_of x.version s x.iv i key.now) × (out.new ≡ leaf_commitment_of x.version s x.iv i key.now) }
 {
@@ -161,6 +157,6 @@ pub fn commit_leaf(
     let version = x.version;
     match version {
         Version::One => hash_leaf_in_place(s, key, iv, seed, out),
-        Version::Two => leaf_of_kind(t, m, s, key, x, seed, out),
+        Version::Two => leaf_of_kind(sbox, m, s, key, x, seed, out),
     }
 }

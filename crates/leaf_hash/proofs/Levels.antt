@@ -6,9 +6,7 @@ use borrow.Author.Tests.{eqb-true}
 use Rattle.spec.specs.declared.Shape.{Shape}
 use Rattle.spec.specs.Shapes.{ordinary, level, node_bytes, leaf_commitment_bytes, field_width, field_polynomial, level_ok, shape_ok}
 use Rattle.planning_laws.proofs.ShapeFacts.{shape-facts, by_level}
-use Rattle.field_384.specs.Field.{p384}
-use Rattle.field_576.specs.Field.{p576}
-use Rattle.field_768.specs.Field.{p768}
+use Rattle.field.specs.Fields.{p384, p576, p768}
 
 -- the field has 2 ^ w elements, modulo m; a node has n bytes and a leaf commitment l
 pub record Field (s : Shape) (w m n l : ℕ) : Type 0 where

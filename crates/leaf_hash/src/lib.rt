@@ -5,8 +5,9 @@ ghost use Rattle.std.specs.Prelude.{◌≡◌, true, List, ℕ, ◌+◌, length,
 ghost use Rattle.spec.specs.Bytes.{number, tabulate};
 ghost use Rattle.spec.specs.Shapes.{ordinary, node_bytes, leaf_commitment_bytes, field_width, field_polynomial, shape_ok};
 ghost use Rattle.spec.specs.LeafHash.{leaf_hash_byte};
-ghost use Rattle.field_limbs.specs.Multiples.{Multiples};
+ghost use Rattle.field.specs.Multiples.{Multiples};
 
+use field::{Field384, Field576, Field768};
 use spec::Shape;
 
 // The multiples of a hash key, of one type at every level.
@@ -15,12 +16,12 @@ pub fn multiples(s: Shape, key: &[u8]) -> [[u64; 12]; 16]
     ensures { Multiples (field_width s) (field_polynomial s) (number 8 key.now) result }
 {
     if s.level == 128 {
-        return field_384::multiples(key);
+        return field::multiples::<Field384, 6>(key);
     }
     if s.level == 192 {
-        return field_576::multiples(key);
+        return field::multiples::<Field576, 9>(key);
     }
-    field_768::multiples(key)
+    field::multiples::<Field768, 12>(key)
 }
 
 // The leaf hash of a stretched leaf: the hash key, given as its multiples, times the seed, plus the rest.
@@ -29,12 +30,12 @@ pub fn leaf_hash(s: Shape, m: &[[u64; 12]; 16], stretched: &[u8], out: &mut [u8]
     ensures { (u : List ℕ) → Multiples (field_width s) (field_polynomial s) (number 8 u) m.now → out.new ≡ tabulate (leaf_commitment_bytes s) (leaf_hash_byte (field_width s) (field_polynomial s) u (take (node_bytes s) stretched.now) (drop (node_bytes s) stretched.now)) }
 {
     if s.level == 128 {
-        field_384::leaf_hash(m, stretched, out);
+        field::leaf_hash::<Field384, 6>(m, stretched, out);
         return;
     }
     if s.level == 192 {
-        field_576::leaf_hash(m, stretched, out);
+        field::leaf_hash::<Field576, 9>(m, stretched, out);
         return;
     }
-    field_768::leaf_hash(m, stretched, out);
+    field::leaf_hash::<Field768, 12>(m, stretched, out);
 }

@@ -14,7 +14,7 @@ fn put_plan(out: &mut [u8], shape: Shape, challenge: &[u8], nodes: &mut [u32]) -
     ensures { Put (plan_text (resolved shape) challenge.now) 0 out.old out.new result }
 {
     let s = rules::resolve(shape);
-    let t = numbers::min(s.t, 512);
+    let t = s.t.min(512);
     let answer = shape::plan(shape, challenge, &mut nodes[..t]);
     if answer.number != 0 {
         return listing_text::put_refused(out, answer.number);

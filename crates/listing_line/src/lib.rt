@@ -18,14 +18,12 @@ fn is_digit(c: u8) -> bool
 fn digit_run(text: &[u8]) -> usize
     ensures { (result ≡ digit_run text.now) × (result ≤ length text.now) }
 {
-    let mut i = 0;
-    while i < text.len() {
-        if !is_digit(text[i]) {
+    for (i, c) in text.iter().enumerate() {
+        if !is_digit(*c) {
             return i;
         }
-        i += 1;
     }
-    i
+    text.len()
 }
 
 // Whether a text begins with a number of one to five digits and a space.
@@ -46,10 +44,8 @@ fn number_of(text: &[u8]) -> usize
 {
     let n = digit_run(text);
     let mut v: usize = 0;
-    let mut i = 0;
-    while i < n {
+    for i in 0..n {
         v = 10 * v + (text[i] - b'0') as usize;
-        i += 1;
     }
     v
 }
@@ -70,11 +66,8 @@ pub fn behind(input: &[u8], n: usize) -> &[u8]
     ensures { result.now ≡ behind n input.now }
 {
     let mut text = input;
-    let mut i = 0;
-    while i < n {
-        let next = after_number(text);
-        text = next;
-        i += 1;
+    for _i in 0..n {
+        text = after_number(text);
     }
     text
 }
@@ -101,12 +94,10 @@ fn hex_below(text: &[u8], n: usize) -> bool
     requires { n ≤ length text.now }
     ensures { result ≡ hex_below n text.now }
 {
-    let mut i = 0;
-    while i < n {
+    for i in 0..n {
         if !is_hex_digit(text[i]) {
             return false;
         }
-        i += 1;
     }
     true
 }
@@ -131,10 +122,8 @@ pub fn challenge_of(text: &[u8]) -> [u8; 16]
     ensures { result ≡ challenge_of text.now }
 {
     let mut challenge = [0u8; 16];
-    let mut i = 0;
-    while i < 16 {
-        challenge[i] = 16 * hex_value(text[2 * i]) + hex_value(text[2 * i + 1]);
-        i += 1;
+    for (i, byte) in challenge.iter_mut().enumerate() {
+        *byte = 16 * hex_value(text[2 * i]) + hex_value(text[2 * i + 1]);
     }
     challenge
 }

@@ -18,10 +18,8 @@ pub fn put_bytes(out: &mut [u8], at: usize, bytes: &[u8]) -> usize
     ensures { Put bytes.now at out.old out.new result }
 {
     let mut end = at;
-    let mut i = 0;
-    while i < bytes.len() {
-        end = put_byte(out, end, bytes[i]);
-        i += 1;
+    for byte in bytes {
+        end = put_byte(out, end, *byte);
     }
     end
 }
@@ -60,10 +58,8 @@ fn put_lines(out: &mut [u8], at: usize, numbers: &[u32]) -> usize
     ensures { Put (number_lines numbers.now (length numbers.now)) at out.old out.new result }
 {
     let mut end = at;
-    let mut i = 0;
-    while i < numbers.len() {
-        end = put_line(out, end, numbers[i] as usize);
-        i += 1;
+    for number in numbers {
+        end = put_line(out, end, *number as usize);
     }
     end
 }

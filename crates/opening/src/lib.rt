@@ -14,13 +14,10 @@ pub fn write_hidden(s: Shape, ch: &[u8], lcs: &[u8], out: &mut [u8])
     requires { (shape_ok s ≡ true) × (length ch.now ≡ challenge_bytes s) × (length lcs.now ≡ leaf_commitments_bytes s) × (leaf_commitment_bytes s * s.tau ≤ length out.old) }
     ensures { take (leaf_commitment_bytes s * s.tau) out.new ≡ concat s.tau (λ i. leaf_commitment_at s lcs.now i (hidden_index s ch.now i)) }
 {
-    let tau = s.tau;
     let w = rules::commitment_bytes(s);
-    let mut i = 0;
-    while i < tau {
+    for i in 0..s.tau {
         let j = challenge::hidden_index(s, ch, i);
         buffers::copy_part(lcs, w * rules::entry_of(s, i, j), w, out, w * i);
-        i += 1;
     }
 }
 
@@ -29,10 +26,8 @@ fn write_nodes(w: usize, nodes: &[u32], n: usize, tree: &[u8], out: &mut [u8], a
     requires { (1 ≤ w) × (n ≤ length nodes.now) × (at + w * n ≤ length out.old) × ((m : ℕ) → m < n → w * get_or nodes.now m 0 + w ≤ length tree.now) }
     ensures { take (at + w * n) out.new ≡ take at out.old ++ concat n (λ m. part tree.now (w * get_or nodes.now m 0) w) }
 {
-    let mut m = 0;
-    while m < n {
+    for m in 0..n {
         buffers::copy_part(tree, w * (nodes[m] as usize), w, out, at + w * m);
-        m += 1;
     }
 }
 

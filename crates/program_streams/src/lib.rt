@@ -33,7 +33,7 @@ pub fn has_arguments(rt: &impl Env) -> bool {
 }
 
 // Reads until the buffer is full or the input ends, and answers how many bytes of the buffer were read: the first bytes of the input, all that it has or as
-// many as the buffer has room for.
+// many as the buffer has room for. The loop is a `while`, since a read may give fewer bytes than there is room for.
 pub fn read_start<R: Read>(input: &mut R, buffer: &mut [u8]) -> Result<usize, Failure>
     ensures within { IfOk result (λ n. n ≤ length buffer.new) }
     ensures bytes { IfOk result (λ n. IfSome (R.remaining input.old) (λ xs. take n buffer.new ≡ take (length buffer.old) xs)) }

@@ -6,6 +6,7 @@ ghost use Rattle.spec.specs.Shapes.{challenge_bytes, leaf_commitment_bytes, hash
 ghost use Rattle.spec.specs.Primitives.{faest};
 ghost use Rattle.spec.specs.Calls.{Reconstructed, reconstructed};
 
+use aes::Sbox;
 use job::{Job, Version};
 use spec::{Shape, Stretch};
 
@@ -32,17 +33,17 @@ fn write_all(
         (reconstructed faest s z iv.now ch.now corrections.now opening.now) }
 {
     let r = rules::rate_bytes(s);
-    let t = aes::table();
+    let sbox = Sbox::new();
     let x = generator::load_iv(iv);
     leaf::hash_keys(s, iv, keys);
-    verifier_tree::reconstruct_tree(&t, s, ch, x, n, opening, tree);
+    verifier_tree::reconstruct_tree(&sbox, s, ch, x, n, opening, tree);
     let g = Job {
         shape: s,
         stretch: z,
         iv: x,
         version: Version::Two,
     };
-    verifier_vectors::write_vectors(&t, g, keys, ch, tree, opening, lcs, q, hashes);
+    verifier_vectors::write_vectors(&sbox, g, keys, ch, tree, opening, lcs, q, hashes);
     verifier_vectors::correct_vectors(s, z.width, ch, corrections, q);
     shake::h1(r, hashes, commitment);
 }

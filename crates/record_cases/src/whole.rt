@@ -2,79 +2,60 @@
 use record::Lengths;
 use spec::Answer;
 use std::io;
-use test_support::parts::{front, front_mut};
+use test_support::parts::front_mut;
 use vectors_calls::{print_answer, print_buffer};
 
-// Checks a record, lent the front of each work buffer.
-pub fn call_check(
-    record: &[u8],
-    l: Lengths,
-    tree: &mut [u8],
-    leaf_commitments: &mut [u8],
-    q: &mut [u8],
-) -> Answer {
-    broker::check_record(
-        record,
-        front_mut(tree, l.tree),
-        front_mut(leaf_commitments, l.leaf_commitments),
-        front_mut(q, l.q),
-    )
+// The work buffers of a check, of which the front of each is lent.
+#[derive(Drop)]
+pub struct Work<'a> {
+    pub tree: &'a mut [u8],
+    pub leaf_commitments: &'a mut [u8],
+    pub q: &'a mut [u8],
 }
 
-// The same for named sets alone.
-fn call_named(
-    record: &[u8],
-    l: Lengths,
-    tree: &mut [u8],
-    leaf_commitments: &mut [u8],
-    q: &mut [u8],
-) -> Answer {
-    named_broker::check_named(
-        record,
-        front_mut(tree, l.tree),
-        front_mut(leaf_commitments, l.leaf_commitments),
-        front_mut(q, l.q),
-    )
-}
-
-// Checks the first n bytes, and prints them with the work buffers where they are accepted.
-pub fn check(
-    rt: &impl Print,
-    bytes: &[u8],
-    n: usize,
-    tree: &mut [u8],
-    leaf_commitments: &mut [u8],
-    q: &mut [u8],
-) -> io::Result<()> {
-    let l = broker::work_lengths(front(bytes, n));
-    let r = call_check(front(bytes, n), l, tree, leaf_commitments, q);
-    print_answer(rt, r)?;
-    if r.number == 0 {
-        print_buffer(rt, b"record ", bytes, n)?;
-        print_buffer(rt, b"tree ", tree, l.tree)?;
-        print_buffer(
-            rt,
-            b"leaf_commitments ",
-            leaf_commitments,
-            l.leaf_commitments,
-        )?;
-        print_buffer(rt, b"q ", q, l.q)?;
+impl Work<'_> {
+    // Checks a record.
+    pub fn check(&mut self, bytes: &[u8], l: Lengths) -> Answer {
+        broker::check_record(
+            bytes,
+            front_mut(self.tree, l.tree),
+            front_mut(self.leaf_commitments, l.leaf_commitments),
+            front_mut(self.q, l.q),
+        )
     }
-    Ok(())
-}
 
-// Checks the first n bytes for named sets alone, and prints the answer.
-pub fn check_named(
-    rt: &impl Print,
-    bytes: &[u8],
-    n: usize,
-    tree: &mut [u8],
-    leaf_commitments: &mut [u8],
-    q: &mut [u8],
-) -> io::Result<()> {
-    let l = broker::work_lengths(front(bytes, n));
-    print_answer(
-        rt,
-        call_named(front(bytes, n), l, tree, leaf_commitments, q),
-    )
+    // Checks a record for named sets alone.
+    fn check_named(&mut self, bytes: &[u8], l: Lengths) -> Answer {
+        named_broker::check_named(
+            bytes,
+            front_mut(self.tree, l.tree),
+            front_mut(self.leaf_commitments, l.leaf_commitments),
+            front_mut(self.q, l.q),
+        )
+    }
+
+    // Checks a record, and prints it with the work buffers where it is accepted.
+    pub fn run(&mut self, rt: &impl Print, bytes: &[u8]) -> io::Result<()> {
+        let l = broker::work_lengths(bytes);
+        let r = self.check(bytes, l);
+        print_answer(rt, r)?;
+        if r.number == 0 {
+            print_buffer(rt, "record", bytes, bytes.len())?;
+            print_buffer(rt, "tree", self.tree, l.tree)?;
+            print_buffer(
+                rt,
+                "leaf_commitments",
+                self.leaf_commitments,
+                l.leaf_commitments,
+            )?;
+            print_buffer(rt, "q", self.q, l.q)?;
+        }
+        Ok(())
+    }
+
+    // Checks a record for named sets alone, and prints the answer.
+    pub fn run_named(&mut self, rt: &impl Print, bytes: &[u8]) -> io::Result<()> {
+        let l = broker::work_lengths(bytes);
+        print_answer(rt, self.check_named(bytes, l))
+    }
 }

@@ -11,8 +11,12 @@ use Rattle.spec.specs.Shapes.{resolved, hash_bytes, planned_count, shape_ok}
 use Rattle.spec.specs.Primitives.{faest}
 use Rattle.spec.specs.Calls.{first_refusal, row_ok, count_given, count_with, Reconstructed}
 use Rattle.record.specs.Fields.{field_ok}
-use Rattle.record.specs.Record.{version_of, head_bytes, version_ok, record_end, rest_ok, Contents, contents_of, kind_fits, read_number}
+use Rattle.record.specs.Record.{version_of, head_bytes, version_ok, record_end, rest_ok, Contents, contents_of, kind_fits, head_number, read_number}
 use Rattle.record.specs.RecordCalls.{answered, Work, work_lengths, work_of, Reconstructs, made, same_bytes, record_number, CheckRecord}
+use Rattle.record.proofs.Reading.{front-decides}
+use Rattle.record_reading.specs.declared.RecordRefusal.{RecordRefusal}
+use Rattle.record_reading.specs.Front.{number_of}
+use Rattle.record_reading.proofs.Fronts.{numbered}
 use Rattle.record.proofs.Reconstructing.{ran_number, ran-number, ran-count, ran-made, ran-kept, not-eleven, number-refused, number-steps}
 
 -- ---- refused in reading
@@ -50,6 +54,12 @@ check-read rec x r k e bad a =
       count = a.1 ∙ sym (rw (n, q.1) refl);
       buffers = rw (n, q.0) refl;
     }
+
+-- the front is refused
+pub check-refused : (rec : List ℕ) (x : Work) (r : Answer) (e : RecordRefusal) → number_of e ≡ head_number rec → (r.number ≡ number_of e) × (r.count ≡ 0) → CheckRecord faest rec x x r
+check-refused rec x r e n =
+    let bad : head_number rec ≡ 0 → ⊥ = λ z. numbered e (n ∙ z) in
+    check-read rec x r (number_of e) (n ∙ sym (front-decides rec bad)) (numbered e)
 
 -- ---- fields that reconstruct was made on; x are its buffers, a is what it answers, y what it leaves. Of every record that is read as these fields
 

@@ -9,7 +9,7 @@ ghost use Rattle.record.specs.Record.{contents_of, read_number};
 ghost use Rattle.record.specs.RecordCalls.{CheckRecord};
 ghost use Rattle.record_reading.specs.Front.{FrontOf, ReadFront, SizesOf};
 
-use record_reading::{Front, Sizes};
+use record_reading::{Front, RecordRefusal, Sizes};
 use spec::Answer;
 
 // The check of every record that is read as these fields. The reconstructed commitment goes to a buffer that has its length.
@@ -58,7 +58,10 @@ fn compared<'a>(
         return r;
     }
     if !record_fields::same_bytes(commitment, expected) {
-        return rules::answer(11, r.count);
+        return Answer {
+            number: 11,
+            count: r.count,
+        };
     }
     r
 }
@@ -145,26 +148,43 @@ fn check_fields(
     )
 }
 
-// The check of a record, with what its front gives.
-pub fn check_front(
+// The check of a record whose front is read and not refused.
+fn check_read(
     record: &[u8],
     f: Front,
     tree: &mut [u8],
     leaf_commitments: &mut [u8],
     q: &mut [u8],
 ) -> Answer
-    requires { ReadFront «record».now f }
+    requires { FrontOf «record».now f }
     ensures { CheckRecord faest «record».now
         (record { tree = tree.entry.now; leaf_commitments = leaf_commitments.old; q = q.old })
         (record { tree = tree.exit.now; leaf_commitments = leaf_commitments.new; q = q.new })
         result }
 {
-    if f.number != 0 {
-        return rules::answer(f.number, 0);
-    }
     let z = record_reading::sizes_of(f);
     if !record_reading::is_read(record, z) {
-        return rules::answer(10, 0);
+        return Answer::from(RecordRefusal::NotARecord);
     }
     check_fields(record, f, z, tree, leaf_commitments, q)
+}
+
+// The check of a record whose front is read, or refused.
+pub fn check_front(
+    record: &[u8],
+    front: Result<Front, RecordRefusal>,
+    tree: &mut [u8],
+    leaf_commitments: &mut [u8],
+    q: &mut [u8],
+) -> Answer
+    requires { ReadFront «record».now front }
+    ensures { CheckRecord faest «record».now
+        (record { tree = tree.entry.now; leaf_commitments = leaf_commitments.old; q = q.old })
+        (record { tree = tree.exit.now; leaf_commitments = leaf_commitments.new; q = q.new })
+        result }
+{
+    match front {
+        Ok(f) => check_read(record, f, tree, leaf_commitments, q),
+        Err(refusal) => Answer::from(refusal),
+    }
 }

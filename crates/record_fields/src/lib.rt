@@ -9,6 +9,7 @@ ghost use Rattle.record.specs.Fields.{field_ok, field_at};
 ghost use Rattle.spec.specs.Bytes.{big_endian};
 ghost use Rattle.record.specs.Record.{version_of, head_bytes, shape_in, row_in, kind_fits, version_for, record_bytes};
 ghost use Rattle.record.specs.RecordCalls.{same_bytes};
+ghost use Rattle.record_fields.specs.Versions.{byte_of, version_named};
 
 use spec::Shape;
 
@@ -65,58 +66,91 @@ pub fn field_at(bytes: &[u8], at: usize, n: usize) -> &[u8]
 
 // ---- versions
 
-// The bytes of the head of a version, 0 where the version is not known.
-pub fn head_length(version: u8) -> usize
-    ensures { (result ≡ head_bytes version) × (result ≤ 11) }
-{
-    if version == 1 {
-        return 9;
-    }
-    if version == 2 {
-        return 10;
-    }
-    if version == 3 {
-        return 11;
-    }
-    0
+// The versions of a record.
+#[derive(Clone, Copy, Debug, PartialEq, Eq)]
+pub enum RecordVersion {
+    One,
+    Two,
+    Three,
 }
 
-// The version byte, 0 where it is missing.
-pub fn version_of(bytes: &[u8]) -> u8
-    ensures { result ≡ version_of bytes.now }
-{
-    if bytes.len() < 1 {
-        return 0;
+impl RecordVersion {
+    // The version that a byte names, if it names one.
+    #[tactic(auto, unfolding(crate::specs::Versions::version_named))]
+    pub fn named(byte: u8) -> Option<RecordVersion>
+        ensures { result ≡ version_named byte }
+    {
+        match byte {
+            1 => Some(RecordVersion::One),
+            2 => Some(RecordVersion::Two),
+            3 => Some(RecordVersion::Three),
+            _ => None,
+        }
     }
-    bytes[0]
+
+    // The byte that names it.
+    #[tactic(auto, unfolding(crate::specs::Versions::byte_of))]
+    pub fn byte(self) -> u8
+        ensures { result ≡ byte_of self }
+    {
+        match self {
+            RecordVersion::One => 1,
+            RecordVersion::Two => 2,
+            RecordVersion::Three => 3,
+        }
+    }
+
+    // The bytes of its head.
+    #[tactic(auto, unfolding(crate::specs::Versions::byte_of, record::specs::Record::head_bytes))]
+    pub fn head_length(self) -> usize
+        ensures { (result ≡ head_bytes (byte_of self)) × (9 ≤ result) × (result ≤ 11) }
+    {
+        match self {
+            RecordVersion::One => 9,
+            RecordVersion::Two => 10,
+            RecordVersion::Three => 11,
+        }
+    }
+}
+
+// The version of a record, if it begins with a byte that names one.
+pub fn version_of(bytes: &[u8]) -> Option<RecordVersion>
+    ensures { result ≡ version_named (version_of bytes.now) }
+{
+    match bytes.first() {
+        Some(byte) => RecordVersion::named(*byte),
+        None => None,
+    }
 }
 
 // The level in the head of a version, in bits.
-fn level_in(version: u8, head: &[u8]) -> usize
-    requires { (0 < head_bytes version) × (length head.now ≡ head_bytes version) }
-    ensures { result ≡ (shape_in version head.now).level }
+#[tactic(auto, unfolding(crate::specs::Versions::byte_of, record::specs::Record::head_bytes, record::specs::Record::shape_in))]
+fn level_in(version: RecordVersion, head: &[u8]) -> usize
+    requires { length head.now ≡ head_bytes (byte_of version) }
+    ensures { result ≡ (shape_in (byte_of version) head.now).level }
 {
-    if version == 1 {
-        return 128;
+    match version {
+        RecordVersion::One => 128,
+        RecordVersion::Two | RecordVersion::Three => 8 * wide(head[9]),
     }
-    8 * wide(head[9])
 }
 
 // The leaf kind in the head of a version.
-fn kind_in(version: u8, head: &[u8]) -> usize
-    requires { (0 < head_bytes version) × (length head.now ≡ head_bytes version) }
-    ensures { result ≡ (shape_in version head.now).kind }
+#[tactic(auto, unfolding(crate::specs::Versions::byte_of, record::specs::Record::head_bytes, record::specs::Record::shape_in))]
+fn kind_in(version: RecordVersion, head: &[u8]) -> usize
+    requires { length head.now ≡ head_bytes (byte_of version) }
+    ensures { result ≡ (shape_in (byte_of version) head.now).kind }
 {
-    if version != 3 {
-        return 0;
+    match version {
+        RecordVersion::One | RecordVersion::Two => 0,
+        RecordVersion::Three => wide(head[10]),
     }
-    wide(head[10])
 }
 
 // The shape in the head of a version.
-pub fn shape_in(version: u8, head: &[u8]) -> Shape
-    requires { (0 < head_bytes version) × (length head.now ≡ head_bytes version) }
-    ensures { result ≡ shape_in version head.now }
+pub fn shape_in(version: RecordVersion, head: &[u8]) -> Shape
+    requires { length head.now ≡ head_bytes (byte_of version) }
+    ensures { result ≡ shape_in (byte_of version) head.now }
 {
     Shape {
         tau: wide(head[0]),
@@ -137,20 +171,26 @@ pub fn row_in(head: &[u8]) -> usize
 }
 
 // Whether a record of a version may have a leaf kind.
-pub fn kind_fits(version: u8, kind: usize) -> bool
-    ensures { result ≡ kind_fits version kind }
+#[tactic(auto, unfolding(crate::specs::Versions::byte_of))]
+pub fn kind_fits(version: RecordVersion, kind: usize) -> bool
+    ensures { result ≡ kind_fits (byte_of version) kind }
 {
-    if version != 3 {
-        return true;
+    match version {
+        RecordVersion::One | RecordVersion::Two => true,
+        RecordVersion::Three => kind == 1,
     }
-    kind == 1
 }
 
 // The version that is written for a shape, by its leaf kind.
-pub fn version_for(s: Shape) -> u8
-    ensures { result ≡ version_for s }
+#[tactic(auto, unfolding(crate::specs::Versions::byte_of, record::specs::Record::version_for))]
+pub fn version_for(s: Shape) -> RecordVersion
+    ensures { byte_of result ≡ version_for s }
 {
-    if rules::is_ordinary(s) { 2 } else { 3 }
+    if rules::is_ordinary(s) {
+        RecordVersion::Two
+    } else {
+        RecordVersion::Three
+    }
 }
 
 // ---- lengths of a resolved shape, with rows of b bytes
@@ -168,7 +208,7 @@ pub fn record_length(s: Shape, b: usize) -> usize
     requires { (shape_ok s ≡ true) × (b ≤ 8192) }
     ensures { (result ≡ record_bytes s b) × (result ≤ 273555) }
 {
-    let h = head_length(version_for(s));
+    let h = version_for(s).head_length();
     let front = h + challenge_length(s);
     let rest = lengths::corrections_bytes(s, b) + lengths::opening_bytes(s) + rules::hash_bytes(s);
     41 + front + rest
@@ -178,15 +218,5 @@ pub fn record_length(s: Shape, b: usize) -> usize
 pub fn same_bytes(a: &[u8], b: &[u8]) -> bool
     ensures { result ≡ same_bytes a.now b.now }
 {
-    if a.len() != b.len() {
-        return false;
-    }
-    let mut p = 0;
-    while p < a.len() {
-        if a[p] != b[p] {
-            return false;
-        }
-        p += 1;
-    }
-    true
+    a == b
 }

@@ -2,7 +2,7 @@
 // it takes the reader apart and calls a function of record_fields.
 #![tactic(auto)]
 
-ghost use Rattle.std.specs.Prelude.{◌≡◌, ◌&&◌, ◌+◌, ◌^◌, ◌<◌, ◌≤◌, length};
+ghost use Rattle.std.specs.Prelude.{◌≡◌, ◌&&◌, cond, Some, None, ◌+◌, ◌^◌, ◌<◌, ◌≤◌, length};
 ghost use Rattle.record.specs.Fields.{field_ok, field_at, behind};
 
 #[derive(Clone, Copy)]
@@ -78,14 +78,7 @@ pub fn head_of(bytes: &[u8], h: usize) -> &[u8]
     field(advanced(new(bytes), 1), h)
 }
 
-// What a reader finds behind the head: whether fields two to six are there, and its place behind the sixth.
-#[derive(Clone, Copy)]
-pub struct Rest {
-    pub fits: bool,
-    pub end: usize,
-}
-
-// The reader goes past a head of h bytes, and tests each of the five fields behind it before it goes past it.
+// The reader goes past a head of h bytes, and tests each of the five fields behind it before it goes past it. Where all are there, its place behind the sixth field.
 pub fn rest_of(
     bytes: &[u8],
     h: usize,
@@ -94,14 +87,14 @@ pub fn rest_of(
     n4: usize,
     n5: usize,
     n6: usize,
-) -> Rest
+) -> Option<usize>
     requires { 1 + 4 + h + 4 + n2 + 4 + n3 + 4 + n4 + 4 + n5 + 4 + n6 < 2 ^ 64 }
-    ensures { (result.fits ≡ ((((field_ok bytes.now (behind 1 h) n2
+    ensures { result ≡ cond ((((field_ok bytes.now (behind 1 h) n2
         && field_ok bytes.now (behind (behind 1 h) n2) n3)
         && field_ok bytes.now (behind (behind (behind 1 h) n2) n3) n4)
         && field_ok bytes.now (behind (behind (behind (behind 1 h) n2) n3) n4) n5)
-        && field_ok bytes.now (behind (behind (behind (behind (behind 1 h) n2) n3) n4) n5) n6))
-        × (result.end ≡ behind (behind (behind (behind (behind (behind 1 h) n2) n3) n4) n5) n6) }
+        && field_ok bytes.now (behind (behind (behind (behind (behind 1 h) n2) n3) n4) n5) n6)
+        (Some (behind (behind (behind (behind (behind (behind 1 h) n2) n3) n4) n5) n6)) None }
 {
     let r2 = past(advanced(new(bytes), 1), h);
     let ok2 = fits(r2, n2);
@@ -114,10 +107,10 @@ pub fn rest_of(
     let r6 = past(r5, n5);
     let ok6 = fits(r6, n6);
     let r7 = past(r6, n6);
-    let end = place(r7);
-    Rest {
-        fits: ok2 & ok3 & ok4 & ok5 & ok6,
-        end,
+    if ok2 & ok3 & ok4 & ok5 & ok6 {
+        Some(place(r7))
+    } else {
+        None
     }
 }
 

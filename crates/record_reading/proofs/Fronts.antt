@@ -1,7 +1,7 @@
 -- What reading a front gives, where it is refused before its head and where the head is there: by the tests of the front. And the fields behind it, by their lengths.
 use Prim.Native.Nat.{ℕ, ◌+◌, ◌≤◌, ◌<◌}
 use mathlib.Core.Path.{◌≡◌, refl, sym, ◌∙◌}
-use mathlib.Core.Bool.{true, false}
+use mathlib.Core.Bool.{Bool, true, false, cond}
 use mathlib.Core.List.{List}
 use lib.ListN.{length}
 use borrow.Author.Tests.{lt-ltb}
@@ -10,14 +10,28 @@ use Rattle.record.specs.Fields.{field_ok, field_at, behind}
 use Rattle.record.specs.Record.{version_of, head_bytes, version_ok, head_of, corrections_place, opening_place, commitment_place, contents_of, head_number, fields_number}
 use Rattle.record.proofs.Fields.{field-length, field_room}
 use Rattle.record.proofs.Reading.{front-shape, front-row, fields-rest}
+use Rattle.std.specs.Prelude.{Result, Ok, Err, IfOk, Some, None}
+use Rattle.record_fields.specs.declared.RecordVersion.{RecordVersion}
+use Rattle.record_fields.specs.Versions.{byte_of}
 use Rattle.record_reading.specs.declared.Front.{Front}
+use Rattle.record_reading.specs.declared.RecordRefusal.{RecordRefusal}
+use Rattle.record_reading.specs.declared.RecordRefusal.TheVariants.{NotAShape, NotARowLength, UnknownVersion, NotARecord, NotANamedSet}
 use Rattle.record_reading.specs.declared.Sizes.{Sizes}
-use Rattle.record_reading.specs.Front.{front_in, FrontOf, ReadFront, SizesOf}
+use Rattle.record_reading.specs.Front.{number_of, number_in, said_number, front_in, FrontOf, ReadFront, SizesOf}
+
+pub numbered : (r : RecordRefusal) → number_of r ≡ 0 → ⊥
+unfolding number_of
+numbered = elim [
+  | NotAShape ↦ λ h. cc
+  | NotARowLength ↦ λ h. cc
+  | UnknownVersion ↦ λ h. cc
+  | NotARecord ↦ λ h. cc
+  | NotANamedSet ↦ λ h. cc
+]
 
 module _ (rec : List ℕ) where
-  -- refused before the head is read
-  pub refused : (f : Front) (k : ℕ) → f.number ≡ k → head_number rec ≡ k → (k ≡ 0 → ⊥) → ReadFront rec f
-  refused f k e n bad = record { number = e ∙ sym n; said = λ z. absurd (bad (sym n ∙ z)) }
+  pub refused : (x : RecordRefusal) → number_of x ≡ head_number rec → ReadFront rec (Err x)
+  refused x n = record { number = n; said = tt }
 
   pub no-version : head_bytes (version_of rec) ≡ 0 → head_number rec ≡ 9
   unfolding head_number version_ok
@@ -32,26 +46,28 @@ module _ (rec : List ℕ) where
       pub head-long : length (head_of rec) ≡ head_bytes (version_of rec)
       head-long = field-length rec 1 (head_bytes (version_of rec)) there
 
-      number : (front_in (version_of rec) (head_of rec)).number ≡ head_number rec
-      unfolding head_number version_ok contents_of
+      number : said_number (version_of rec) (head_of rec) ≡ head_number rec
+      unfolding head_number version_ok contents_of said_number
       number = sym (rw (lt-ltb 0 (head_bytes (version_of rec)) known, there) refl)
 
-      pub front_read : ReadFront rec (front_in (version_of rec) (head_of rec))
-      unfolding contents_of
-      front_read =
-          record {
-            number = number;
-            said = λ ok. record {
+      module _ (v : RecordVersion) (of : byte_of v ≡ version_of rec) where
+        says : head_number rec ≡ 0 → FrontOf rec (front_in v (head_of rec))
+        unfolding contents_of
+        says ok =
+            record {
               read = ok;
-              version = refl;
-              shape = refl;
-              resolved = refl;
+              version = of;
+              shape = rw of refl;
+              resolved = rw of refl;
               row = refl;
               bytes = refl;
-              allowed = front-shape rec ok;
+              allowed = rw of (front-shape rec ok);
               few = row-max _ (front-row rec ok);
-            };
-          }
+            }
+
+        pub front_read : (r : Result Front RecordRefusal) → number_in r ≡ said_number (version_of rec) (head_of rec) → IfOk r (λ f. f ≡ front_in v (head_of rec)) → ReadFront rec r
+        front_read (Ok f) n e = record { number = n ∙ number; said = rw e (says (sym (n ∙ number))) }
+        front_read (Err x) n e = refused x (n ∙ number)
 
 -- ---- the fields of a record with these lengths, where the reader stands
 
@@ -73,3 +89,13 @@ module _ (rec : List ℕ) (z : Sizes) (n : SizesOf rec z) where
       }
   unfolding contents_of corrections_place opening_place commitment_place
   contents-are f p = rw (p.shape, p.row, n.head, n.challenge, n.corrections, n.opening, n.commitment) refl
+
+-- ---- the end of the fields, if they are there
+
+pub there : (b : Bool) (e n : ℕ) → Some n ≡ cond b (Some e) None → (b ≡ true) × (n ≡ e)
+there true e n h = (refl, cc)
+there false e n h = cc
+
+pub missing : (b : Bool) (e : ℕ) → None ≡ cond b (Some e) None → b ≡ false
+missing true e h = cc
+missing false e h = refl

@@ -2,20 +2,58 @@
 // are tested by a reader, record_reader, and handed out by it where they are used.
 #![tactic(auto)]
 
-ghost use Rattle.std.specs.Prelude.{◌≡◌, true, ◌&&◌, cond, List, [], ◌∷◌, ℕ, ◌<◌, ◌≤◌, length};
+ghost use Rattle.std.specs.Prelude.{◌≡◌, true, ◌&&◌, cond, List, [], ◌∷◌, ℕ, ◌<◌, ◌≤◌, length, IfOk, Some, None};
 ghost use Rattle.spec.specs.Shapes.{shape_ok};
 ghost use Rattle.spec.specs.Calls.{first_refusal, row_ok};
 ghost use Rattle.record.specs.Record.{head_bytes, kind_fits, fields_test, end_of, read_number};
-ghost use Rattle.record_reading.specs.Front.{front_in, FrontOf, ReadFront, SizesOf};
+ghost use Rattle.record_fields.specs.Versions.{byte_of};
+ghost use Rattle.record_reading.specs.Front.{number_of, number_in, said_number, front_in, FrontOf, ReadFront, SizesOf};
 
-use record_reader::Rest;
-use spec::Shape;
+use record_fields::RecordVersion;
+use spec::{Answer, Shape};
 
-// The number of a front, 9, 10, 1, 2 or 0, and with 0 what it says: the version, the shape as written and resolved, the row length in bits and in bytes.
+// Why a record is refused before reconstruct is made on its fields, by the words of document 02; the numbers stand in ../specs/Front.antt.
+#[derive(Clone, Copy, Debug, PartialEq, Eq)]
+pub enum RecordRefusal {
+    NotAShape,
+    NotARowLength,
+    UnknownVersion,
+    NotARecord,
+    NotANamedSet,
+}
+
+impl RecordRefusal {
+    // The number of the refusal in the documents.
+    #[tactic(auto, unfolding(crate::specs::Front::number_of))]
+    pub fn number(self) -> usize
+        ensures { result ≡ number_of self }
+    {
+        match self {
+            RecordRefusal::NotAShape => 1,
+            RecordRefusal::NotARowLength => 2,
+            RecordRefusal::UnknownVersion => 9,
+            RecordRefusal::NotARecord => 10,
+            RecordRefusal::NotANamedSet => 13,
+        }
+    }
+}
+
+// What a check answers that is refused so: no count goes with these numbers.
+impl From<RecordRefusal> for Answer {
+    ghost from_gives = { λ refusal answer. (answer.number ≡ number_of refusal) × (answer.count ≡ 0) };
+
+    fn from(refusal: RecordRefusal) -> Answer {
+        Answer {
+            number: refusal.number(),
+            count: 0,
+        }
+    }
+}
+
+// What the front of a record says: the version, the shape as written and resolved, the row length in bits and in bytes.
 #[derive(Clone, Copy)]
 pub struct Front {
-    pub number: usize,
-    pub version: u8,
+    pub version: RecordVersion,
     pub shape: Shape,
     pub resolved: Shape,
     pub row: usize,
@@ -32,70 +70,53 @@ pub struct Sizes {
     pub commitment: usize,
 }
 
-// A front that is refused before its head is read.
-fn unread(number: usize) -> Front
-    ensures { result.number ≡ number }
-{
-    let none = Shape {
-        tau: 0,
-        k: 0,
-        w: 0,
-        t: 0,
-        level: 0,
-        kind: 0,
-    };
-    Front {
-        number,
-        version: 0,
-        shape: none,
-        resolved: none,
-        row: 0,
-        row_bytes: 0,
-    }
-}
-
-// The number of a head by what it says: 1, 2 or 0.
-fn said_number(version: u8, kind: usize, resolved: Shape, row: usize) -> usize
-    ensures { result ≡ first_refusal ((shape_ok resolved && kind_fits version kind, 1) ∷ (row_ok row, 2) ∷ []) }
+// The tests of what a head says: of the shape with its kind, of the row length.
+fn test_said(
+    version: RecordVersion,
+    kind: usize,
+    resolved: Shape,
+    row: usize,
+) -> Result<(), RecordRefusal>
+    ensures { number_in result ≡ first_refusal ((shape_ok resolved && kind_fits (byte_of version) kind, 1) ∷ (row_ok row, 2) ∷ []) }
 {
     if !(rules::is_shape(resolved) & record_fields::kind_fits(version, kind)) {
-        return 1;
+        return Err(RecordRefusal::NotAShape);
     }
     if !rules::is_row_length(row) {
-        return 2;
+        return Err(RecordRefusal::NotARowLength);
     }
-    0
+    Ok(())
 }
 
 // What a head of a version says.
-fn front_in(version: u8, head: &[u8]) -> Front
-    requires { (0 < head_bytes version) × (length head.now ≡ head_bytes version) }
-    ensures { result ≡ front_in version head.now }
+fn front_in(version: RecordVersion, head: &[u8]) -> Result<Front, RecordRefusal>
+    requires { length head.now ≡ head_bytes (byte_of version) }
+    ensures number { number_in result ≡ said_number (byte_of version) head.now }
+    ensures says { IfOk result (λ f. f ≡ front_in version head.now) }
 {
     let shape = record_fields::shape_in(version, head);
     let resolved = rules::resolve(shape);
     let row = record_fields::row_in(head);
-    Front {
-        number: said_number(version, shape.kind, resolved, row),
+    test_said(version, shape.kind, resolved, row)?;
+    Ok(Front {
         version,
         shape,
         resolved,
         row,
         row_bytes: row / 8,
-    }
+    })
 }
 
-// The front of a record.
-pub fn front_of(bytes: &[u8]) -> Front
+// The front of a record, or why it is refused: 9, 10, 1 or 2.
+pub fn front_of(bytes: &[u8]) -> Result<Front, RecordRefusal>
     ensures { ReadFront bytes.now result }
 {
-    let version = record_fields::version_of(bytes);
-    let h = record_fields::head_length(version);
-    if h == 0 {
-        return unread(9);
-    }
+    let Some(version) = record_fields::version_of(bytes) else {
+        return Err(RecordRefusal::UnknownVersion);
+    };
+    let h = version.head_length();
     if !record_reader::head_fits(bytes, h) {
-        return unread(10);
+        return Err(RecordRefusal::NotARecord);
     }
     front_in(version, record_reader::head_of(bytes, h))
 }
@@ -107,7 +128,7 @@ pub fn sizes_of(f: Front) -> Sizes
 {
     let s = f.resolved;
     Sizes {
-        head: record_fields::head_length(f.version),
+        head: f.version.head_length(),
         challenge: record_fields::challenge_length(s),
         corrections: lengths::corrections_bytes(s, f.row_bytes),
         opening: lengths::opening_bytes(s),
@@ -115,10 +136,10 @@ pub fn sizes_of(f: Front) -> Sizes
     }
 }
 
-// Whether fields two to six are there, and where the sixth ends. What stands behind it is not looked at.
-pub fn rest(bytes: &[u8], z: Sizes) -> Rest
+// Where the sixth field ends, if fields two to six are there. What stands behind it is not looked at.
+pub fn rest(bytes: &[u8], z: Sizes) -> Option<usize>
     requires { SizesOf bytes.now z }
-    ensures { (result.fits ≡ (fields_test bytes.now).0) × (result.end ≡ end_of bytes.now) }
+    ensures { result ≡ cond (fields_test bytes.now).0 (Some (end_of bytes.now)) None }
 {
     record_reader::rest_of(
         bytes,
@@ -136,6 +157,8 @@ pub fn is_read(bytes: &[u8], z: Sizes) -> bool
     requires { SizesOf bytes.now z }
     ensures { read_number bytes.now ≡ cond result 0 10 }
 {
-    let r = rest(bytes, z);
-    r.fits & (bytes.len() == r.end)
+    match rest(bytes, z) {
+        Some(end) => bytes.len() == end,
+        None => false,
+    }
 }

@@ -1,18 +1,22 @@
--- The record that is the contract of write_record, by the tests that were passed: one law for each way out. t is the resolved shape, x what the buffer held, r the answer.
+-- The record that is the contract of write_record, refused and written. t is the resolved shape, x what the buffer held, r the answer.
 use Prim.Native.Nat.{ℕ, ◌+◌, ◌/◌}
 use mathlib.Core.Path.{◌≡◌, refl, sym, ap, ◌∙◌}
-use mathlib.Core.Bool.{true, false}
-use mathlib.Core.List.{List, [], ◌∷◌}
+use mathlib.Core.Bool.{Bool, true, cond}
+use mathlib.Core.List.{List, [], ◌∷◌, ◌++◌}
 use native.Mathlib.Omega.{arith}
-use lib.Dec.{eqb}
 use lib.ListN.{length}
 use Rattle.spec.specs.declared.Shape.{Shape}
 use Rattle.spec.specs.declared.Answer.{Answer}
 use Rattle.spec.specs.Shapes.{resolved, challenge_bytes, hash_bytes, shape_ok, opening_bytes, corrections_bytes}
-use Rattle.spec.specs.Calls.{fits, row_ok}
+use borrow.Author.Tests.{ne_eqb}
+use Rattle.spec.specs.Calls.{first_refusal, fits}
 use Rattle.laws.proofs.Lengths.{fits-sized}
 use Rattle.record.specs.Record.{head_bytes, corrections_place, opening_place, commitment_place, record_end, Contents, version_for, head_for, record_of, record_bytes}
 use Rattle.record.specs.RecordCalls.{write_number, WriteRecord}
+use Rattle.refusals.specs.declared.Refusal.{Refusal}
+use Rattle.refusals.specs.Refusal.{number_of, count_of}
+use Rattle.refusals.proofs.Lists.{passed-all, stops, decides, refused-uncounted}
+use Rattle.record_writer.specs.Tests.{row_tests}
 use Rattle.record.proofs.ReadBack.{head-length, version-resolved}
 
 -- the lengths that write_record compares
@@ -35,22 +39,32 @@ room t c x e h =
     let v : head_bytes (version_for t) ≡ length (head_for c.shape c.row) = ap head_bytes (ap version_for e ∙ version-resolved c.shape) ∙ sym (head-length c.shape c.row) in
     omega arith
 
+-- the lengths ls behind the shape and the row length
+module _ (s : Shape) (n : ℕ) (ls : List (ℕ × ℕ)) (k : ℕ) (e : k ≡ first_refusal (row_tests s n)) where
+  pub rows-stop : (k ≡ 0 → ⊥) → k ≡ first_refusal (row_tests s n ++ (fits ls, 3) ∷ [])
+  rows-stop = stops (row_tests s n) (refl, (refl, tt)) k e ((fits ls, 3) ∷ [])
+
+  pub lengths-decide : (r : ℕ) → k ≡ 0 → r ≡ cond (fits ls) 0 3 → r ≡ first_refusal (row_tests s n ++ (fits ls, 3) ∷ [])
+  lengths-decide = decides (row_tests s n) (refl, (refl, tt)) k e ((fits ls, 3) ∷ [])
+
+-- its tests, of which none has a number that goes with a count
+abbrev Tests : Shape → Contents → List ℕ → List (Bool × ℕ)
+Tests t c x = row_tests t c.row ++ (fits (Lengths t c x), 3) ∷ []
+
+pub accepted : (t : Shape) (c : Contents) (x : List ℕ) → 0 ≡ first_refusal (Tests t c x) → (shape_ok t ≡ true) × (fits (Lengths t c x) ≡ true)
+accepted t c x e = (let q = passed-all (Tests t c x) (refl, (refl, (refl, tt))) 0 e refl in (q.0, q.1.1.0))
+
+pub uncounted : (t : Shape) (c : Contents) (x : List ℕ) (k : Refusal) → number_of k ≡ first_refusal (Tests t c x) → count_of k ≡ 0
+uncounted t c x = refused-uncounted (Tests t c x) (refl, (refl, (refl, tt)))
+
 module _ (t : Shape) (c : Contents) (e : t ≡ resolved c.shape) (x : List ℕ) (r : Answer) where
-  refused : (k : ℕ) → write_number c x ≡ k → eqb k 0 ≡ false → (r.number ≡ k) × (r.count ≡ 0) → WriteRecord c x x r
-  refused k d z a = record { number = a.0 ∙ sym d; count = a.1; rec = rw (a.0, z) refl }
+  module _ (d : r.number ≡ first_refusal (Tests t c x)) (n : r.count ≡ 0) where
+    number : r.number ≡ write_number c x
+    unfolding write_number
+    number = rw e at d
 
-  pub write-1 : shape_ok t ≡ false → (r.number ≡ 1) × (r.count ≡ 0) → WriteRecord c x x r
-  unfolding write_number
-  write-1 a = refused 1 (rw (rw e at a) refl) refl
+    pub refused : (r.number ≡ 0 → ⊥) → WriteRecord c x x r
+    refused h = record { number = number; count = n; rec = rw (ne_eqb r.number 0 h) refl }
 
-  pub write-2 : shape_ok t ≡ true → row_ok c.row ≡ false → (r.number ≡ 2) × (r.count ≡ 0) → WriteRecord c x x r
-  unfolding write_number
-  write-2 a b = refused 2 (rw (rw e at a, b) refl) refl
-
-  pub write-3 : shape_ok t ≡ true → row_ok c.row ≡ true → fits (Lengths t c x) ≡ false → (r.number ≡ 3) × (r.count ≡ 0) → WriteRecord c x x r
-  unfolding write_number
-  write-3 a b d = refused 3 (rw (rw e at a, b, rw e at d) refl) refl
-
-  pub write-0 : (y : List ℕ) → shape_ok t ≡ true → row_ok c.row ≡ true → fits (Lengths t c x) ≡ true → y ≡ record_of c → (r.number ≡ 0) × (r.count ≡ 0) → WriteRecord c x y r
-  unfolding write_number
-  write-0 y a b d w q = record { number = q.0 ∙ sym (rw (rw e at a, b, rw e at d) refl); count = q.1; rec = rw q.0 w }
+    pub written : (y : List ℕ) → r.number ≡ 0 → y ≡ record_of c → WriteRecord c x y r
+    written y h w = record { number = number; count = n; rec = rw h w }

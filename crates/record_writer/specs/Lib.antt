@@ -1,2 +1,3 @@
 -- How a function puts a string.
 pub mod Put
+pub mod Tests

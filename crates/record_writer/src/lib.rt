@@ -1,16 +1,19 @@
 // The record maker's public calls: write_record, and how long a record is. Nothing here depends on either half.
 #![tactic(auto)]
 
-ghost use Rattle.std.specs.Prelude.{◌≡◌, true, [], ◌∷◌, ◌+◌, ◌%◌, ◌<◌, ◌≤◌, length, take};
+ghost use Rattle.std.specs.Prelude.{◌≡◌, true, [], ◌∷◌, ◌++◌, ◌+◌, ◌/◌, ◌%◌, ◌<◌, ◌≤◌, length, take};
 ghost use Rattle.spec.specs.Shapes.{resolved, challenge_bytes, hash_bytes, shape_ok, opening_bytes, corrections_bytes};
-ghost use Rattle.spec.specs.Calls.{fits};
+ghost use Rattle.spec.specs.Calls.{first_refusal, fits};
+ghost use Rattle.refusals.specs.Refusal.{number_in};
 ghost use Rattle.record.specs.Fields.{field_of};
 ghost use Rattle.spec.specs.Bytes.{big_endian_bytes};
 ghost use Rattle.record.specs.Record.{head_bytes, version_for, head_for, record_of, record_bytes};
 ghost use Rattle.record.specs.RecordCalls.{LengthOf, WriteRecord};
 ghost use Rattle.record_writer.specs.Put.{Put};
+ghost use Rattle.record_writer.specs.Tests.{row_tests, write_sizes};
 
 use record::RecordLength;
+use refusals::Refusal;
 use spec::{Answer, Shape};
 
 fn low_byte(n: usize) -> u8
@@ -78,8 +81,8 @@ fn put_front(out: &mut [u8], s: Shape, n: usize) -> usize
 {
     let head = head_of(s, n);
     let version = record_fields::version_for(s);
-    let h = record_fields::head_length(version);
-    put_version(out, version);
+    let h = version.head_length();
+    put_version(out, version.byte());
     put_field(out, 1, &head[..h])
 }
 
@@ -106,29 +109,46 @@ fn write_fields(
     put_field(record, six, commitment);
 }
 
-// Whether the fields and the record have their lengths.
-fn write_lengths(
-    s: Shape,
-    b: usize,
+// The lengths of the fields, and of the buffer that the record is written to.
+#[derive(Clone, Copy, PartialEq, Eq)]
+struct WriteLengths {
     iv: usize,
     challenge: usize,
     corrections: usize,
     opening: usize,
     commitment: usize,
-    record: usize,
-) -> bool
+    bytes: usize,
+}
+
+// Whether the fields and the record have their lengths.
+fn write_fits(s: Shape, b: usize, x: WriteLengths) -> bool
     requires { (shape_ok s ≡ true) × (b ≤ 8192) }
-    ensures { result ≡ fits ((iv, 16) ∷ (challenge, challenge_bytes s) ∷ (corrections, corrections_bytes s b) ∷ (opening, opening_bytes s) ∷ (commitment, hash_bytes s) ∷ («record», record_bytes s b) ∷ []) }
+    ensures { result ≡ fits (write_sizes s b x) }
 {
-    let a = record_fields::challenge_length(s);
-    let c = lengths::corrections_bytes(s, b);
-    let o = lengths::opening_bytes(s);
-    let m = rules::hash_bytes(s);
-    let n = record_fields::record_length(s, b);
-    (iv == 16)
-        & ((challenge == a)
-            & ((corrections == c)
-                & ((opening == o) & ((commitment == m) & ((record == n) & true)))))
+    x == WriteLengths {
+        iv: 16,
+        challenge: record_fields::challenge_length(s),
+        corrections: lengths::corrections_bytes(s, b),
+        opening: lengths::opening_bytes(s),
+        commitment: rules::hash_bytes(s),
+        bytes: record_fields::record_length(s, b),
+    }
+}
+
+// The tests of a shape and a row length.
+fn test_rows(s: Shape, row_bits: usize) -> Result<(), Refusal>
+    ensures { number_in result ≡ first_refusal (row_tests s row_bits) }
+{
+    refusals::test(rules::is_shape(s), Refusal::NotAShape)?;
+    refusals::test(rules::is_row_length(row_bits), Refusal::NotARowLength)
+}
+
+// The tests of write_record: of the shape, the row length, the lengths.
+fn test_write(s: Shape, row_bits: usize, x: WriteLengths) -> Result<(), Refusal>
+    ensures { number_in result ≡ first_refusal (row_tests s row_bits ++ (fits (write_sizes s (row_bits / 8) x), 3) ∷ []) }
+{
+    test_rows(s, row_bits)?;
+    refusals::test(write_fits(s, row_bits / 8, x), Refusal::BufferLength)
 }
 
 // RECORD LENGTH: how many bytes a record has, or the number with which its shape or its row length is refused.
@@ -136,21 +156,15 @@ pub fn record_length(shape: Shape, row_bits: usize) -> RecordLength
     ensures { LengthOf shape row_bits result }
 {
     let s = rules::resolve(shape);
-    if !rules::is_shape(s) {
-        return RecordLength {
-            number: 1,
+    match test_rows(s, row_bits) {
+        Ok(()) => RecordLength {
+            number: 0,
+            bytes: record_fields::record_length(s, row_bits / 8),
+        },
+        Err(refusal) => RecordLength {
+            number: refusal.number(),
             bytes: 0,
-        };
-    }
-    if !rules::is_row_length(row_bits) {
-        return RecordLength {
-            number: 2,
-            bytes: 0,
-        };
-    }
-    RecordLength {
-        number: 0,
-        bytes: record_fields::record_length(s, row_bits / 8),
+        },
     }
 }
 
@@ -169,34 +183,31 @@ pub fn write_record(
         (record { shape = shape; row = row_bits; iv = iv.now; challenge = challenge.now; corrections = corrections.now; opening = opening.now; commitment = commitment.now })
         «record».old «record».new result }
 {
-    let s = rules::resolve(shape);
-    if !rules::is_shape(s) {
-        return rules::answer(1, 0);
+    let x = WriteLengths {
+        iv: iv.len(),
+        challenge: challenge.len(),
+        corrections: corrections.len(),
+        opening: opening.len(),
+        commitment: commitment.len(),
+        bytes: record.len(),
+    };
+    match test_write(rules::resolve(shape), row_bits, x) {
+        Ok(()) => {
+            write_fields(
+                shape,
+                row_bits,
+                iv,
+                challenge,
+                corrections,
+                opening,
+                commitment,
+                record,
+            );
+            Answer {
+                number: 0,
+                count: 0,
+            }
+        }
+        Err(refusal) => Answer::from(refusal),
     }
-    if !rules::is_row_length(row_bits) {
-        return rules::answer(2, 0);
-    }
-    if !write_lengths(
-        s,
-        row_bits / 8,
-        iv.len(),
-        challenge.len(),
-        corrections.len(),
-        opening.len(),
-        commitment.len(),
-        record.len(),
-    ) {
-        return rules::answer(3, 0);
-    }
-    write_fields(
-        shape,
-        row_bits,
-        iv,
-        challenge,
-        corrections,
-        opening,
-        commitment,
-        record,
-    );
-    rules::answer(0, 0)
 }

@@ -19,7 +19,10 @@ use Rattle.laws.specs.Lengths.{Sized}
 use Rattle.laws.proofs.Lengths.{fits-sized}
 use Rattle.rules.proofs.RowLength.{row-max, stretch-max}
 use Rattle.refusals.specs.Numbers.{front_tests, front_number, size_tests, size_number, challenge_tests, challenge_number, opening_tests, opening_number, Answered}
-use Rattle.refusals.proofs.Lists.{passed-all, stops, decides, answer-stops, answer-decides}
+use Rattle.std.specs.Prelude.{Err}
+use Rattle.refusals.specs.declared.Refusal.{Refusal}
+use Rattle.refusals.specs.Refusal.{number_of, count_of, answer_in}
+use Rattle.refusals.proofs.Lists.{passed-all, stops, decides, answer-stops, answer-decides, refused-uncounted}
 
 -- ---- commit, and what reconstruct begins with
 
@@ -50,14 +53,14 @@ module _ (s : Shape) (n : ℕ) (z : Stretch) (k : ℕ) where
         (q.0, stretch-max n z q.1.0 q.1.1.0, fits-sized ls q.1.1.1.0)
 
     -- reconstruct
-    module _ (ch op : List ℕ) (r : Answer) where
-      pub reconstruct-stops : (k ≡ 0 → ⊥) → (r.number ≡ k) × (r.count ≡ 0) → Answered (reconstruct_stretch_number s n z ch op ls) (planned_count s ch) r
-      unfolding commit_stretch_number reconstruct_stretch_number
-      reconstruct-stops = answer-stops (front_tests s n z ++ (fits ls, 3) ∷ []) (refl, (refl, (refl, (refl, tt)))) k e (opening_tests s ch op) (planned_count s ch) r (refl, (refl, (refl, (refl, tt))))
+    pub opening-decides : (ch op : List ℕ) (r : Answer) → k ≡ 0 → Answered (opening_number s ch op) (planned_count s ch) r → Answered (reconstruct_stretch_number s n z ch op ls) (planned_count s ch) r
+    unfolding commit_stretch_number opening_number reconstruct_stretch_number
+    opening-decides ch op = answer-decides (front_tests s n z ++ (fits ls, 3) ∷ []) (refl, (refl, (refl, (refl, tt)))) k e (opening_tests s ch op) (planned_count s ch)
 
-      pub opening-decides : k ≡ 0 → Answered (opening_number s ch op) (planned_count s ch) r → Answered (reconstruct_stretch_number s n z ch op ls) (planned_count s ch) r
-      unfolding commit_stretch_number opening_number reconstruct_stretch_number
-      opening-decides = answer-decides (front_tests s n z ++ (fits ls, 3) ∷ []) (refl, (refl, (refl, (refl, tt)))) k e (opening_tests s ch op) (planned_count s ch) r
+pub reconstruct-stops : (s : Shape) (n : ℕ) (z : Stretch) (ls : List (ℕ × ℕ)) (ch op : List ℕ) (x : Refusal) → number_of x ≡ commit_stretch_number s n z ls
+    → Answered (reconstruct_stretch_number s n z ch op ls) (planned_count s ch) (answer_in (Err x))
+unfolding commit_stretch_number reconstruct_stretch_number
+reconstruct-stops s n z ls ch op = answer-stops (front_tests s n z ++ (fits ls, 3) ∷ []) (refl, (refl, (refl, (refl, tt)))) (refl, (refl, (refl, (refl, tt)))) (opening_tests s ch op) (planned_count s ch)
 
 -- ---- decode, plan and open
 
@@ -84,14 +87,13 @@ module _ (s : Shape) (ls : List (ℕ × ℕ)) where
       unfolding size_number decode_number
       grinding-decides = decides (size_tests s ls) (refl, (refl, tt)) k e ((grinding_ok s ch, 4) ∷ [])
 
-      module _ (r : Answer) where
-        pub plan-stops : (k ≡ 0 → ⊥) → (r.number ≡ k) × (r.count ≡ 0) → Answered (plan_number s ch ls) (planned_count s ch) r
-        unfolding size_number plan_number
-        plan-stops = answer-stops (size_tests s ls) (refl, (refl, tt)) k e (challenge_tests s ch) (planned_count s ch) r (refl, (refl, tt))
+      pub challenge-decides : (r : Answer) → k ≡ 0 → Answered (challenge_number s ch) (planned_count s ch) r → Answered (plan_number s ch ls) (planned_count s ch) r
+      unfolding size_number challenge_number plan_number
+      challenge-decides = answer-decides (size_tests s ls) (refl, (refl, tt)) k e (challenge_tests s ch) (planned_count s ch)
 
-        pub challenge-decides : k ≡ 0 → Answered (challenge_number s ch) (planned_count s ch) r → Answered (plan_number s ch ls) (planned_count s ch) r
-        unfolding size_number challenge_number plan_number
-        challenge-decides = answer-decides (size_tests s ls) (refl, (refl, tt)) k e (challenge_tests s ch) (planned_count s ch) r
+  pub plan-stops : (ch : List ℕ) (x : Refusal) → number_of x ≡ size_number s ls → Answered (plan_number s ch ls) (planned_count s ch) (answer_in (Err x))
+  unfolding size_number plan_number
+  plan-stops ch = answer-stops (size_tests s ls) (refl, (refl, tt)) (refl, (refl, tt)) (challenge_tests s ch) (planned_count s ch)
 
 -- with 0 every test of the call is passed
 
@@ -163,3 +165,13 @@ module _ (s : Shape) (ch op : List ℕ) (r : Answer) (a : Answered (challenge_nu
       with-both : (b : Bool) → count_with (cond b 0 6) (planned_count s ch) ≡ planned_count s ch
       with-both true = refl
       with-both false = refl
+
+-- ---- decode and commit refuse with no count
+
+pub decode-uncounted : (s : Shape) (ch : List ℕ) (ls : List (ℕ × ℕ)) (x : Refusal) → number_of x ≡ decode_number s ch ls → count_of x ≡ 0
+unfolding decode_number
+decode-uncounted s ch ls = refused-uncounted (size_tests s ls ++ (grinding_ok s ch, 4) ∷ []) (refl, (refl, (refl, tt)))
+
+pub commit-uncounted : (s : Shape) (n : ℕ) (z : Stretch) (ls : List (ℕ × ℕ)) (x : Refusal) → number_of x ≡ commit_stretch_number s n z ls → count_of x ≡ 0
+unfolding commit_stretch_number
+commit-uncounted s n z ls = refused-uncounted (front_tests s n z ++ (fits ls, 3) ∷ []) (refl, (refl, (refl, (refl, tt))))

@@ -1,43 +1,34 @@
--- The entry of an opening, by the tests that were passed: one law for each way out.
-use Prim.Native.Nat.{ℕ, ◌+◌, ◌-◌, ◌*◌, ◌≤◌, ◌<◌}
-use mathlib.Core.Path.{◌≡◌, refl, sym}
-use mathlib.Core.Bool.{true, false}
+-- The entry of an opening, by what its tests give.
+use Prim.Native.Nat.{ℕ, ◌-◌, ◌≤◌}
+use mathlib.Core.Path.{◌≡◌, refl}
 use mathlib.Core.List.{List}
-use lib.ListN.{drop}
-use borrow.Author.Tests.{le-leb, lt-leb}
+use borrow.Author.Tests.{leb-true, ne_eqb}
 use Rattle.spec.specs.declared.Shape.{Shape}
-use Rattle.spec.specs.Bytes.{all_zero}
-use Rattle.spec.specs.Shapes.{node_bytes, leaf_commitment_bytes, grinding_ok, planned_count}
-use Rattle.spec.specs.Verifier.{slots_ok}
-use Rattle.spec.specs.Calls.{nodes_ok}
+use Rattle.spec.specs.Shapes.{planned_count}
+use Rattle.spec.specs.Calls.{count_with, nodes_ok}
+use Rattle.refusals.specs.Numbers.{opening_tests, opening_number, Answered}
+use Rattle.refusals.proofs.Lists.{passed-all}
+use Rattle.report_text.specs.declared.Entry.{Entry}
 use Rattle.report_text.specs.Entries.{opened_entry}
 
--- s is the resolved shape of a record of b bytes, ch its challenge, op its opening and n the count
+-- the entry of a record that stops the reading, n bytes before the end
+abbrev pub stopped : ℕ → ℕ → Entry
+stopped n k = record { number = k; count = 0; unused = 0; bytes = n }
+
+-- s is the resolved shape of a record of b bytes, ch its challenge and op its opening
 module _ (s : Shape) (ch op : List ℕ) (b : ℕ) where
-  pub entry-4 : grinding_ok s ch ≡ false → record { number = 4; count = 0; unused = 0; bytes = b } ≡ opened_entry s ch op b
-  entry-4 g = sym (rw g refl)
+  pub entry-refused : (k : ℕ) → k ≡ opening_number s ch op → (k ≡ 0 → ⊥) → stopped b k ≡ opened_entry s ch op b
+  unfolding opening_number
+  entry-refused k e bad = let z = ne_eqb k 0 bad in rw (← e, z) refl
 
-  module _ (n : ℕ) (g : grinding_ok s ch ≡ true) (h : n ≡ planned_count s ch) where
-    pub entry-5 : s.t < n → record { number = 5; count = 0; unused = 0; bytes = b } ≡ opened_entry s ch op b
-    unfolding nodes_ok
-    entry-5 l =
-        let m = lt-leb n s.t l in
-        sym (rw (g, rw h at m) refl)
+  -- n is the count
+  pub entry-passed : (n : ℕ) → Answered (opening_number s ch op) (planned_count s ch) (record { number = 0; count = n })
+      → record { number = 0; count = n; unused = s.t - n; bytes = b } ≡ opened_entry s ch op b
+  unfolding opening_number count_with
+  entry-passed n a = rw (← a.0, a.1) refl
 
-    module _ (l : n ≤ s.t) where
-      slots : {a : _} → all_zero (drop (leaf_commitment_bytes s * s.tau + node_bytes s * n) op) ≡ a → slots_ok s ch op ≡ a
-      unfolding slots_ok
-      slots z = rw h at z
-
-      pub entry-6 : all_zero (drop (leaf_commitment_bytes s * s.tau + node_bytes s * n) op) ≡ false → record { number = 6; count = 0; unused = 0; bytes = b } ≡ opened_entry s ch op b
-      unfolding nodes_ok
-      entry-6 z =
-          let m = le-leb n s.t l in
-          sym (rw (g, rw h at m, slots z) refl)
-
-      pub entry-0 : all_zero (drop (leaf_commitment_bytes s * s.tau + node_bytes s * n) op) ≡ true
-          → record { number = 0; count = n; unused = s.t - n; bytes = b } ≡ opened_entry s ch op b
-      unfolding nodes_ok
-      entry-0 z =
-          let m = le-leb n s.t l in
-          sym (rw (g, rw h at m, slots z, ← h) refl)
+  pub within : (n : ℕ) → Answered (opening_number s ch op) (planned_count s ch) (record { number = 0; count = n }) → n ≤ s.t
+  unfolding opening_number count_with nodes_ok
+  within n a =
+      let q = passed-all (opening_tests s ch op) (refl, (refl, (refl, tt))) 0 a.0 refl in
+      rw a.1 (leb-true (planned_count s ch) s.t q.1.0)

@@ -2,25 +2,15 @@
 #![tactic(auto)]
 
 ghost use Rattle.std.specs.Prelude.{◌≡◌, true, ◌≤◌, length, take, drop};
-ghost use Rattle.spec.specs.Shapes.{challenge_bytes, opening_bytes, shape_ok, planned_count};
+ghost use Rattle.spec.specs.Shapes.{challenge_bytes, opening_bytes, shape_ok};
 ghost use Rattle.record.specs.Record.{fields_number, end_of};
 ghost use Rattle.record_reading.specs.Front.{FrontOf, SizesOf};
 ghost use Rattle.listing_text.specs.Put.{Put};
 ghost use Rattle.report_text.specs.Entries.{entry_of, opened_entry, entries};
 ghost use Rattle.report_text.specs.Text.{entries_text, report_text};
 
-use record_reading::{Front, Sizes};
+use record_reading::{Front, RecordRefusal, Sizes};
 use report_text::Entry;
-use spec::Shape;
-
-// The count of revealed nodes. The list has room for one node, and is not read.
-fn count_nodes(s: Shape, challenge: &[u8]) -> usize
-    requires { (shape_ok s ≡ true) × (length challenge.now ≡ challenge_bytes s) }
-    ensures { result ≡ planned_count s challenge.now }
-{
-    let mut none = [0u32; 1];
-    planning::revealed_nodes(s, challenge, &mut none)
-}
 
 // The entry of a record that is refused.
 fn refused(number: usize, bytes: usize) -> Entry
@@ -39,22 +29,14 @@ fn opened<'a>(f: Front, challenge: &'a [u8], opening: &'a [u8], bytes: usize) ->
     requires { (shape_ok f.resolved ≡ true) × (length challenge.now ≡ challenge_bytes f.resolved) × (length opening.now ≡ opening_bytes f.resolved) }
     ensures { result ≡ opened_entry f.resolved challenge.now opening.now bytes }
 {
-    let s = f.resolved;
-    if !challenge::grinding_ok(s, challenge) {
-        return refused(4, bytes);
-    }
-    let n = count_nodes(s, challenge);
-    if s.t < n {
-        return refused(5, bytes);
-    }
-    if !slots::slots_clear(s, n, opening) {
-        return refused(6, bytes);
-    }
-    Entry {
-        number: 0,
-        count: n,
-        unused: s.t - n,
-        bytes,
+    match slots::test_opening(f.resolved, challenge, opening) {
+        Ok(n) => Entry {
+            number: 0,
+            count: n,
+            unused: f.resolved.t - n,
+            bytes,
+        },
+        Err(refusal) => refused(refusal.number(), bytes),
     }
 }
 
@@ -75,23 +57,29 @@ fn open_fields(bytes: &[u8], f: Front, z: Sizes, end: usize) -> Entry
     opened(f, p.challenge, p.opening, end)
 }
 
+// The entry of a record whose front is read.
+fn entry_behind(bytes: &[u8], f: Front) -> Entry
+    requires { FrontOf bytes.now f }
+    ensures { result ≡ entry_of bytes.now }
+{
+    let z = record_reading::sizes_of(f);
+    match record_reading::rest(bytes, z) {
+        Some(end) => open_fields(bytes, f, z, end),
+        None => refused(RecordRefusal::NotARecord.number(), bytes.len()),
+    }
+}
+
 // The entry of the record that begins a string. One with a number of the front or of a missing field takes all that is left, so that nothing is read behind it.
 fn entry(bytes: &[u8]) -> Entry
     ensures { result ≡ entry_of bytes.now }
 {
-    let f = record_reading::front_of(bytes);
-    if f.number != 0 {
-        return refused(f.number, bytes.len());
+    match record_reading::front_of(bytes) {
+        Ok(f) => entry_behind(bytes, f),
+        Err(refusal) => refused(refusal.number(), bytes.len()),
     }
-    let z = record_reading::sizes_of(f);
-    let r = record_reading::rest(bytes, z);
-    if !r.fits {
-        return refused(10, bytes.len());
-    }
-    open_fields(bytes, f, z, r.end)
 }
 
-// Puts a line for each record of the input, and the totals behind them.
+// Puts a line for each record of the input, and the totals behind them. The loop is a `while`, since a turn goes on by a record.
 fn put_entries(input: &[u8], out: &mut [u8]) -> usize
     requires { (length input.now ≤ 65536) × (65600 ≤ length out.old) }
     ensures { Put (entries_text (entries input.now)) 0 out.old out.new result }

@@ -3,40 +3,33 @@
 #![tactic(auto)]
 
 use std::io;
-use test_support::lengths::at_most;
 
 // The report of the first at + more bytes.
 fn run(rt: &impl Print, input: &[u8], at: usize, more: usize) -> io::Result<()> {
-    let end = at_most(at_most(at, 65600) + at_most(more, 65600), input.len());
+    let end = at.saturating_add(more).min(input.len());
     let mut out = [0u8; 65600];
     let m = report::report(&input[..end], &mut out);
     rt.write_all(&out[..m])
 }
 
-// Zeros, for the next input.
-fn clear(input: &mut [u8; 65600]) {
-    input.fill(0);
-}
-
 // Sets the byte at + more, where there is one.
-fn set(input: &mut [u8; 65600], at: usize, more: usize, value: usize) {
-    let p = at_most(at, 65600) + at_most(more, 65600);
-    if p < 65600 {
-        input[p] = (value % 256) as u8;
+fn set(input: &mut [u8], at: usize, more: usize, value: usize) {
+    if let Some(byte) = input.get_mut(at.saturating_add(more)) {
+        *byte = (value % 256) as u8;
     }
 }
 
 // The length of a field; answers the place behind the field.
-fn field(input: &mut [u8; 65600], at: usize, n: usize) -> usize {
-    let length = at_most(n, 65535);
+fn field(input: &mut [u8], at: usize, n: usize) -> usize {
+    let length = n.min(65535);
     set(input, at, 2, length / 256);
     set(input, at, 3, length);
-    at_most(at, 1000000) + 4 + length
+    at.saturating_add(4 + length)
 }
 
 // The version and the numbers of the head; `node` is the level / 8, and in version 3 the kind is 1. Answers the place behind them.
 fn head(
-    input: &mut [u8; 65600],
+    input: &mut [u8],
     at: usize,
     version: usize,
     tau: usize,
@@ -60,12 +53,12 @@ fn head(
     if 2 < version {
         set(input, at, 15, 1);
     }
-    field(input, at_most(at, 65600) + 1, 8 + at_most(version, 3))
+    field(input, at.saturating_add(1), 8 + version.min(3))
 }
 
 // A record from a place on; answers the place behind it.
 fn record(
-    input: &mut [u8; 65600],
+    input: &mut [u8],
     at: usize,
     version: usize,
     tau: usize,
@@ -82,38 +75,37 @@ fn record(
     let four = field(input, three, node);
     let five = field(input, four, corrections);
     let six = field(input, five, opening);
-    field(input, six, 2 * at_most(node, 32))
+    field(input, six, 2 * node.min(32))
 }
 
 // The first n bytes over and over, up to a length.
-fn repeat(input: &mut [u8; 65600], n: usize, length: usize) {
-    let end = at_most(length, 65600);
-    for p in n..end {
+fn repeat(input: &mut [u8], n: usize, length: usize) {
+    for p in n..length.min(input.len()) {
         input[p] = input[p - n];
     }
 }
 
 // No record; a byte that begins none; the smallest records of versions 1 and 2; the default; FAEST-128s.
-fn single(rt: &impl Print, input: &mut [u8; 65600]) -> io::Result<()> {
-    clear(input);
+fn single(rt: &impl Print, input: &mut [u8]) -> io::Result<()> {
+    input.fill(0);
     run(rt, input, 0, 0)?;
     run(rt, input, 1, 0)?;
     let a = record(input, 0, 1, 1, 1, 127, 1, 8, 16, 0, 64);
     run(rt, input, a, 0)?;
-    clear(input);
+    input.fill(0);
     let b = record(input, 0, 2, 1, 1, 127, 2, 8, 16, 0, 80);
     run(rt, input, b, 0)?;
-    clear(input);
+    input.fill(0);
     let c = record(input, 0, 2, 0, 0, 0, 0, 16, 16, 30, 2528);
     run(rt, input, c, 0)?;
-    clear(input);
+    input.fill(0);
     let d = record(input, 0, 1, 11, 11, 7, 102, 8, 16, 10, 2160);
     run(rt, input, d, 0)
 }
 
 // Levels 192 and 256, and level 128 behind them; the largest T.
-fn levels(rt: &impl Print, input: &mut [u8; 65600]) -> io::Result<()> {
-    clear(input);
+fn levels(rt: &impl Print, input: &mut [u8]) -> io::Result<()> {
+    input.fill(0);
     let a = record(input, 0, 2, 6, 11, 126, 70, 8, 24, 5, 2112);
     let b = record(input, a, 2, 11, 12, 124, 140, 8, 32, 10, 5536);
     let c = record(input, b, 2, 2, 2, 124, 512, 8, 16, 1, 8288);
@@ -125,8 +117,8 @@ fn levels(rt: &impl Print, input: &mut [u8; 65600]) -> io::Result<()> {
 }
 
 // The three versions one behind another; then another kind than 1 in a version 3 record, which stops.
-fn kinds(rt: &impl Print, input: &mut [u8; 65600]) -> io::Result<()> {
-    clear(input);
+fn kinds(rt: &impl Print, input: &mut [u8]) -> io::Result<()> {
+    input.fill(0);
     let a = record(input, 0, 3, 1, 1, 127, 1, 8, 16, 0, 48);
     let b = record(input, a, 1, 1, 1, 127, 2, 8, 16, 0, 80);
     let c = record(input, b, 3, 2, 2, 124, 4, 8, 16, 1, 128);
@@ -139,8 +131,8 @@ fn kinds(rt: &impl Print, input: &mut [u8; 65600]) -> io::Result<()> {
 }
 
 // 4, 5 and 6 before, between and behind records that are counted, and where two of them hold the earlier one.
-fn refused(rt: &impl Print, input: &mut [u8; 65600]) -> io::Result<()> {
-    clear(input);
+fn refused(rt: &impl Print, input: &mut [u8]) -> io::Result<()> {
+    input.fill(0);
     let a = record(input, 0, 1, 1, 1, 127, 2, 8, 16, 0, 80);
     let b = record(input, a, 2, 2, 2, 124, 4, 8, 16, 1, 160);
     let c = record(input, b, 1, 1, 2, 126, 1, 8, 16, 0, 64);
@@ -161,8 +153,8 @@ fn refused(rt: &impl Print, input: &mut [u8; 65600]) -> io::Result<()> {
 }
 
 // 9 and 10: a version that is not known, a head and each other field of another length; nothing is read behind them.
-fn stopped_by_fields(rt: &impl Print, input: &mut [u8; 65600]) -> io::Result<()> {
-    clear(input);
+fn stopped_by_fields(rt: &impl Print, input: &mut [u8]) -> io::Result<()> {
+    input.fill(0);
     let a = record(input, 0, 2, 1, 1, 127, 2, 8, 16, 0, 80);
     let b = record(input, a, 1, 1, 1, 127, 2, 8, 16, 0, 80);
     let c = record(input, b, 1, 1, 1, 127, 2, 8, 16, 0, 80);
@@ -194,8 +186,8 @@ fn stopped_by_fields(rt: &impl Print, input: &mut [u8; 65600]) -> io::Result<()>
 }
 
 // 1 and 2 of field one, also where 9 and 10 do not hold; and before both of them.
-fn stopped_by_front(rt: &impl Print, input: &mut [u8; 65600]) -> io::Result<()> {
-    clear(input);
+fn stopped_by_front(rt: &impl Print, input: &mut [u8]) -> io::Result<()> {
+    input.fill(0);
     let a = record(input, 0, 1, 1, 1, 127, 2, 8, 16, 0, 80);
     let b = record(input, a, 2, 1, 1, 127, 2, 8, 16, 0, 80);
     let c = record(input, b, 1, 1, 1, 127, 2, 8, 16, 0, 80);
@@ -220,8 +212,8 @@ fn stopped_by_front(rt: &impl Print, input: &mut [u8; 65600]) -> io::Result<()> 
 }
 
 // A record cut after others, and bytes behind the last record.
-fn cut(rt: &impl Print, input: &mut [u8; 65600]) -> io::Result<()> {
-    clear(input);
+fn cut(rt: &impl Print, input: &mut [u8]) -> io::Result<()> {
+    input.fill(0);
     let a = record(input, 0, 1, 1, 1, 127, 2, 8, 16, 0, 80);
     let b = record(input, a, 2, 2, 2, 124, 4, 8, 16, 1, 160);
     let c = record(input, b, 2, 1, 1, 127, 2, 8, 16, 0, 80);
@@ -238,14 +230,14 @@ fn cut(rt: &impl Print, input: &mut [u8; 65600]) -> io::Result<()> {
 }
 
 // 256 records of 256 bytes: 65,536 bytes, one fewer, and one more. Then as many of the smallest as there is room for, and a part of another.
-fn longest(rt: &impl Print, input: &mut [u8; 65600]) -> io::Result<()> {
-    clear(input);
+fn longest(rt: &impl Print, input: &mut [u8]) -> io::Result<()> {
+    input.fill(0);
     let a = record(input, 0, 1, 2, 1, 126, 2, 240, 16, 30, 128);
     repeat(input, a, 65536);
     run(rt, input, 65536, 0)?;
     run(rt, input, 65535, 0)?;
     run(rt, input, 65537, 0)?;
-    clear(input);
+    input.fill(0);
     run(rt, input, 65537, 0)?;
     let b = record(input, 0, 1, 1, 1, 127, 1, 8, 16, 0, 64);
     repeat(input, b, 65600);

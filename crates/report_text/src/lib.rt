@@ -6,6 +6,7 @@ ghost use Rattle.listing_text.specs.Put.{Put};
 ghost use Rattle.report_text.specs.Text.{line_text, total_text};
 
 // What the record that begins a string gives: 0 or the number of its refusal; with 0 its node count and its unused slots; and the bytes that it takes.
+// The number stands beside the others because the theorems of ../specs/Claims.antt speak of every such value.
 #[derive(Clone, Copy)]
 pub struct Entry {
     pub number: usize,

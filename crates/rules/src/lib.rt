@@ -1,18 +1,11 @@
-// The shape rules of documents 01 and 02, and the numbers that a shape gives; and an answer made.
+// The shape rules of documents 01 and 02, and the numbers that a shape gives.
 #![tactic(auto)]
 
 ghost use Rattle.std.specs.Prelude.{◌≡◌, true, ◌+◌, ◌-◌, ◌*◌, ◌^◌, ◌<◌, ◌≤◌};
 ghost use Rattle.spec.specs.Shapes.{ordinary, resolved, level, node_bytes, leaf_commitment_bytes, hash_bytes, rate, level_ok, shape_ok, deeper, depth_of, entries_of, first_bit, first_entry, leaves, leaf_of};
 ghost use Rattle.spec.specs.Calls.{row_ok, stretch_ok};
 
-use spec::{Answer, Shape, Stretch};
-
-// A number and a count, as an answer.
-pub fn answer(number: usize, count: usize) -> Answer
-    ensures { (result.number ≡ number) × (result.count ≡ count) }
-{
-    Answer { number, count }
-}
+use spec::{Shape, Stretch};
 
 // Four zeros at level 128, with ordinary leaves, stand for the default, FAEST-128f.
 pub fn resolve(s: Shape) -> Shape
@@ -187,7 +180,7 @@ pub fn first_bit(s: Shape, i: usize) -> usize
     requires { (shape_ok s ≡ true) × (i ≤ s.tau) }
     ensures { (result ≡ first_bit s i) × (result ≤ level s) × (result ≤ 256) }
 {
-    i * s.k + numbers::min(i, deeper_count(s))
+    i * s.k + i.min(deeper_count(s))
 }
 
 // The place of the first entry of vector i among the entries of all vectors, one vector after another.
@@ -196,7 +189,7 @@ pub fn first_entry(s: Shape, i: usize) -> usize
     ensures { (result ≡ first_entry s i) × (result ≤ leaves s) × (result ≤ 86016) }
 {
     let k = s.k;
-    (i + numbers::min(i, deeper_count(s))) << k
+    (i + i.min(deeper_count(s))) << k
 }
 
 // L, the number of leaves.

@@ -2,89 +2,45 @@
 // commitment of both halves, how many columns agree, and the opened nodes. `stdout` holds what reference/ derives (reference/round_trip.py).
 #![tactic(auto)]
 
+use round_trip_report::run;
 use spec::Shape;
 use std::io;
-use test_support::lengths::{part, whole};
-use test_support::parts::words;
+use test_support::lengths::Rows;
 
-// The round trip of a shape, a row length and a challenge, of which the first word has the first eight bytes, the least byte first.
-fn run(
-    rt: &(impl Print + AllocGlobal),
-    tau: usize,
-    k: usize,
-    w: usize,
-    t: usize,
-    row_bits: usize,
-    c0: u64,
-    c1: u64,
-) -> io::Result<()> {
-    round_trip_report::run(
-        rt,
-        Shape {
-            tau,
-            k,
-            w,
-            t,
-            level: 128,
-            kind: 0,
-        },
-        whole(row_bits),
-        words(c0, c1),
-    )
+// A shape at level 128, of kind 0.
+const fn shape(tau: usize, k: usize, w: usize, t: usize) -> Shape {
+    Shape {
+        tau,
+        k,
+        w,
+        t,
+        level: 128,
+        kind: 0,
+    }
 }
 
-// The same with `width` bytes of every row, from byte `first` on.
-fn run_stretch(
-    rt: &(impl Print + AllocGlobal),
-    tau: usize,
-    k: usize,
-    w: usize,
-    t: usize,
-    row_bits: usize,
-    first: usize,
-    width: usize,
-    c0: u64,
-    c1: u64,
-) -> io::Result<()> {
-    let rows = part(row_bits, first, width);
-    round_trip_report::run(
-        rt,
-        Shape {
-            tau,
-            k,
-            w,
-            t,
-            level: 128,
-            kind: 0,
-        },
-        rows,
-        words(c0, c1),
-    )
+// A challenge that begins with these bytes and is zeros behind them.
+fn challenge(first: [u8; 2]) -> [u8; 16] {
+    let mut bytes = [0; 16];
+    bytes[..2].copy_from_slice(&first);
+    bytes
 }
 
 fn main(rt: HostRuntime) -> io::Result<()> {
+    let faest_128s = shape(11, 11, 7, 102);
+    let long = *b"\xef\xe3\x4b\x32\x4e\x8c\xc9\xab\x25\x79\x40\xfe\x1b\xd0\x38\x00";
+    run(&rt, faest_128s, Rows::whole(1680), long)?;
     run(
         &rt,
-        11,
-        11,
-        7,
-        102,
-        1680,
-        0xabc98c4e324be3ef,
-        0x38d01bfe407925,
+        shape(2, 2, 124, 4),
+        Rows::whole(8),
+        challenge([0x0c, 0]),
     )?;
-    run(&rt, 2, 2, 124, 4, 8, 0xc, 0)?;
-    run(&rt, 3, 3, 119, 8, 136, 0x16a, 0)?;
-    run_stretch(
+    run(
         &rt,
-        11,
-        11,
-        7,
-        102,
-        1680,
-        13,
-        37,
-        0xabc98c4e324be3ef,
-        0x38d01bfe407925,
-    )
+        shape(3, 3, 119, 8),
+        Rows::whole(136),
+        challenge([0x6a, 1]),
+    )?;
+    run(&rt, faest_128s, Rows::part(1680, 13, 37), long)
 }

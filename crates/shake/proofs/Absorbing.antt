@@ -14,7 +14,8 @@ use Rattle.laws.proofs.Strings.{digits_append, length-xor_bytes}
 use Rattle.spec.specs.Bytes.{part, zeros}
 use Rattle.spec.specs.Keccak.{theta, rho, pi, chi, iota, round, first_rounds, keccak_f}
 use Rattle.spec.specs.Sponge.{xor_in, absorbed, padding, padded, absorbed_all}
-use Rattle.shake.specs.Absorbing.{Holds, Took}
+use Rattle.shake.specs.Absorbing.{Holds, Absorbs}
+use Rattle.shake.specs.declared.Sponge.{Sponge}
 use Rattle.shake.proofs.XorIn.{xor_in-none, xor_in-more}
 
 -- the permutation leaves 25 lanes
@@ -102,20 +103,21 @@ module _ (r : ℕ) (m lanes : List ℕ) (fill : ℕ) (p : List ℕ) (n : ℕ) (h
       }
 
 -- the same, whatever m is
-module _ {r : ℕ} {lanes : List ℕ} {fill : ℕ} {p lanes' : List ℕ} (n : ℕ) (hp : Digits 8 p) where
-  pub took-part : fill + length p < r → lanes' ≡ xor_in lanes (zeros fill ++ (p ++ zeros n)) → Took r lanes fill p lanes' (fill + length p)
-  took-part fits e = record { room = fits; holds = λ m h. rw e (holds-part r m lanes fill p n h hp fits) }
+module _ {r : ℕ} {lanes : List ℕ} {fill : ℕ} (p : List ℕ) {lanes' : List ℕ} (n : ℕ) (hp : Digits 8 p) where
+  pub part_open : fill + length p < r → lanes' ≡ xor_in lanes (zeros fill ++ (p ++ zeros n)) → (m : List ℕ) → Holds r m lanes fill
+      → Holds r (m ++ p) lanes' (fill + length p)
+  part_open fits e m h = rw e (holds-part r m lanes fill p n h hp fits)
 
-  pub took-full : {fill' : ℕ} → fill + length p ≡ r → 0 < r → lanes' ≡ keccak_f (xor_in lanes (zeros fill ++ (p ++ zeros n))) → fill' ≡ 0
-      → Took r lanes fill p lanes' fill'
-  took-full fits pos e e' = record { room = rw e' pos; holds = λ m h. rw (e, e') (holds-full r m lanes fill p n h hp fits) }
+  pub part_full : fill + length p ≡ r → lanes' ≡ keccak_f (xor_in lanes (zeros fill ++ (p ++ zeros n))) → (m : List ℕ) → Holds r m lanes fill
+      → Holds r (m ++ p) lanes' 0
+  part_full fits e m h = rw e (holds-full r m lanes fill p n h hp fits)
 
 -- several parts
-pub took-none : (r : ℕ) (lanes : List ℕ) (fill : ℕ) → fill < r → Took r lanes fill [] lanes fill
-took-none r lanes fill h = record { room = h; holds = λ m k. rw append-nil k }
+pub absorbs-none : (s : Sponge) → Absorbs s [] s
+absorbs-none s = record { rate = refl; holds = λ m h. rw append-nil h }
 
-pub took_more : {r : ℕ} {l l' l'' : List ℕ} {f f' f'' : ℕ} {a b : List ℕ} → Took r l f a l' f' → Took r l' f' b l'' f'' → Took r l f (a ++ b) l'' f''
-took_more {a = a} {b} x y = record { room = y.room; holds = λ m k. rw (← append_assoc m a b) (y.holds (m ++ a) (x.holds m k)) }
+pub absorbs_more : {s t u : Sponge} {a b : List ℕ} → Absorbs s a t → Absorbs t b u → Absorbs s (a ++ b) u
+absorbs_more {s} {t} {u} {a} {b} x y = record { rate = y.rate ∙ x.rate; holds = λ m h. rw (← append_assoc m a b) (y.holds (m ++ a) (x.holds m h)) }
 
 -- the padding, whole blocks
 pub length-padding : (suffix n : ℕ) → 0 < n → length (padding suffix n) ≡ n

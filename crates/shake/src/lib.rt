@@ -1,26 +1,21 @@
 // The sponge of FIPS 202, section 4, with the suffix and padding of SHAKE (section 6.2), and the hashes H0 and H1 of document 000, section 3.3.
-// The rate, in bytes, is a parameter: 168 is SHAKE128, 136 SHAKE256. A block has room for the larger; at rate 136 its last 32 bytes stay zeros.
+// The rate, in bytes, is a field of the sponge: 168 is SHAKE128, 136 SHAKE256. A block has room for the larger; at rate 136 its last 32 bytes stay zeros.
 #![tactic(auto)]
 
 ghost use Rattle.std.specs.Prelude.{◌≡◌, List, [], ◌∷◌, ◌++◌, ℕ, ◌+◌, ◌-◌, ◌<◌, ◌≤◌, length, take};
 ghost use Rattle.spec.specs.Bytes.{tabulate, zeros, number, digits};
 ghost use Rattle.spec.specs.Keccak.{keccak_f};
-ghost use Rattle.spec.specs.Sponge.{xor_in, state_byte, padding, absorbed_all, output_byte, shake_suffix, shake};
+ghost use Rattle.spec.specs.Sponge.{xor_in, state_byte, padding, output_byte, shake_suffix, shake, absorbed_all};
 ghost use Rattle.spec.specs.Hashes.{hash0, hash1};
-ghost use Rattle.shake.specs.Absorbing.{Holds, Took};
 
-// The state, and how many bytes of a block that is not full yet are xored into it.
+// A sponge at its rate, in bytes: the state, and how many bytes of a block that is not full yet are xored into it. A block has room for the rate of SHAKE128.
 #[derive(Clone, Copy)]
 pub struct Sponge {
+    pub rate: usize,
     pub lanes: [u64; 25],
     pub fill: usize,
-}
-
-// A byte as a lane.
-fn wide(b: u8) -> u64
-    ensures { (result ≡ b) × (result < 256) }
-{
-    b as u64
+    ghost small: { rate ≤ 168 },
+    ghost room: { fill < rate },
 }
 
 // The lane that eight bytes write, the least byte first.
@@ -28,15 +23,7 @@ fn load_lane(p: &[u8]) -> u64
     requires { length p.now ≡ 8 }
     ensures { result ≡ number 8 p.now }
 {
-    let b0 = wide(p[0]);
-    let b1 = wide(p[1]);
-    let b2 = wide(p[2]);
-    let b3 = wide(p[3]);
-    let b4 = wide(p[4]);
-    let b5 = wide(p[5]);
-    let b6 = wide(p[6]);
-    let b7 = wide(p[7]);
-    b0 + (b1 + (b2 + (b3 + (b4 + (b5 + (b6 + b7 * 256) * 256) * 256) * 256) * 256) * 256) * 256
+    u64::from_le_bytes([p[0], p[1], p[2], p[3], p[4], p[5], p[6], p[7]])
 }
 
 // The lanes xored with a block.
@@ -44,13 +31,9 @@ fn xor_block(s: [u64; 25], block: [u8; 168]) -> [u64; 25]
     ensures { result ≡ xor_in s block }
 {
     let mut t = s;
-    let mut j = 0;
-    while j < 21 {
-        let at = 8 * j;
-        let end = at + 8;
-        let v = load_lane(&block[at..end]);
+    for j in 0..21 {
+        let v = load_lane(&block[8 * j..8 * j + 8]);
         t[j] = s[j] ^ v;
-        j += 1;
     }
     t
 }
@@ -65,69 +48,6 @@ fn place(at: usize, part: &[u8]) -> [u8; 168]
     block
 }
 
-// The state permuted, with nothing of the next block in it.
-fn permute(s: Sponge) -> Sponge
-    ensures { (result.lanes ≡ keccak_f s.lanes) × (result.fill ≡ 0) }
-{
-    let lanes = s.lanes;
-    let permuted = keccak::keccak_f(lanes);
-    Sponge {
-        lanes: permuted,
-        fill: 0,
-    }
-}
-
-// Absorbs a part of the message that ends no later than the block.
-fn absorb_part(s: Sponge, rate: usize, part: &[u8]) -> Sponge
-    requires { (rate ≤ 168) × (0 < rate) × (s.fill + length part.now ≤ rate) }
-    ensures { Took rate s.lanes s.fill part.now result.lanes result.fill }
-{
-    let fill = s.fill;
-    let lanes = s.lanes;
-    let block = place(fill, part);
-    let next = xor_block(lanes, block);
-    let end = fill + part.len();
-    if end < rate {
-        Sponge {
-            lanes: next,
-            fill: end,
-        }
-    } else {
-        permute(Sponge {
-            lanes: next,
-            fill: end,
-        })
-    }
-}
-
-// A sponge that has absorbed nothing.
-pub fn new() -> Sponge
-    ensures { ((r : ℕ) → 0 < r → Holds r [] result.lanes result.fill) × (result.fill ≡ 0) }
-{
-    Sponge {
-        lanes: [0; 25],
-        fill: 0,
-    }
-}
-
-// Absorbs more of the message.
-pub fn absorb(s: Sponge, rate: usize, message: &[u8]) -> Sponge
-    requires { (rate ≤ 168) × (s.fill < rate) }
-    ensures { Took rate s.lanes s.fill message.now result.lanes result.fill }
-{
-    let mut t = s;
-    let mut at = 0;
-    while at < message.len() {
-        let fill = t.fill;
-        let n = numbers::min(rate - fill, message.len() - at);
-        let end = at + n;
-        let u = absorb_part(t, rate, &message[at..end]);
-        t = u;
-        at = end;
-    }
-    t
-}
-
 // A block whose first n bytes are the suffix of SHAKE and the padding.
 fn padding_block(n: usize) -> [u8; 168]
     requires { (0 < n) × (n ≤ 168) }
@@ -135,21 +55,8 @@ fn padding_block(n: usize) -> [u8; 168]
 {
     let mut block = [0u8; 168];
     block[0] = 0x1f;
-    let last = n - 1;
-    let b = block[last];
-    block[last] = b ^ 0x80;
+    block[n - 1] ^= 0x80;
     block
-}
-
-// Absorbs the suffix and the padding.
-pub fn finish(s: Sponge, rate: usize) -> Sponge
-    requires { (rate ≤ 168) × (s.fill < rate) }
-    ensures { (m : List ℕ) → Holds rate m s.lanes s.fill → result.lanes ≡ absorbed_all rate shake_suffix m }
-{
-    let fill = s.fill;
-    let n = rate - fill;
-    let block = padding_block(n);
-    absorb_part(s, rate, &block[..n])
 }
 
 // The eight bytes of a lane, the least byte first.
@@ -157,10 +64,8 @@ fn store_lane(x: u64, out: &mut [u8])
     requires { length out.old ≡ 8 }
     ensures { out.new ≡ digits 8 8 x }
 {
-    let mut i = 0;
-    while i < 8 {
+    for i in 0..8 {
         out[i] = ((x >> (8 * i)) % 256) as u8;
-        i += 1;
     }
 }
 
@@ -169,55 +74,134 @@ fn state_bytes(s: [u64; 25]) -> [u8; 168]
     ensures { result ≡ tabulate 168 (state_byte s) }
 {
     let mut block = [0u8; 168];
-    let mut j = 0;
-    while j < 21 {
-        let at = 8 * j;
-        let end = at + 8;
-        store_lane(s[j], &mut block[at..end]);
-        j += 1;
+    for j in 0..21 {
+        store_lane(s[j], &mut block[8 * j..8 * j + 8]);
     }
     block
 }
 
 // Fills out, a block at most, with the first bytes of the state.
-fn squeeze_part(s: Sponge, out: &mut [u8])
+fn squeeze_part(lanes: [u64; 25], out: &mut [u8])
     requires { length out.old ≤ 168 }
-    ensures { out.new ≡ tabulate (length out.old) (state_byte s.lanes) }
+    ensures { out.new ≡ tabulate (length out.old) (state_byte lanes) }
 {
-    let lanes = s.lanes;
     let block = state_bytes(lanes);
     let n = out.len();
     buffers::copy(&block[..n], out);
 }
 
-// Fills out with the output of a sponge that is finished.
-pub fn squeeze(s: Sponge, rate: usize, out: &mut [u8])
-    requires { (rate ≤ 168) × (0 < rate) }
-    ensures { out.new ≡ tabulate (length out.old) (output_byte rate s.lanes) }
-{
-    let mut t = s;
-    let mut at = 0;
-    while at < out.len() {
-        let n = numbers::min(rate, out.len() - at);
-        let end = at + n;
-        squeeze_part(t, &mut out[at..end]);
-        at = end;
-        if at < out.len() {
-            let u = permute(t);
-            t = u;
+impl Sponge {
+    ghost use Rattle.shake.specs.Absorbing.{Absorbed, Absorbs};
+
+    // A sponge that has absorbed nothing.
+    pub fn new(rate: usize) -> Sponge
+        requires { (rate ≤ 168) × (0 < rate) }
+        ensures { (result.rate ≡ rate) × Absorbed result [] }
+    {
+        Sponge {
+            rate,
+            lanes: [0; 25],
+            fill: 0,
         }
     }
-}
 
-// Fills out with SHAKE of what the sponge has absorbed and of one byte more, which names the hash.
-fn hash(s: Sponge, rate: usize, domain: u8, out: &mut [u8])
-    requires { (rate ≤ 168) × (s.fill < rate) }
-    ensures { (m : List ℕ) → Holds rate m s.lanes s.fill → out.new ≡ shake rate (m ++ (domain ∷ [])) (length out.old) }
-{
-    let last = [domain; 1];
-    let t = absorb(s, rate, &last);
-    let u = finish(t, rate);
-    squeeze(u, rate, out);
+    // The state permuted, with nothing of the next block in it.
+    fn permute(self) -> Sponge
+        ensures { (result.rate ≡ self.rate) × (result.lanes ≡ keccak_f self.lanes) × (result.fill ≡ 0) }
+    {
+        Sponge {
+            rate: self.rate,
+            lanes: keccak::keccak_f(self.lanes),
+            fill: 0,
+        }
+    }
+
+    // Absorbs a part of the message that ends no later than the block.
+    fn absorb_part(self, part: &[u8]) -> Sponge
+        requires { self.fill + length part.now ≤ self.rate }
+        ensures { Absorbs self part.now result }
+    {
+        let rate = self.rate;
+        let block = place(self.fill, part);
+        let lanes = xor_block(self.lanes, block);
+        let end = self.fill + part.len();
+        if end < rate {
+            Sponge {
+                rate,
+                lanes,
+                fill: end,
+            }
+        } else {
+            let whole = Sponge {
+                rate,
+                lanes,
+                fill: 0,
+            };
+            whole.permute()
+        }
+    }
+
+    // Absorbs more of the message. The loop is a `while`, since a turn goes on by the part that fits into the block.
+    pub fn absorb(self, message: &[u8]) -> Sponge
+        ensures { Absorbs self message.now result }
+    {
+        let mut sponge = self;
+        let mut at = 0;
+        while at < message.len() {
+            let n = (sponge.rate - sponge.fill).min(message.len() - at);
+            sponge = sponge.absorb_part(&message[at..at + n]);
+            at += n;
+        }
+        sponge
+    }
+
+    // Fills out with the output of a state that has absorbed whole blocks, block by block. The loop is a `while`, since a turn goes on by a block or what is left.
+    pub fn squeeze_blocks(self, out: &mut [u8])
+        ensures { out.new ≡ tabulate (length out.old) (output_byte self.rate self.lanes) }
+    {
+        let rate = self.rate;
+        let mut state = self;
+        let mut at = 0;
+        while at < out.len() {
+            let n = rate.min(out.len() - at);
+            squeeze_part(state.lanes, &mut out[at..at + n]);
+            at += n;
+            if at < out.len() {
+                state = state.permute();
+            }
+        }
+    }
+
+    // Absorbs the suffix and the padding, which end the last block.
+    pub fn finish(self) -> Sponge
+        ensures { (result.rate ≡ self.rate) × ((m : List ℕ) → Absorbed self m → result.lanes ≡ absorbed_all self.rate shake_suffix m) }
+    {
+        let n = self.rate - self.fill;
+        let block = padding_block(n);
+        self.absorb_part(&block[..n])
+    }
+
+    // Fills out with SHAKE of what the sponge has absorbed.
+    pub fn squeeze(self, out: &mut [u8])
+        ensures { (m : List ℕ) → Absorbed self m → out.new ≡ shake self.rate m (length out.old) }
+    {
+        let padded = self.finish();
+        padded.squeeze_blocks(out);
+    }
+
+    // Fills out with SHAKE of what the sponge has absorbed and of one byte more, which names the hash.
+    fn hash(self, domain: u8, out: &mut [u8])
+        ensures { (m : List ℕ) → Absorbed self m → out.new ≡ shake self.rate (m ++ (domain ∷ [])) (length out.old) }
+    {
+        self.absorb(&[domain]).squeeze(out);
+    }
+
+    // H1, the hash for vector commitments, of the message that the sponge has absorbed.
+    pub fn h1(self, out: &mut [u8])
+        ensures { (m : List ℕ) → Absorbed self m → out.new ≡ hash1 self.rate m (length out.old) }
+    {
+        self.hash(1, out);
+    }
 }
 
 // H0, the hash for commitment keys.
@@ -225,17 +209,7 @@ pub fn h0(rate: usize, iv: &[u8], out: &mut [u8])
     requires { (rate ≤ 168) × (0 < rate) }
     ensures { out.new ≡ hash0 rate iv.now (length out.old) }
 {
-    let s = new();
-    let t = absorb(s, rate, iv);
-    hash(t, rate, 0, out);
-}
-
-// H1, the hash for vector commitments, of a message that the sponge has absorbed in parts.
-pub fn h1_finish(s: Sponge, rate: usize, out: &mut [u8])
-    requires { (rate ≤ 168) × (s.fill < rate) }
-    ensures { (m : List ℕ) → Holds rate m s.lanes s.fill → out.new ≡ hash1 rate m (length out.old) }
-{
-    hash(s, rate, 1, out);
+    Sponge::new(rate).absorb(iv).hash(0, out);
 }
 
 // H1 of a message that comes whole.
@@ -243,7 +217,5 @@ pub fn h1(rate: usize, message: &[u8], out: &mut [u8])
     requires { (rate ≤ 168) × (0 < rate) }
     ensures { out.new ≡ hash1 rate message.now (length out.old) }
 {
-    let s = new();
-    let t = absorb(s, rate, message);
-    h1_finish(t, rate, out);
+    Sponge::new(rate).absorb(message).h1(out);
 }

@@ -1,5 +1,5 @@
 -- The record that is the contract of commit_stretch, refused and written; and what commit writes, buffer by buffer. s is the shape as given and t the resolved one, x what
--- the buffers held, r the answer, k the number of the tests.
+-- the buffers held, r the answer.
 use Prim.Native.Nat.{ℕ}
 use mathlib.Core.Path.{◌≡◌, refl, sym, ap, ◌∙◌}
 use mathlib.Core.List.{List}
@@ -15,12 +15,12 @@ use Rattle.spec.specs.Signer.{signer_tree, signer_leaf_commitment, signer_u, sig
 use Rattle.spec.specs.Calls.{Committed, committed, commit_lengths, commit_stretch_number, CommitStretch}
 
 module _ (s t : Shape) (e : t ≡ resolved s) (n : ℕ) (z : Stretch) (root iv : List ℕ) (x : Committed) (r : Answer) where
-  module _ (k : ℕ) (d : k ≡ commit_stretch_number t n z (commit_lengths t z.width root iv x)) where
-    pub refused : (k ≡ 0 → ⊥) → (r.number ≡ k) × (r.count ≡ 0) → CommitStretch faest s n z root iv x x r
-    refused h a = record { number = rw e at (a.0 ∙ d); count = a.1; buffers = rw (a.0, ne_eqb k 0 h) refl }
+  module _ (d : r.number ≡ commit_stretch_number t n z (commit_lengths t z.width root iv x)) (c : r.count ≡ 0) where
+    pub refused : (r.number ≡ 0 → ⊥) → CommitStretch faest s n z root iv x x r
+    refused h = record { number = rw e at d; count = c; buffers = rw (ne_eqb r.number 0 h) refl }
 
-    pub written : (y : Committed) → k ≡ 0 → y ≡ committed faest t z root iv → (r.number ≡ 0) × (r.count ≡ 0) → CommitStretch faest s n z root iv x y r
-    written y h w a = record { number = rw e at (a.0 ∙ sym h ∙ d); count = a.1; buffers = rw a.0 (rw e at w) }
+    pub written : (y : Committed) → r.number ≡ 0 → y ≡ committed faest t z root iv → CommitStretch faest s n z root iv x y r
+    written y h w = record { number = rw e at d; count = c; buffers = rw h (rw e at w) }
 
 -- ---- what is written
 

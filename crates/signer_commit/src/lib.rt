@@ -6,6 +6,7 @@ ghost use Rattle.spec.specs.Shapes.{node_bytes, leaf_commitment_bytes, hash_byte
 ghost use Rattle.spec.specs.Primitives.{faest};
 ghost use Rattle.spec.specs.Calls.{Committed, committed, Commit, CommitStretch};
 
+use aes::Sbox;
 use job::{Job, Version};
 use refusals::CommitLengths;
 use spec::{Answer, Shape, Stretch};
@@ -31,17 +32,17 @@ fn write_all(
         (committed faest s z root.now iv.now) }
 {
     let r = rules::rate_bytes(s);
-    let t = aes::table();
+    let sbox = Sbox::new();
     let x = generator::load_iv(iv);
     leaf::hash_keys(s, iv, keys);
-    signer_tree::grow(&t, s, root, x, tree);
+    signer_tree::grow(&sbox, s, root, x, tree);
     let g = Job {
         shape: s,
         stretch: z,
         iv: x,
         version: Version::Two,
     };
-    signer_vectors::write_vectors(&t, g, keys, tree, lcs, u, v, corrections, hashes);
+    signer_vectors::write_vectors(&sbox, g, keys, tree, lcs, u, v, corrections, hashes);
     shake::h1(r, hashes, commitment);
 }
 
@@ -115,23 +116,27 @@ pub fn commit_stretch(
         v: v.len(),
         corrections: corrections.len(),
     };
-    let number = signer_refusals::commit_number(s, row_bits, stretch, x);
-    if number != 0 {
-        return rules::answer(number, 0);
+    match signer_refusals::test_commit(s, row_bits, stretch, x) {
+        Ok(()) => {
+            write_commitment(
+                s,
+                stretch,
+                root,
+                iv,
+                commitment,
+                tree,
+                leaf_commitments,
+                u,
+                v,
+                corrections,
+            );
+            Answer {
+                number: 0,
+                count: 0,
+            }
+        }
+        Err(refusal) => Answer::from(refusal),
     }
-    write_commitment(
-        s,
-        stretch,
-        root,
-        iv,
-        commitment,
-        tree,
-        leaf_commitments,
-        u,
-        v,
-        corrections,
-    );
-    rules::answer(0, 0)
 }
 
 // COMMIT: the same of the whole row.

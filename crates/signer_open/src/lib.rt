@@ -25,11 +25,12 @@ pub fn open(
         opening: opening.len(),
     };
     let mut nodes = [0u32; 512];
-    let r = signer_refusals::open_answer(s, x, challenge, &mut nodes);
-    if r.number != 0 {
-        return r;
+    match signer_refusals::test_open(s, x, challenge, &mut nodes) {
+        Ok(count) => {
+            opening::write_hidden(s, challenge, leaf_commitments, opening);
+            opening::write_slots(s, &nodes, count, tree, opening);
+            Answer { number: 0, count }
+        }
+        Err(refusal) => Answer::from(refusal),
     }
-    opening::write_hidden(s, challenge, leaf_commitments, opening);
-    opening::write_slots(s, &nodes, r.count, tree, opening);
-    r
 }

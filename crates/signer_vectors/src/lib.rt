@@ -15,12 +15,13 @@ ghost use Rattle.job.specs.Jobs.{entry_commitment, entry_byte};
 ghost use Rattle.vector.specs.Entries.{Lent};
 ghost use Rattle.vector.specs.Vectors.{Converted, Before};
 
+use aes::Sbox;
 use job::Job;
 use vector::Run;
 
 // Vector i: writes its leaf commitments, its columns and its hash, and adds the xor of its rows to `total`.
 fn convert(
-    t: &[u8; 256],
+    sbox: &Sbox,
     g: Job,
     i: usize,
     keys: &[u8],
@@ -30,7 +31,7 @@ fn convert(
     cols: &mut [u8],
     hash: &mut [u8],
 )
-    requires lent { Lent g t.now tree.now × HashKeys g.shape g.iv keys.now × (i < g.shape.tau) × (length total.old ≡ g.stretch.width) }
+    requires lent { Lent g tree.now × HashKeys g.shape g.iv keys.now × (i < g.shape.tau) × (length total.old ≡ g.stretch.width) }
     requires lcs_len { (length lcs.old ≡ leaf_commitment_bytes g.shape * entries_of g.shape i) × (length cols.old ≡ g.stretch.width * depth_of g.shape i) × (length hash.old ≡ hash_bytes g.shape) }
     ensures total_after { total.new ≡ tabulate g.stretch.width (λ p. bit_xor (get_or total.old p 0) (u_byte g.shape (entry_byte g tree.now) i p)) }
     ensures converted { Converted g.shape (entry_commitment g tree.now) (signer_column g.shape g.stretch.width (entry_byte g tree.now)) i lcs.new cols.new hash.new }
@@ -52,16 +53,16 @@ fn convert(
         mask: 0,
     };
     buffers::clear_from(cols, 0);
-    vector::add_half(t, &m, g, lower, tree, lcs, cols);
+    vector::add_half(sbox, &m, g, lower, tree, lcs, cols);
     columns::add_part(total, cols, last);
-    vector::add_half(t, &m, g, upper, tree, lcs, cols);
+    vector::add_half(sbox, &m, g, upper, tree, lcs, cols);
     columns::add_part(total, cols, last);
     shake::h1(rules::rate_bytes(g.shape), lcs, hash);
 }
 
 // Vector i in its parts of the buffers, behind those before it; the xor of its rows is added to `total`.
 fn next_vector(
-    t: &[u8; 256],
+    sbox: &Sbox,
     g: Job,
     i: usize,
     keys: &[u8],
@@ -71,7 +72,7 @@ fn next_vector(
     v: &mut [u8],
     hashes: &mut [u8],
 )
-    requires lent { Lent g t.now tree.now × HashKeys g.shape g.iv keys.now × (i < g.shape.tau) × (length total.old ≡ g.stretch.width) }
+    requires lent { Lent g tree.now × HashKeys g.shape g.iv keys.now × (i < g.shape.tau) × (length total.old ≡ g.stretch.width) }
     requires lcs_len { (length lcs.old ≡ leaf_commitments_bytes g.shape) × (length v.old ≡ matrix_bytes g.shape g.stretch.width) × (length hashes.old ≡ hash_bytes g.shape * g.shape.tau) }
     ensures total_after { total.new ≡ tabulate g.stretch.width (λ p. bit_xor (get_or total.old p 0) (u_byte g.shape (entry_byte g tree.now) i p)) }
     ensures before { Before g.shape g.stretch.width (entry_commitment g tree.now) (signer_column g.shape g.stretch.width (entry_byte g tree.now)) i lcs.old v.old hashes.old
@@ -84,7 +85,7 @@ fn next_vector(
     let v_from = vector::columns_from(s, i, g.stretch.width);
     let v_to = vector::columns_from(s, i + 1, g.stretch.width);
     convert(
-        t,
+        sbox,
         g,
         i,
         keys,
@@ -98,7 +99,7 @@ fn next_vector(
 
 // All vectors: the rows of the first make u, those of each other, added to u, a correction. The last w columns are zeros.
 pub fn write_vectors(
-    t: &[u8; 256],
+    sbox: &Sbox,
     g: Job,
     keys: &[u8],
     tree: &[u8],
@@ -108,7 +109,7 @@ pub fn write_vectors(
     corrections: &mut [u8],
     hashes: &mut [u8],
 )
-    requires lent { Lent g t.now tree.now × HashKeys g.shape g.iv keys.now × (length lcs.old ≡ leaf_commitments_bytes g.shape) × (length hashes.old ≡ hash_bytes g.shape * g.shape.tau) }
+    requires lent { Lent g tree.now × HashKeys g.shape g.iv keys.now × (length lcs.old ≡ leaf_commitments_bytes g.shape) × (length hashes.old ≡ hash_bytes g.shape * g.shape.tau) }
     requires u_len { (length u.old ≡ g.stretch.width) × (length v.old ≡ matrix_bytes g.shape g.stretch.width) × (length corrections.old ≡ corrections_bytes g.shape g.stretch.width) }
     ensures lcs_after { lcs.new ≡ leaf_commitments g.shape (entry_commitment g tree.now) }
     ensures u_after { u.new ≡ signer_u g.shape g.stretch.width (entry_byte g tree.now) }
@@ -119,12 +120,12 @@ pub fn write_vectors(
     let b = g.stretch.width;
     let others = g.shape.tau - 1;
     buffers::clear_from(u, 0);
-    next_vector(t, g, 0, keys, tree, u, lcs, v, hashes);
+    next_vector(sbox, g, 0, keys, tree, u, lcs, v, hashes);
     for j in 0..others {
         let at = b * j;
         buffers::copy_part(u, 0, b, corrections, at);
         next_vector(
-            t,
+            sbox,
             g,
             j + 1,
             keys,

@@ -5,8 +5,10 @@ ghost use Rattle.std.specs.Prelude.{◌≡◌, true, ◌+◌, ◌*◌, ◌≤◌
 ghost use Rattle.spec.specs.Bytes.{all_zero};
 ghost use Rattle.spec.specs.Shapes.{node_bytes, challenge_bytes, leaf_commitment_bytes, shape_ok, planned_count, opening_bytes};
 ghost use Rattle.refusals.specs.Numbers.{opening_number, Answered};
+ghost use Rattle.refusals.specs.Refusal.{answer_in};
 
-use spec::{Answer, Shape};
+use refusals::Refusal;
+use spec::Shape;
 
 // Whether the slots of an opening behind the first n are zeros.
 pub fn slots_clear(s: Shape, n: usize, opening: &[u8]) -> bool
@@ -17,18 +19,12 @@ pub fn slots_clear(s: Shape, n: usize, opening: &[u8]) -> bool
     buffers::is_clear_from(opening, first + rules::node_bytes(s) * n)
 }
 
-// The answer to an opening and its challenge: 4, 5, 6, or 0, with the count. The nodes are counted, and not listed.
-pub fn opening_answer(s: Shape, ch: &[u8], opening: &[u8]) -> Answer
+// The tests of an opening and its challenge, and the count of revealed nodes: of the challenge, then of the unused slots. The nodes are counted, and not listed.
+pub fn test_opening(s: Shape, ch: &[u8], opening: &[u8]) -> Result<usize, Refusal>
     requires { (shape_ok s ≡ true) × (length ch.now ≡ challenge_bytes s) × (length opening.now ≡ opening_bytes s) }
-    ensures { Answered (opening_number s ch.now opening.now) (planned_count s ch.now) result }
+    ensures { Answered (opening_number s ch.now opening.now) (planned_count s ch.now) (answer_in result) }
 {
-    let mut none = [0u32; 0];
-    let r = plan_refusals::challenge_answer(s, ch, &mut none);
-    if r.number != 0 {
-        return r;
-    }
-    rules::answer(
-        refusals::refusal(slots_clear(s, r.count, opening), refusals::SLOTS, 0),
-        r.count,
-    )
+    let n = plan_refusals::test_challenge(s, ch, &mut [])?;
+    refusals::test(slots_clear(s, n, opening), Refusal::UnusedSlot(n))?;
+    Ok(n)
 }

@@ -1,4 +1,4 @@
-// What the programs that make the calls share: the exact lengths of the buffers, the front of a buffer, strings of 16 and 32 bytes, text on standard output.
+// What the programs that make the calls share: the exact lengths of the buffers, the front of a buffer, bytes in hexadecimal.
 #![tactic(auto)]
 
 pub mod lengths;

@@ -1,18 +1,15 @@
-// Text, numbers and bytes on standard output, or on what a runtime puts in its place. A write that fails is answered.
-use std::io;
+// Bytes as text.
+use std::fmt;
 
-pub fn text(to: &impl Print, t: &[u8]) -> io::Result<()> {
-    to.write_all(t)
-}
+// Bytes that are printed in hexadecimal, the first byte first.
+#[derive(Drop)]
+pub struct Hex<'a>(pub &'a [u8]);
 
-pub fn decimal(to: &impl Print, n: usize) -> io::Result<()> {
-    to.print(n)
-}
-
-// The bytes in hexadecimal, the first byte first.
-pub fn hex(to: &impl Print, a: &[u8]) -> io::Result<()> {
-    for byte in a {
-        print!(to; "{byte:02x}")?;
+impl fmt::Display for Hex<'_> {
+    fn fmt<W: fmt::Write>(&self, f: &mut fmt::Formatter<W>) -> fmt::Result {
+        for byte in self.0 {
+            write!(f, "{byte:02x}")?;
+        }
+        Ok(())
     }
-    Ok(())
 }

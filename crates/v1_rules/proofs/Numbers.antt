@@ -10,6 +10,9 @@ use Rattle.spec.specs.Shapes.{ordinary, shape_ok}
 use Rattle.spec.specs.Calls.{first_refusal, fits, row_ok}
 use Rattle.spec.specs.Version1.{shape1_ok}
 use Rattle.spec.specs.Version1Calls.{row1_number, open1_number}
+use Rattle.refusals.specs.declared.Refusal.{Refusal}
+use Rattle.refusals.specs.Refusal.{number_of, count_of}
+use Rattle.refusals.proofs.Lists.{refused-uncounted}
 use Rattle.laws.specs.Lengths.{Sized}
 use Rattle.laws.proofs.Conjunctions.{both_true}
 use Rattle.laws.proofs.Lengths.{fits-sized}
@@ -48,3 +51,12 @@ front-passed s n k e z = (let q = none-failed (Front s n) (refl, (refl, tt)) (sy
 pub open-accepted : (s : Shape) (ls : List (ℕ × ℕ)) → open1_number s ls ≡ 0 → (shape1_ok s ≡ true) × Sized ls
 unfolding open1_number
 open-accepted s ls h = (let q = none-failed ((shape1_ok s, 1) ∷ (fits ls, 3) ∷ []) (refl, (refl, tt)) h in (q.0, fits-sized ls q.1.0))
+
+-- no refusal of version 1 comes with a count
+pub row-uncounted : (s : Shape) (n : ℕ) (ls : List (ℕ × ℕ)) (x : Refusal) → number_of x ≡ row1_number s n ls → count_of x ≡ 0
+unfolding row1_number
+row-uncounted s n ls = refused-uncounted ((shape1_ok s, 1) ∷ (row_ok n, 2) ∷ (fits ls, 3) ∷ []) (refl, (refl, (refl, tt)))
+
+pub open-uncounted : (s : Shape) (ls : List (ℕ × ℕ)) (x : Refusal) → number_of x ≡ open1_number s ls → count_of x ≡ 0
+unfolding open1_number
+open-uncounted s ls = refused-uncounted ((shape1_ok s, 1) ∷ (fits ls, 3) ∷ []) (refl, (refl, tt))

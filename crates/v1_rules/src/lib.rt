@@ -5,9 +5,11 @@ ghost use Rattle.std.specs.Prelude.{◌≡◌, true, [], ◌∷◌, ◌+◌, ◌
 ghost use Rattle.spec.specs.Shapes.{shape_ok, entries_of, leaves};
 ghost use Rattle.spec.specs.Calls.{first_refusal, row_ok};
 ghost use Rattle.spec.specs.Version1.{shape1_ok, first_node, leaf_in, decommitment_from, trees1_bytes, leaf_commitments1_bytes, opening1_bytes};
+ghost use Rattle.refusals.specs.Refusal.{number_in};
 ghost use Rattle.v1_rules.specs.Inner.{job_of};
 
 use job::{Job, Version};
+use refusals::Refusal;
 use spec::{Shape, Stretch};
 
 // Whether it is a shape of version 1: one of version 2 without grinding bits and with T 1, whose leaves are ordinary.
@@ -17,12 +19,12 @@ pub fn is_shape(s: Shape) -> bool
     rules::is_shape(s) & (s.w == 0) & (s.t == 1) & rules::is_ordinary(s)
 }
 
-// The number of the tests that commit and reconstruct begin with: 1 for the shape, 2 for the row length.
-pub fn front_number(s: Shape, row_bits: usize) -> usize
-    ensures { result ≡ first_refusal ((shape1_ok s, 1) ∷ (row_ok row_bits, 2) ∷ []) }
+// The tests that commit and reconstruct begin with: of the shape, the row length.
+pub fn test_front(s: Shape, row_bits: usize) -> Result<(), Refusal>
+    ensures { number_in result ≡ first_refusal ((shape1_ok s, 1) ∷ (row_ok row_bits, 2) ∷ []) }
 {
-    let row = refusals::refusal(rules::is_row_length(row_bits), refusals::ROW_LENGTH, 0);
-    refusals::refusal(is_shape(s), refusals::SHAPE, row)
+    refusals::test(is_shape(s), Refusal::NotAShape)?;
+    refusals::test(rules::is_row_length(row_bits), Refusal::NotARowLength)
 }
 
 // The job of rows of b bytes. Inside, the shape has the leaf kind whose leaf commitments have two nodes' length and no hash keys.

@@ -61,15 +61,17 @@ module _ (s : Shape) (b : ℕ) (iv : List ℕ) (g : Job) (e : g ≡ job_of s b i
 -- ---- the calls: refused, or written
 
 module _ (s : Shape) (n : ℕ) (root iv : List ℕ) (x : Committed) (r : Answer) where
-  pub commit-refused : (k : ℕ) → k ≡ row1_number s n (commit1_lengths s (n / 8) root iv x) → (k ≡ 0 → ⊥) → (r.number ≡ k) × (r.count ≡ 0) → Commit1 faest1 s n root iv x x r
-  commit-refused k e h a = record { number = a.0 ∙ e; count = a.1; buffers = rw (a.0, ne_eqb k 0 h) refl }
+  module _ (e : r.number ≡ row1_number s n (commit1_lengths s (n / 8) root iv x)) (c : r.count ≡ 0) where
+    pub commit-refused : (r.number ≡ 0 → ⊥) → Commit1 faest1 s n root iv x x r
+    commit-refused h = record { number = e; count = c; buffers = rw (ne_eqb r.number 0 h) refl }
 
-  pub commit-written : (y : Committed) (k : ℕ) → k ≡ row1_number s n (commit1_lengths s (n / 8) root iv x) → k ≡ 0 → y ≡ committed1 faest1 s (n / 8) root iv → (r.number ≡ 0) × (r.count ≡ 0) → Commit1 faest1 s n root iv x y r
-  commit-written y k e z w a = record { number = a.0 ∙ sym z ∙ e; count = a.1; buffers = rw a.0 w }
+    pub commit-written : (y : Committed) → r.number ≡ 0 → y ≡ committed1 faest1 s (n / 8) root iv → Commit1 faest1 s n root iv x y r
+    commit-written y z w = record { number = e; count = c; buffers = rw z w }
 
 module _ (s : Shape) (ch trees lcs x : List ℕ) (r : Answer) where
-  pub open-refused : (k : ℕ) → k ≡ open1_number s (open1_lengths s ch trees lcs x) → (k ≡ 0 → ⊥) → (r.number ≡ k) × (r.count ≡ 0) → Open1 s ch trees lcs x x r
-  open-refused k e h a = record { number = a.0 ∙ e; count = a.1; opening = rw (a.0, ne_eqb k 0 h) refl }
+  module _ (e : r.number ≡ open1_number s (open1_lengths s ch trees lcs x)) (c : r.count ≡ 0) where
+    pub open-refused : (r.number ≡ 0 → ⊥) → Open1 s ch trees lcs x x r
+    open-refused h = record { number = e; count = c; opening = rw (ne_eqb r.number 0 h) refl }
 
-  pub open-written : (y : List ℕ) (k : ℕ) → k ≡ open1_number s (open1_lengths s ch trees lcs x) → k ≡ 0 → y ≡ opening1_of s ch trees lcs → (r.number ≡ 0) × (r.count ≡ 0) → Open1 s ch trees lcs x y r
-  open-written y k e z w a = record { number = a.0 ∙ sym z ∙ e; count = a.1; opening = rw a.0 w }
+    pub open-written : (y : List ℕ) → r.number ≡ 0 → y ≡ opening1_of s ch trees lcs → Open1 s ch trees lcs x y r
+    open-written y z w = record { number = e; count = c; opening = rw z w }

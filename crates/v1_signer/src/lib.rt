@@ -6,8 +6,10 @@ ghost use Rattle.spec.specs.Shapes.{node_bytes, challenge_bytes, hash_bytes, iv_
 ghost use Rattle.spec.specs.Calls.{fits, Committed};
 ghost use Rattle.spec.specs.Version1.{faest1, shape1_ok, leaf_commitment_bytes1, trees1_bytes, leaf_commitments1_bytes, opening1_bytes};
 ghost use Rattle.spec.specs.Version1Calls.{row1_number, open1_number, committed1, Commit1, Open1};
+ghost use Rattle.refusals.specs.Refusal.{number_in};
 
-use refusals::{CommitLengths, OpenLengths};
+use aes::Sbox;
+use refusals::{CommitLengths, OpenLengths, Refusal};
 use spec::{Answer, Shape};
 
 // Whether the buffers of commit have their lengths, for rows of b bytes.
@@ -16,30 +18,25 @@ fn commit_fits(s: Shape, b: usize, x: CommitLengths) -> bool
     ensures { result ≡ fits ((x.root, node_bytes s) ∷ (x.iv, iv_bytes) ∷ (x.commitment, hash_bytes s) ∷ (x.tree, trees1_bytes s) ∷ (x.leaf_commitments, leaf_commitments1_bytes s)
         ∷ (x.u, b) ∷ (x.v, matrix_bytes s b) ∷ (x.corrections, corrections_bytes s b) ∷ []) }
 {
-    let node = rules::node_bytes(s);
-    let hash = rules::hash_bytes(s);
-    let trees = v1_rules::trees_bytes(s);
-    let lcs = v1_rules::leaf_commitments_bytes(s);
-    let v = lengths::matrix_bytes(s, b);
-    let corrections = lengths::corrections_bytes(s, b);
-    (x.root == node)
-        & ((x.iv == 16)
-            & ((x.commitment == hash)
-                & ((x.tree == trees)
-                    & ((x.leaf_commitments == lcs)
-                        & ((x.u == b) & ((x.v == v) & ((x.corrections == corrections) & true)))))))
+    x == CommitLengths {
+        root: rules::node_bytes(s),
+        iv: 16,
+        commitment: rules::hash_bytes(s),
+        tree: v1_rules::trees_bytes(s),
+        leaf_commitments: v1_rules::leaf_commitments_bytes(s),
+        u: b,
+        v: lengths::matrix_bytes(s, b),
+        corrections: lengths::corrections_bytes(s, b),
+    }
 }
 
-// The number of commit, by its tests in their order: 1, 2, 3, or 0.
-fn commit_number(s: Shape, row_bits: usize, x: CommitLengths) -> usize
-    ensures { result ≡ row1_number s row_bits ((x.root, node_bytes s) ∷ (x.iv, iv_bytes) ∷ (x.commitment, hash_bytes s) ∷ (x.tree, trees1_bytes s) ∷ (x.leaf_commitments, leaf_commitments1_bytes s)
+// The tests of commit: of the shape, the row length, the lengths.
+fn test_commit(s: Shape, row_bits: usize, x: CommitLengths) -> Result<(), Refusal>
+    ensures { number_in result ≡ row1_number s row_bits ((x.root, node_bytes s) ∷ (x.iv, iv_bytes) ∷ (x.commitment, hash_bytes s) ∷ (x.tree, trees1_bytes s) ∷ (x.leaf_commitments, leaf_commitments1_bytes s)
         ∷ (x.u, row_bits / 8) ∷ (x.v, matrix_bytes s (row_bits / 8)) ∷ (x.corrections, corrections_bytes s (row_bits / 8)) ∷ []) }
 {
-    let front = v1_rules::front_number(s, row_bits);
-    if front != 0 {
-        return front;
-    }
-    refusals::refusal(commit_fits(s, row_bits / 8, x), refusals::BUFFER, 0)
+    v1_rules::test_front(s, row_bits)?;
+    refusals::test(commit_fits(s, row_bits / 8, x), Refusal::BufferLength)
 }
 
 // Writes what commit writes, for rows of b bytes; hashes is room for the hashes of the vectors. Version 1 does not read keys, which only
@@ -64,11 +61,11 @@ fn write_all(
         (committed1 faest1 s b root.now iv.now) }
 {
     let r = rules::rate_bytes(s);
-    let t = aes::table();
+    let sbox = Sbox::new();
     let x = generator::load_iv(iv);
     let g = v1_rules::job_of(s, b, x);
-    signer_forest::grow_trees(&t, s, root, x, trees);
-    signer_vectors::write_vectors(&t, g, keys, trees, lcs, u, v, corrections, hashes);
+    signer_forest::grow_trees(&sbox, s, root, x, trees);
+    signer_vectors::write_vectors(&sbox, g, keys, trees, lcs, u, v, corrections, hashes);
     shake::h1(r, hashes, commitment);
 }
 
@@ -137,23 +134,27 @@ pub fn commit(
         v: v.len(),
         corrections: corrections.len(),
     };
-    let number = commit_number(shape, row_bits, x);
-    if number != 0 {
-        return rules::answer(number, 0);
+    match test_commit(shape, row_bits, x) {
+        Ok(()) => {
+            write_commitment(
+                shape,
+                row_bits / 8,
+                root,
+                iv,
+                commitment,
+                trees,
+                leaf_commitments,
+                u,
+                v,
+                corrections,
+            );
+            Answer {
+                number: 0,
+                count: 0,
+            }
+        }
+        Err(refusal) => Answer::from(refusal),
     }
-    write_commitment(
-        shape,
-        row_bits / 8,
-        root,
-        iv,
-        commitment,
-        trees,
-        leaf_commitments,
-        u,
-        v,
-        corrections,
-    );
-    rules::answer(0, 0)
 }
 
 // Whether the buffers of open have their lengths.
@@ -161,22 +162,20 @@ fn open_fits(s: Shape, x: OpenLengths) -> bool
     requires { shape_ok s ≡ true }
     ensures { result ≡ fits ((x.challenge, challenge_bytes s) ∷ (x.tree, trees1_bytes s) ∷ (x.leaf_commitments, leaf_commitments1_bytes s) ∷ (x.opening, opening1_bytes s) ∷ []) }
 {
-    let node = rules::node_bytes(s);
-    let trees = v1_rules::trees_bytes(s);
-    let lcs = v1_rules::leaf_commitments_bytes(s);
-    let opening = v1_rules::opening_bytes(s);
-    (x.challenge == node)
-        & ((x.tree == trees) & ((x.leaf_commitments == lcs) & ((x.opening == opening) & true)))
+    x == OpenLengths {
+        challenge: rules::node_bytes(s),
+        tree: v1_rules::trees_bytes(s),
+        leaf_commitments: v1_rules::leaf_commitments_bytes(s),
+        opening: v1_rules::opening_bytes(s),
+    }
 }
 
-// The number of open, by its tests in their order: 1, 3, or 0.
-fn open_number(s: Shape, x: OpenLengths) -> usize
-    ensures { result ≡ open1_number s ((x.challenge, challenge_bytes s) ∷ (x.tree, trees1_bytes s) ∷ (x.leaf_commitments, leaf_commitments1_bytes s) ∷ (x.opening, opening1_bytes s) ∷ []) }
+// The tests of open: of the shape, the lengths.
+fn test_open(s: Shape, x: OpenLengths) -> Result<(), Refusal>
+    ensures { number_in result ≡ open1_number s ((x.challenge, challenge_bytes s) ∷ (x.tree, trees1_bytes s) ∷ (x.leaf_commitments, leaf_commitments1_bytes s) ∷ (x.opening, opening1_bytes s) ∷ []) }
 {
-    if !v1_rules::is_shape(s) {
-        return refusals::SHAPE;
-    }
-    refusals::refusal(open_fits(s, x), refusals::BUFFER, 0)
+    refusals::test(v1_rules::is_shape(s), Refusal::NotAShape)?;
+    refusals::test(open_fits(s, x), Refusal::BufferLength)
 }
 
 // OPEN of version 1: of each vector the siblings of the path to its hidden leaf, and the hidden leaf commitment. No opening is refused for nodes or grinding.
@@ -195,10 +194,14 @@ pub fn open(
         leaf_commitments: leaf_commitments.len(),
         opening: opening.len(),
     };
-    let number = open_number(shape, x);
-    if number != 0 {
-        return rules::answer(number, 0);
+    match test_open(shape, x) {
+        Ok(()) => {
+            v1_opening::write_opening(shape, challenge, trees, leaf_commitments, opening);
+            Answer {
+                number: 0,
+                count: 0,
+            }
+        }
+        Err(refusal) => Answer::from(refusal),
     }
-    v1_opening::write_opening(shape, challenge, trees, leaf_commitments, opening);
-    rules::answer(0, 0)
 }

@@ -64,9 +64,9 @@ module _ (s : Shape) (b : ℕ) (iv : List ℕ) (g : Job) (e : g ≡ job_of s b i
 -- ---- the call: refused, or written
 
 module _ (s : Shape) (n : ℕ) (iv ch cs op : List ℕ) (x : Reconstructed) (r : Answer) where
-  pub refused : (k : ℕ) → k ≡ row1_number s n (reconstruct1_lengths s (n / 8) iv ch cs op x) → (k ≡ 0 → ⊥) → (r.number ≡ k) × (r.count ≡ 0) → Reconstruct1 faest1 s n iv ch cs op x x r
-  refused k e h a = record { number = a.0 ∙ e; count = a.1; buffers = rw (a.0, ne_eqb k 0 h) refl }
+  module _ (e : r.number ≡ row1_number s n (reconstruct1_lengths s (n / 8) iv ch cs op x)) (c : r.count ≡ 0) where
+    pub refused : (r.number ≡ 0 → ⊥) → Reconstruct1 faest1 s n iv ch cs op x x r
+    refused h = record { number = e; count = c; buffers = rw (ne_eqb r.number 0 h) refl }
 
-  pub written : (y : Reconstructed) (k : ℕ) → k ≡ row1_number s n (reconstruct1_lengths s (n / 8) iv ch cs op x) → k ≡ 0 → y ≡ reconstructed1 faest1 s (n / 8) iv ch cs op → (r.number ≡ 0) × (r.count ≡ 0)
-      → Reconstruct1 faest1 s n iv ch cs op x y r
-  written y k e z w a = record { number = a.0 ∙ sym z ∙ e; count = a.1; buffers = rw a.0 w }
+    pub written : (y : Reconstructed) → r.number ≡ 0 → y ≡ reconstructed1 faest1 s (n / 8) iv ch cs op → Reconstruct1 faest1 s n iv ch cs op x y r
+    written y z w = record { number = e; count = c; buffers = rw z w }

@@ -6,8 +6,10 @@ ghost use Rattle.spec.specs.Shapes.{challenge_bytes, hash_bytes, iv_bytes, shape
 ghost use Rattle.spec.specs.Calls.{fits, Reconstructed};
 ghost use Rattle.spec.specs.Version1.{faest1, shape1_ok, leaf_commitment_bytes1, trees1_bytes, leaf_commitments1_bytes, opening1_bytes};
 ghost use Rattle.spec.specs.Version1Calls.{row1_number, reconstructed1, Reconstruct1};
+ghost use Rattle.refusals.specs.Refusal.{number_in};
 
-use refusals::ReconstructLengths;
+use aes::Sbox;
+use refusals::{ReconstructLengths, Refusal};
 use spec::{Answer, Shape};
 
 // Whether the buffers of reconstruct have their lengths, for rows of b bytes.
@@ -16,32 +18,25 @@ fn reconstruct_fits(s: Shape, b: usize, x: ReconstructLengths) -> bool
     ensures { result ≡ fits ((x.iv, iv_bytes) ∷ (x.challenge, challenge_bytes s) ∷ (x.corrections, corrections_bytes s b) ∷ (x.opening, opening1_bytes s) ∷ (x.commitment, hash_bytes s)
         ∷ (x.tree, trees1_bytes s) ∷ (x.leaf_commitments, leaf_commitments1_bytes s) ∷ (x.q, matrix_bytes s b) ∷ []) }
 {
-    let node = rules::node_bytes(s);
-    let corrections = lengths::corrections_bytes(s, b);
-    let opening = v1_rules::opening_bytes(s);
-    let hash = rules::hash_bytes(s);
-    let trees = v1_rules::trees_bytes(s);
-    let lcs = v1_rules::leaf_commitments_bytes(s);
-    let q = lengths::matrix_bytes(s, b);
-    (x.iv == 16)
-        & ((x.challenge == node)
-            & ((x.corrections == corrections)
-                & ((x.opening == opening)
-                    & ((x.commitment == hash)
-                        & ((x.tree == trees)
-                            & ((x.leaf_commitments == lcs) & ((x.q == q) & true)))))))
+    x == ReconstructLengths {
+        iv: 16,
+        challenge: rules::node_bytes(s),
+        corrections: lengths::corrections_bytes(s, b),
+        opening: v1_rules::opening_bytes(s),
+        commitment: rules::hash_bytes(s),
+        tree: v1_rules::trees_bytes(s),
+        leaf_commitments: v1_rules::leaf_commitments_bytes(s),
+        q: lengths::matrix_bytes(s, b),
+    }
 }
 
-// The number of reconstruct, by its tests in their order: 1, 2, 3, or 0.
-fn reconstruct_number(s: Shape, row_bits: usize, x: ReconstructLengths) -> usize
-    ensures { result ≡ row1_number s row_bits ((x.iv, iv_bytes) ∷ (x.challenge, challenge_bytes s) ∷ (x.corrections, corrections_bytes s (row_bits / 8)) ∷ (x.opening, opening1_bytes s)
+// The tests of reconstruct: of the shape, the row length, the lengths.
+fn test_reconstruct(s: Shape, row_bits: usize, x: ReconstructLengths) -> Result<(), Refusal>
+    ensures { number_in result ≡ row1_number s row_bits ((x.iv, iv_bytes) ∷ (x.challenge, challenge_bytes s) ∷ (x.corrections, corrections_bytes s (row_bits / 8)) ∷ (x.opening, opening1_bytes s)
         ∷ (x.commitment, hash_bytes s) ∷ (x.tree, trees1_bytes s) ∷ (x.leaf_commitments, leaf_commitments1_bytes s) ∷ (x.q, matrix_bytes s (row_bits / 8)) ∷ []) }
 {
-    let front = v1_rules::front_number(s, row_bits);
-    if front != 0 {
-        return front;
-    }
-    refusals::refusal(reconstruct_fits(s, row_bits / 8, x), refusals::BUFFER, 0)
+    v1_rules::test_front(s, row_bits)?;
+    refusals::test(reconstruct_fits(s, row_bits / 8, x), Refusal::BufferLength)
 }
 
 // Writes what reconstruct writes, for rows of b bytes; hashes is room for the hashes of the vectors. Version 1 does not read keys, which only
@@ -67,11 +62,11 @@ fn write_all(
         (reconstructed1 faest1 s b iv.now ch.now corrections.now opening.now) }
 {
     let r = rules::rate_bytes(s);
-    let t = aes::table();
+    let sbox = Sbox::new();
     let x = generator::load_iv(iv);
     let g = v1_rules::job_of(s, b, x);
-    verifier_forest::reconstruct_trees(&t, s, ch, x, opening, trees);
-    verifier_vectors::write_vectors(&t, g, keys, ch, trees, opening, lcs, q, hashes);
+    verifier_forest::reconstruct_trees(&sbox, s, ch, x, opening, trees);
+    verifier_vectors::write_vectors(&sbox, g, keys, ch, trees, opening, lcs, q, hashes);
     verifier_vectors::correct_vectors(s, b, ch, corrections, q);
     shake::h1(r, hashes, commitment);
 }
@@ -143,21 +138,25 @@ pub fn reconstruct(
         leaf_commitments: leaf_commitments.len(),
         q: q.len(),
     };
-    let number = reconstruct_number(shape, row_bits, x);
-    if number != 0 {
-        return rules::answer(number, 0);
+    match test_reconstruct(shape, row_bits, x) {
+        Ok(()) => {
+            write_reconstruction(
+                shape,
+                row_bits / 8,
+                iv,
+                challenge,
+                corrections,
+                opening,
+                commitment,
+                trees,
+                leaf_commitments,
+                q,
+            );
+            Answer {
+                number: 0,
+                count: 0,
+            }
+        }
+        Err(refusal) => Answer::from(refusal),
     }
-    write_reconstruction(
-        shape,
-        row_bits / 8,
-        iv,
-        challenge,
-        corrections,
-        opening,
-        commitment,
-        trees,
-        leaf_commitments,
-        q,
-    );
-    rules::answer(0, 0)
 }

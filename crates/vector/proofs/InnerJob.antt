@@ -5,7 +5,6 @@ use mathlib.Core.Bool.{true, true≢false}
 use mathlib.Core.List.{List}
 use lib.ListN.{length}
 use Rattle.spec.specs.declared.Shape.{Shape}
-use Rattle.spec.specs.Gf256.{SboxTable}
 use Rattle.spec.specs.Shapes.{level, node_bytes, leaf_commitment_bytes, deeper, leaves}
 use Rattle.spec.specs.Version1.{shape1_ok, leaf_commitment_bytes1, trees1_bytes}
 use Rattle.job.specs.declared.Job.{Job}
@@ -16,9 +15,9 @@ use Rattle.leaf.specs.HashKeys.{HashKeys}
 use Rattle.vector.specs.Entries.{Lent}
 
 module _ (s : Shape) (b : ℕ) (iv : List ℕ) (g : Job) (e : g ≡ job_of s b iv) where
-  pub lent-job : (box trees : List ℕ) → shape1_ok s ≡ true → b ≤ 8192 → SboxTable box → length trees ≡ trees1_bytes s → Lent g box trees
+  pub lent-job : (trees : List ℕ) → shape1_ok s ≡ true → b ≤ 8192 → length trees ≡ trees1_bytes s → Lent g trees
   unfolding level node_bytes deeper leaves trees1_bytes nodes_bytes
-  lent-job box trees ok h t l = rw e (record { job = inner-ready s b iv ok h; table = t; tree = l })
+  lent-job trees ok h l = rw e (record { job = inner-ready s b iv ok h; tree = l })
 
   pub no_keys : (keys : List ℕ) → length keys ≡ leaf_commitment_bytes1 s * s.tau → HashKeys g.shape g.iv keys
   unfolding level node_bytes leaf_commitment_bytes leaf_commitment_bytes1

@@ -2,7 +2,6 @@
 use Rattle.std.specs.Prelude.{ℕ, ◌*◌, ◌≤◌, ◌<◌, ◌≡◌, List, length}
 use Rattle.std.specs.Int.Bits.{bit_xor}
 use Rattle.spec.specs.Bytes.{part}
-use Rattle.spec.specs.Gf256.{SboxTable}
 use Rattle.spec.specs.Shapes.{entries_of}
 use Rattle.job.specs.declared.Job.{Job}
 use Rattle.job.specs.Versions.{nodes_bytes}
@@ -13,10 +12,9 @@ use Rattle.vector.specs.declared.Run.{Run}
 abbrev pub numbered : Job → List ℕ → Run → ℕ → ℕ → ℕ
 numbered g tree r x = entry_byte g tree r.vector (bit_xor x r.mask)
 
--- what is lent with a job: the table of the S-box, and the nodes of its tree, or of its trees
-pub record Lent (g : Job) (box nodes : List ℕ) : Type 0 where
+-- what is lent with a job: the nodes of its tree, or of its trees
+pub record Lent (g : Job) (nodes : List ℕ) : Type 0 where
   pub job : Ready g
-  pub table : SboxTable box
   pub tree : length nodes ≡ nodes_bytes g.version g.shape
 
 -- the numbers of a run are those of entries of its vector

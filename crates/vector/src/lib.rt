@@ -11,6 +11,7 @@ ghost use Rattle.job.specs.Versions.{leaf_node, nodes_bytes};
 ghost use Rattle.job.specs.Jobs.{entry_commitment, entry_byte};
 ghost use Rattle.vector.specs.Entries.{numbered, Lent, Inside, Written};
 
+use aes::Sbox;
 use job::{Job, Nonce, Version};
 use spec::Shape;
 
@@ -54,7 +55,7 @@ fn leaf_node(g: Job, i: usize, e: usize) -> usize
 
 // Entry e of vector i, with room for its seed lent: writes its leaf commitment, and adds the stretch of its row to the sum.
 fn add_leaf(
-    t: &[u8; 256],
+    sbox: &Sbox,
     m: &[[u64; 12]; 16],
     g: Job,
     i: usize,
@@ -64,7 +65,7 @@ fn add_leaf(
     commitment: &mut [u8],
     sum: &mut [u8],
 )
-    requires lent { Lent g t.now tree.now × HashMultiples g.shape g.iv i m.now × (i < g.shape.tau) × (e < entries_of g.shape i) }
+    requires lent { Lent g tree.now × HashMultiples g.shape g.iv i m.now × (i < g.shape.tau) × (e < entries_of g.shape i) }
     requires seed_len { (length seed.old ≡ node_bytes g.shape) × (length commitment.old ≡ leaf_commitment_bytes g.shape) × (length sum.old ≡ g.stretch.width) }
     ensures commitment_after { commitment.new ≡ entry_commitment g tree.now i e }
     ensures xored { Xored 0 (length sum.old) (entry_byte g tree.now i e) sum.old sum.new }
@@ -77,7 +78,7 @@ fn add_leaf(
     let tweak = leaf::leaf_tweak(i, rules::leaf_count(s));
     let row = (i as u32) + 2147483648;
     leaf::commit_leaf(
-        t,
+        sbox,
         m,
         s,
         &tree[a..a + n],
@@ -86,7 +87,7 @@ fn add_leaf(
         commitment,
     );
     rows::add_row(
-        t,
+        sbox,
         seed,
         Nonce {
             iv,
@@ -100,7 +101,7 @@ fn add_leaf(
 
 // Entry e of vector i: writes its leaf commitment, and adds the stretch of its row to the sum.
 fn add_entry(
-    t: &[u8; 256],
+    sbox: &Sbox,
     m: &[[u64; 12]; 16],
     g: Job,
     i: usize,
@@ -109,20 +110,20 @@ fn add_entry(
     commitment: &mut [u8],
     sum: &mut [u8],
 )
-    requires lent { Lent g t.now tree.now × HashMultiples g.shape g.iv i m.now × (i < g.shape.tau) × (e < entries_of g.shape i) }
+    requires lent { Lent g tree.now × HashMultiples g.shape g.iv i m.now × (i < g.shape.tau) × (e < entries_of g.shape i) }
     requires commitment_len { (length commitment.old ≡ leaf_commitment_bytes g.shape) × (length sum.old ≡ g.stretch.width) }
     ensures commitment_after { commitment.new ≡ entry_commitment g tree.now i e }
     ensures xored { Xored 0 (length sum.old) (entry_byte g tree.now i e) sum.old sum.new }
 {
     let n = rules::node_bytes(g.shape);
     let mut seed = [0u8; 32];
-    add_leaf(t, m, g, i, e, tree, &mut seed[0..n], commitment, sum);
+    add_leaf(sbox, m, g, i, e, tree, &mut seed[0..n], commitment, sum);
 }
 
 // The entries of a run, which ends with a half of the numbers or with all: writes their leaf commitments, adds their rows to the columns, and leaves the xor of
 // their rows in the last column. The other columns have the rows of the numbers before them.
 pub fn add_half(
-    t: &[u8; 256],
+    sbox: &Sbox,
     m: &[[u64; 12]; 16],
     g: Job,
     run: Run,
@@ -130,7 +131,7 @@ pub fn add_half(
     commitments: &mut [u8],
     cols: &mut [u8],
 )
-    requires lent { Lent g t.now tree.now × HashMultiples g.shape g.iv run.vector m.now × Inside g run }
+    requires lent { Lent g tree.now × HashMultiples g.shape g.iv run.vector m.now × Inside g run }
     requires commitments_len { (length commitments.old ≡ leaf_commitment_bytes g.shape * entries_of g.shape run.vector)
         × Marked g.stretch.width (depth_of g.shape run.vector - 1) run.from (numbered g tree.now run) cols.old }
     ensures written { Written (leaf_commitment_bytes g.shape) (entry_commitment g tree.now run.vector) run.mask run.from run.to commitments.old commitments.new }
@@ -145,7 +146,7 @@ pub fn add_half(
     for x in run.from..run.to {
         let e = x ^ run.mask;
         add_entry(
-            t,
+            sbox,
             m,
             g,
             i,

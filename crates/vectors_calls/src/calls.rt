@@ -1,339 +1,179 @@
 // Commit, open and reconstruct of either version on the front of each buffer, of the length given; of version 2 commit and reconstruct in their form for a
 // stretch where the rows are not whole.
-use crate::inputs::Call;
-use spec::Answer;
-use test_support::parts::{front, front_mut};
+use job::Version;
+use spec::{Answer, Shape};
+use test_support::lengths::{Lengths, Rows, challenge, leaves, product};
+use test_support::parts::front_mut;
 
-// Commit of version 1.
-fn commit_first(
-    c: Call,
-    root: &[u8],
-    iv: &[u8],
-    commitment: &mut [u8],
-    tree: &mut [u8],
-    leaf_commitments: &mut [u8],
-    u: &mut [u8],
-    v: &mut [u8],
-    corrections: &mut [u8],
-) -> Answer {
-    let l = c.lengths;
-    v1_signer::commit(
-        c.shape,
-        c.rows.bits,
-        root,
-        iv,
-        front_mut(commitment, l.commitment),
-        front_mut(tree, l.tree),
-        front_mut(leaf_commitments, l.leaf_commitments),
-        front_mut(u, l.u),
-        front_mut(v, l.v),
-        front_mut(corrections, l.corrections),
-    )
+// The version of FAEST, the shape, the rows, and the lengths of what is lent.
+#[derive(Clone, Copy)]
+pub struct Call {
+    pub version: Version,
+    pub shape: Shape,
+    pub rows: Rows,
+    pub lengths: Lengths,
 }
 
-// Commit of version 2, of whole rows.
-fn commit_whole(
-    c: Call,
-    root: &[u8],
-    iv: &[u8],
-    commitment: &mut [u8],
-    tree: &mut [u8],
-    leaf_commitments: &mut [u8],
-    u: &mut [u8],
-    v: &mut [u8],
-    corrections: &mut [u8],
-) -> Answer {
-    let l = c.lengths;
-    signer::commit(
-        c.shape,
-        c.rows.bits,
-        root,
-        iv,
-        front_mut(commitment, l.commitment),
-        front_mut(tree, l.tree),
-        front_mut(leaf_commitments, l.leaf_commitments),
-        front_mut(u, l.u),
-        front_mut(v, l.v),
-        front_mut(corrections, l.corrections),
-    )
+// What the calls are lent. Q is written in the place of V.
+#[derive(Drop)]
+pub struct Lent<'a> {
+    pub commitment: &'a mut [u8],
+    pub tree: &'a mut [u8],
+    pub leaf_commitments: &'a mut [u8],
+    pub u: &'a mut [u8],
+    pub v: &'a mut [u8],
+    pub corrections: &'a mut [u8],
+    pub opening: &'a mut [u8],
 }
 
-// The same of a stretch.
-fn commit_stretch(
-    c: Call,
-    root: &[u8],
-    iv: &[u8],
-    commitment: &mut [u8],
-    tree: &mut [u8],
-    leaf_commitments: &mut [u8],
-    u: &mut [u8],
-    v: &mut [u8],
-    corrections: &mut [u8],
-) -> Answer {
-    let l = c.lengths;
-    signer::commit_stretch(
-        c.shape,
-        c.rows.bits,
-        c.rows.stretch,
-        root,
-        iv,
-        front_mut(commitment, l.commitment),
-        front_mut(tree, l.tree),
-        front_mut(leaf_commitments, l.leaf_commitments),
-        front_mut(u, l.u),
-        front_mut(v, l.v),
-        front_mut(corrections, l.corrections),
-    )
-}
-
-// Commit of version 2, of the rows of the call.
-fn commit_second(
-    c: Call,
-    root: &[u8],
-    iv: &[u8],
-    commitment: &mut [u8],
-    tree: &mut [u8],
-    leaf_commitments: &mut [u8],
-    u: &mut [u8],
-    v: &mut [u8],
-    corrections: &mut [u8],
-) -> Answer {
-    if c.rows.whole {
-        return commit_whole(
-            c,
-            root,
-            iv,
-            commitment,
-            tree,
-            leaf_commitments,
-            u,
-            v,
-            corrections,
-        );
+// The exact lengths of version 1. Those of commitment, u, V, Q and corrections are version 2's. Of a shape that is refused any lengths will do.
+fn first_lengths(s: Shape, l: Lengths) -> Lengths {
+    let n = leaves(s);
+    let w = challenge(s);
+    let tau = s.tau.min(n);
+    Lengths {
+        tree: product(w, 2 * n - tau),
+        leaf_commitments: product(2 * w, n),
+        opening: product(w, 8 * w + 2 * tau),
+        ..l
     }
-    commit_stretch(
-        c,
-        root,
-        iv,
-        commitment,
-        tree,
-        leaf_commitments,
-        u,
-        v,
-        corrections,
-    )
 }
 
-// Commit, of the version and the rows of the call.
-pub fn call_commit(
-    c: Call,
-    root: &[u8],
-    iv: &[u8],
-    commitment: &mut [u8],
-    tree: &mut [u8],
-    leaf_commitments: &mut [u8],
-    u: &mut [u8],
-    v: &mut [u8],
-    corrections: &mut [u8],
-) -> Answer {
-    if c.version == 1 {
-        return commit_first(
-            c,
-            root,
-            iv,
-            commitment,
-            tree,
-            leaf_commitments,
-            u,
-            v,
-            corrections,
-        );
+impl Call {
+    // A call on buffers of the exact lengths; `tree` is that of all trees in version 1.
+    pub fn exact(version: Version, shape: Shape, rows: Rows) -> Call {
+        let l = Lengths::of(shape, rows);
+        let lengths = match version {
+            Version::One => first_lengths(shape, l),
+            Version::Two => l,
+        };
+        Call {
+            version,
+            shape,
+            rows,
+            lengths,
+        }
     }
-    commit_second(
-        c,
-        root,
-        iv,
-        commitment,
-        tree,
-        leaf_commitments,
-        u,
-        v,
-        corrections,
-    )
-}
 
-// Open, of the version of the call.
-pub fn call_open(
-    c: Call,
-    challenge: &[u8],
-    tree: &[u8],
-    leaf_commitments: &[u8],
-    opening: &mut [u8],
-) -> Answer {
-    let l = c.lengths;
-    let tree_part = front(tree, l.tree);
-    let leaves_part = front(leaf_commitments, l.leaf_commitments);
-    let opening_part = front_mut(opening, l.opening);
-    if c.version == 1 {
-        return v1_signer::open(c.shape, challenge, tree_part, leaves_part, opening_part);
+    pub fn commit(&self, root: &[u8], iv: &[u8], lent: &mut Lent<'_>) -> Answer {
+        let l = self.lengths;
+        match self.version {
+            Version::One => v1_signer::commit(
+                self.shape,
+                self.rows.bits,
+                root,
+                iv,
+                front_mut(lent.commitment, l.commitment),
+                front_mut(lent.tree, l.tree),
+                front_mut(lent.leaf_commitments, l.leaf_commitments),
+                front_mut(lent.u, l.u),
+                front_mut(lent.v, l.v),
+                front_mut(lent.corrections, l.corrections),
+            ),
+            Version::Two => self.commit_second(root, iv, lent),
+        }
     }
-    signer::open(c.shape, challenge, tree_part, leaves_part, opening_part)
-}
 
-// Reconstruct of version 1.
-fn reconstruct_first(
-    c: Call,
-    iv: &[u8],
-    challenge: &[u8],
-    corrections: &[u8],
-    opening: &[u8],
-    commitment: &mut [u8],
-    tree: &mut [u8],
-    leaf_commitments: &mut [u8],
-    q: &mut [u8],
-) -> Answer {
-    let l = c.lengths;
-    v1_verifier::reconstruct(
-        c.shape,
-        c.rows.bits,
-        iv,
-        challenge,
-        front(corrections, l.corrections),
-        front(opening, l.opening),
-        front_mut(commitment, l.commitment),
-        front_mut(tree, l.tree),
-        front_mut(leaf_commitments, l.leaf_commitments),
-        front_mut(q, l.v),
-    )
-}
-
-// Reconstruct of version 2, of whole rows.
-fn reconstruct_whole(
-    c: Call,
-    iv: &[u8],
-    challenge: &[u8],
-    corrections: &[u8],
-    opening: &[u8],
-    commitment: &mut [u8],
-    tree: &mut [u8],
-    leaf_commitments: &mut [u8],
-    q: &mut [u8],
-) -> Answer {
-    let l = c.lengths;
-    verifier::reconstruct(
-        c.shape,
-        c.rows.bits,
-        iv,
-        challenge,
-        front(corrections, l.corrections),
-        front(opening, l.opening),
-        front_mut(commitment, l.commitment),
-        front_mut(tree, l.tree),
-        front_mut(leaf_commitments, l.leaf_commitments),
-        front_mut(q, l.v),
-    )
-}
-
-// The same of a stretch.
-fn reconstruct_stretch(
-    c: Call,
-    iv: &[u8],
-    challenge: &[u8],
-    corrections: &[u8],
-    opening: &[u8],
-    commitment: &mut [u8],
-    tree: &mut [u8],
-    leaf_commitments: &mut [u8],
-    q: &mut [u8],
-) -> Answer {
-    let l = c.lengths;
-    verifier::reconstruct_stretch(
-        c.shape,
-        c.rows.bits,
-        c.rows.stretch,
-        iv,
-        challenge,
-        front(corrections, l.corrections),
-        front(opening, l.opening),
-        front_mut(commitment, l.commitment),
-        front_mut(tree, l.tree),
-        front_mut(leaf_commitments, l.leaf_commitments),
-        front_mut(q, l.v),
-    )
-}
-
-// Reconstruct of version 2, of the rows of the call.
-fn reconstruct_second(
-    c: Call,
-    iv: &[u8],
-    challenge: &[u8],
-    corrections: &[u8],
-    opening: &[u8],
-    commitment: &mut [u8],
-    tree: &mut [u8],
-    leaf_commitments: &mut [u8],
-    q: &mut [u8],
-) -> Answer {
-    if c.rows.whole {
-        return reconstruct_whole(
-            c,
-            iv,
-            challenge,
-            corrections,
-            opening,
-            commitment,
-            tree,
-            leaf_commitments,
-            q,
-        );
+    // Commit of version 2, of whole rows or of a stretch.
+    fn commit_second(&self, root: &[u8], iv: &[u8], lent: &mut Lent<'_>) -> Answer {
+        let l = self.lengths;
+        match self.rows.stretch {
+            None => signer::commit(
+                self.shape,
+                self.rows.bits,
+                root,
+                iv,
+                front_mut(lent.commitment, l.commitment),
+                front_mut(lent.tree, l.tree),
+                front_mut(lent.leaf_commitments, l.leaf_commitments),
+                front_mut(lent.u, l.u),
+                front_mut(lent.v, l.v),
+                front_mut(lent.corrections, l.corrections),
+            ),
+            Some(stretch) => signer::commit_stretch(
+                self.shape,
+                self.rows.bits,
+                stretch,
+                root,
+                iv,
+                front_mut(lent.commitment, l.commitment),
+                front_mut(lent.tree, l.tree),
+                front_mut(lent.leaf_commitments, l.leaf_commitments),
+                front_mut(lent.u, l.u),
+                front_mut(lent.v, l.v),
+                front_mut(lent.corrections, l.corrections),
+            ),
+        }
     }
-    reconstruct_stretch(
-        c,
-        iv,
-        challenge,
-        corrections,
-        opening,
-        commitment,
-        tree,
-        leaf_commitments,
-        q,
-    )
-}
 
-// Reconstruct, of the version and the rows of the call.
-pub fn call_reconstruct(
-    c: Call,
-    iv: &[u8],
-    challenge: &[u8],
-    corrections: &[u8],
-    opening: &[u8],
-    commitment: &mut [u8],
-    tree: &mut [u8],
-    leaf_commitments: &mut [u8],
-    q: &mut [u8],
-) -> Answer {
-    if c.version == 1 {
-        return reconstruct_first(
-            c,
-            iv,
-            challenge,
-            corrections,
-            opening,
-            commitment,
-            tree,
-            leaf_commitments,
-            q,
-        );
+    pub fn open(&self, challenge: &[u8], lent: &mut Lent<'_>) -> Answer {
+        let l = self.lengths;
+        match self.version {
+            Version::One => v1_signer::open(
+                self.shape,
+                challenge,
+                front_mut(lent.tree, l.tree),
+                front_mut(lent.leaf_commitments, l.leaf_commitments),
+                front_mut(lent.opening, l.opening),
+            ),
+            Version::Two => signer::open(
+                self.shape,
+                challenge,
+                front_mut(lent.tree, l.tree),
+                front_mut(lent.leaf_commitments, l.leaf_commitments),
+                front_mut(lent.opening, l.opening),
+            ),
+        }
     }
-    reconstruct_second(
-        c,
-        iv,
-        challenge,
-        corrections,
-        opening,
-        commitment,
-        tree,
-        leaf_commitments,
-        q,
-    )
+
+    pub fn reconstruct(&self, iv: &[u8], challenge: &[u8], lent: &mut Lent<'_>) -> Answer {
+        let l = self.lengths;
+        match self.version {
+            Version::One => v1_verifier::reconstruct(
+                self.shape,
+                self.rows.bits,
+                iv,
+                challenge,
+                front_mut(lent.corrections, l.corrections),
+                front_mut(lent.opening, l.opening),
+                front_mut(lent.commitment, l.commitment),
+                front_mut(lent.tree, l.tree),
+                front_mut(lent.leaf_commitments, l.leaf_commitments),
+                front_mut(lent.v, l.v),
+            ),
+            Version::Two => self.reconstruct_second(iv, challenge, lent),
+        }
+    }
+
+    // Reconstruct of version 2, of whole rows or of a stretch.
+    fn reconstruct_second(&self, iv: &[u8], challenge: &[u8], lent: &mut Lent<'_>) -> Answer {
+        let l = self.lengths;
+        match self.rows.stretch {
+            None => verifier::reconstruct(
+                self.shape,
+                self.rows.bits,
+                iv,
+                challenge,
+                front_mut(lent.corrections, l.corrections),
+                front_mut(lent.opening, l.opening),
+                front_mut(lent.commitment, l.commitment),
+                front_mut(lent.tree, l.tree),
+                front_mut(lent.leaf_commitments, l.leaf_commitments),
+                front_mut(lent.v, l.v),
+            ),
+            Some(stretch) => verifier::reconstruct_stretch(
+                self.shape,
+                self.rows.bits,
+                stretch,
+                iv,
+                challenge,
+                front_mut(lent.corrections, l.corrections),
+                front_mut(lent.opening, l.opening),
+                front_mut(lent.commitment, l.commitment),
+                front_mut(lent.tree, l.tree),
+                front_mut(lent.leaf_commitments, l.leaf_commitments),
+                front_mut(lent.v, l.v),
+            ),
+        }
+    }
 }

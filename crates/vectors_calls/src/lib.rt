@@ -3,12 +3,10 @@
 
 mod calls;
 mod cases;
-mod inputs;
 mod lists;
 mod print;
 
-pub use calls::{call_commit, call_open, call_reconstruct};
-pub use cases::run_case;
-pub use inputs::{Call, Inputs, exact};
-pub use lists::{call_decode, call_plan, decode_case, index_count, node_limit, plan_case};
+pub use calls::{Call, Lent};
+pub use cases::{Buffers, Inputs, run_case};
+pub use lists::ListCall;
 pub use print::{print_answer, print_buffer};

@@ -1,62 +1,53 @@
 // Decode and plan on the front of a list of 512 numbers, and what the command line of reference/ prints of each.
+ghost use Rattle.std.specs.Prelude.{◌≤◌};
+
 use crate::print::{print_answer, print_list};
-use case_text::{Bytes, first_bytes};
+use case_text::Bytes;
 use spec::{Answer, Shape};
 use std::io;
-use test_support::lengths::at_most;
 
-// How many numbers decode writes. Of a shape that is refused any number will do.
-pub fn index_count(shape: Shape) -> usize {
-    let s = rules::resolve(shape);
-    at_most(s.tau, 512)
+// A call that writes a list of numbers.
+#[derive(Clone, Copy)]
+pub enum ListCall {
+    Decode,
+    Plan,
 }
 
-// How many numbers plan is lent. Of a shape that is refused any number will do.
-pub fn node_limit(shape: Shape) -> usize {
-    let s = rules::resolve(shape);
-    at_most(s.t, 512)
-}
-
-// The first n numbers, or all where there are fewer.
-fn front(a: &[u32], n: usize) -> &[u32] {
-    let m = at_most(n, a.len());
-    &a[0..m]
-}
-
-// Decode, lent the first n numbers.
-pub fn call_decode(s: Shape, challenge: &[u8], list: &mut [u32], n: usize) -> Answer {
-    let m = at_most(n, list.len());
-    shape::decode(s, challenge, &mut list[0..m])
-}
-
-// Plan, lent the first n numbers.
-pub fn call_plan(s: Shape, challenge: &[u8], list: &mut [u32], n: usize) -> Answer {
-    let m = at_most(n, list.len());
-    shape::plan(s, challenge, &mut list[0..m])
-}
-
-// Decode, and what `reference decode` prints.
-pub fn decode_case(rt: &impl Print, s: Shape, challenge: Bytes) -> io::Result<()> {
-    let bytes = challenge.bytes;
-    let n = index_count(s);
-    let mut list = [0u32; 512];
-    let r = call_decode(s, first_bytes(&bytes, challenge.length), &mut list, n);
-    print_answer(rt, r)?;
-    if r.number == 0 {
-        print_list(rt, b"indices ", front(&list, n))?;
+impl ListCall {
+    // How many numbers decode writes, and how many plan is lent. Of a shape that is refused any number will do.
+    pub fn exact(self, shape: Shape) -> usize
+        ensures { result ≤ 512 }
+    {
+        let s = rules::resolve(shape);
+        let n = match self {
+            ListCall::Decode => s.tau,
+            ListCall::Plan => s.t,
+        };
+        n.min(512)
     }
-    Ok(())
-}
 
-// Plan, and what `reference plan` prints.
-pub fn plan_case(rt: &impl Print, s: Shape, challenge: Bytes) -> io::Result<()> {
-    let bytes = challenge.bytes;
-    let n = node_limit(s);
-    let mut list = [0u32; 512];
-    let r = call_plan(s, first_bytes(&bytes, challenge.length), &mut list, n);
-    print_answer(rt, r)?;
-    if r.number == 0 {
-        print_list(rt, b"nodes ", front(&list, r.count))?;
+    // The call, lent the first n numbers of a list, or all where there are fewer.
+    pub fn make(self, s: Shape, challenge: &[u8], list: &mut [u32], n: usize) -> Answer {
+        let m = n.min(list.len());
+        let front = &mut list[..m];
+        match self {
+            ListCall::Decode => shape::decode(s, challenge, front),
+            ListCall::Plan => shape::plan(s, challenge, front),
+        }
     }
-    Ok(())
+
+    // The call, and what `reference decode` or `reference plan` prints.
+    pub fn run(self, rt: &impl Print, s: Shape, challenge: &Bytes) -> io::Result<()> {
+        let n = self.exact(s);
+        let mut list = [0u32; 512];
+        let r = self.make(s, challenge.as_slice(), &mut list, n);
+        print_answer(rt, r)?;
+        if r.number != 0 {
+            return Ok(());
+        }
+        match self {
+            ListCall::Decode => print_list(rt, "indices", &list[..n]),
+            ListCall::Plan => print_list(rt, "nodes", &list[..r.count.min(512)]),
+        }
+    }
 }

@@ -1,50 +1,37 @@
 // The output in the format of the command line of reference/.
+use shake::Sponge;
 use spec::Answer;
 use std::io;
 use test_support::parts::front;
-use test_support::print::{decimal, hex, text};
+use test_support::print::Hex;
 
 // 32 bytes of SHAKE128.
 fn digest(a: &[u8]) -> [u8; 32] {
-    let s = shake::new();
-    let t = shake::absorb(s, 168, a);
-    let u = shake::finish(t, 168);
     let mut out = [0u8; 32];
-    shake::squeeze(u, 168, &mut out);
+    Sponge::new(168).absorb(a).squeeze(&mut out);
     out
 }
 
 // The number and the node count of an answer.
 pub fn print_answer(rt: &impl Print, r: Answer) -> io::Result<()> {
-    text(rt, b"number ")?;
-    decimal(rt, r.number)?;
-    text(rt, b"\ncount ")?;
-    decimal(rt, r.count)?;
-    text(rt, b"\n")
+    println!(rt; "number {}\ncount {}", r.number, r.count)
 }
 
 // Name and length of the first n bytes of a buffer, and these bytes, or the digest of more than 64.
-pub fn print_buffer(rt: &impl Print, name: &[u8], whole: &[u8], n: usize) -> io::Result<()> {
+pub fn print_buffer(rt: &impl Print, name: &str, whole: &[u8], n: usize) -> io::Result<()> {
     let a = front(whole, n);
-    text(rt, name)?;
-    decimal(rt, a.len())?;
-    if 64 < a.len() {
-        text(rt, b" shake128 ")?;
-        hex(rt, &digest(a))?;
-    } else if 0 < a.len() {
-        text(rt, b" ")?;
-        hex(rt, a)?;
+    match a.len() {
+        0 => println!(rt; "{name} 0"),
+        1..=64 => println!(rt; "{name} {} {}", a.len(), Hex(a)),
+        _ => println!(rt; "{name} {} shake128 {}", a.len(), Hex(&digest(a))),
     }
-    text(rt, b"\n")
 }
 
 // Name and length of a list, and its numbers.
-pub fn print_list(rt: &impl Print, name: &[u8], list: &[u32]) -> io::Result<()> {
-    text(rt, name)?;
-    decimal(rt, list.len())?;
-    for x in list {
-        text(rt, b" ")?;
-        decimal(rt, *x as usize)?;
+pub fn print_list(rt: &impl Print, name: &str, list: &[u32]) -> io::Result<()> {
+    print!(rt; "{name} {}", list.len())?;
+    for number in list {
+        print!(rt; " {number}")?;
     }
-    text(rt, b"\n")
+    println!(rt;)
 }

@@ -38,24 +38,25 @@ pub fn reconstruct_stretch(
         leaf_commitments: leaf_commitments.len(),
         q: q.len(),
     };
-    let r = verifier_refusals::reconstruct_answer(s, row_bits, stretch, x, challenge, opening);
-    if r.number != 0 {
-        return r;
+    match verifier_refusals::test_reconstruct(s, row_bits, stretch, x, challenge, opening) {
+        Ok(count) => {
+            reconstruction::write_reconstruction(
+                s,
+                stretch,
+                count,
+                iv,
+                challenge,
+                corrections,
+                opening,
+                commitment,
+                tree,
+                leaf_commitments,
+                q,
+            );
+            Answer { number: 0, count }
+        }
+        Err(refusal) => Answer::from(refusal),
     }
-    reconstruction::write_reconstruction(
-        s,
-        stretch,
-        r.count,
-        iv,
-        challenge,
-        corrections,
-        opening,
-        commitment,
-        tree,
-        leaf_commitments,
-        q,
-    );
-    r
 }
 
 // RECONSTRUCT: the same of the whole row.

@@ -4,11 +4,11 @@
 ghost use Rattle.std.specs.Prelude.{◌≡◌, true, List, ℕ, ◌+◌, ◌-◌, ◌*◌, ◌%◌, ◌^◌, ◌≤◌, ◌<◌, length};
 ghost use Rattle.spec.specs.declared.Shape.{Shape};
 ghost use Rattle.spec.specs.Bytes.{part};
-ghost use Rattle.spec.specs.Gf256.{SboxTable};
 ghost use Rattle.spec.specs.Shapes.{challenge_bytes, shape_ok};
 ghost use Rattle.spec.specs.Version1.{faest1, reconstructed_vector_tree, reconstructed_trees, trees1_bytes, opening1_bytes};
 ghost use Rattle.verifier_forest.specs.ByWay.{CoveredPair, VectorOf};
 
+use aes::Sbox;
 use job::Version;
 use spec::Shape;
 
@@ -24,7 +24,7 @@ fn write_covered(w: usize, a: usize, b: usize, l: usize, slots: &[u8], tree: &mu
 
 // Writes the tree of depth d whose leaf j is hidden, where slots has the siblings of the way to it in front, from the root's child down.
 fn write_tree(
-    t: &[u8; 256],
+    sbox: &Sbox,
     w: usize,
     iv: [u8; 16],
     d: usize,
@@ -32,8 +32,7 @@ fn write_tree(
     slots: &[u8],
     tree: &mut [u8],
 )
-    requires sbox_table { SboxTable t.now }
-    requires le_w { (16 ≤ w) × (w ≤ 32) × (w % 8 ≡ 0) × (d ≤ 12) × (j < 2 ^ d) × (w * d ≤ length slots.now) × (length tree.old ≡ w * (2 * 2 ^ d - 1)) }
+    requires { (16 ≤ w) × (w ≤ 32) × (w % 8 ≡ 0) × (d ≤ 12) × (j < 2 ^ d) × (w * d ≤ length slots.now) × (length tree.old ≡ w * (2 * 2 ^ d - 1)) }
     ensures { (s : Shape) (ch opening : List ℕ) (i : ℕ) → VectorOf w d j slots.now s ch opening i
         → tree.new ≡ reconstructed_vector_tree faest1 s iv ch opening i }
 {
@@ -42,33 +41,29 @@ fn write_tree(
     // the next node of the way to leaf j, and its level
     let mut path: usize = 0;
     let mut l: usize = 0;
-    let mut a: usize = 0;
-    while a < inner {
+    for a in 0..inner {
         if a == path {
             let m = d - 1 - l;
             let b = (j >> m) % 2;
             write_covered(w, a, b, l, slots, tree);
             path = 2 * a + 1 + b;
             l += 1;
-            a += 1;
-        } else {
-            tree::expand_node(t, w, Version::One, iv, a, tree);
-            a += 1;
+            continue;
         }
+        tree::expand_node(sbox, w, Version::One, iv, a, tree);
     }
 }
 
 // The trees that an opening gives, those of all vectors: covered nodes are zeros, siblings of the paths come from the opening, all others from their parents.
 pub fn reconstruct_trees(
-    t: &[u8; 256],
+    sbox: &Sbox,
     s: Shape,
     ch: &[u8],
     iv: [u8; 16],
     opening: &[u8],
     trees: &mut [u8],
 )
-    requires sbox_table { SboxTable t.now }
-    requires s_value { (shape_ok s ≡ true) × (length ch.now ≡ challenge_bytes s) × (length opening.now ≡ opening1_bytes s) × (length trees.old ≡ trees1_bytes s) }
+    requires { (shape_ok s ≡ true) × (length ch.now ≡ challenge_bytes s) × (length opening.now ≡ opening1_bytes s) × (length trees.old ≡ trees1_bytes s) }
     ensures { trees.new ≡ reconstructed_trees faest1 s iv ch.now opening.now }
 {
     let w = rules::node_bytes(s);
@@ -79,6 +74,6 @@ pub fn reconstruct_trees(
         let from = v1_rules::decommitment_from(s, i);
         let at = w * v1_rules::first_node(s, i);
         let end = w * v1_rules::first_node(s, i + 1);
-        write_tree(t, w, iv, d, j, &opening[from..], &mut trees[at..end]);
+        write_tree(sbox, w, iv, d, j, &opening[from..], &mut trees[at..end]);
     }
 }

@@ -4,7 +4,6 @@
 ghost use Rattle.std.specs.Prelude.{◌≡◌, true, ◌||◌, ◌++◌, ◌+◌, ◌-◌, ◌*◌, ◌%◌, ◌^◌, ◌≤◌, ◌<◌, length, take, drop};
 ghost use Rattle.spec.specs.declared.Shape.{Shape};
 ghost use Rattle.spec.specs.Bytes.{part, zeros};
-ghost use Rattle.spec.specs.Gf256.{SboxTable};
 ghost use Rattle.spec.specs.Tree.{expand_tree};
 ghost use Rattle.spec.specs.Shapes.{node_bytes, challenge_bytes, shape_ok, planned_count, tree_bytes, opening_bytes};
 ghost use Rattle.spec.specs.Primitives.{faest};
@@ -12,6 +11,7 @@ ghost use Rattle.spec.specs.Verifier.{reconstructed_tree};
 ghost use Rattle.planning_laws.specs.Lists.{Descending};
 ghost use Rattle.verifier_tree.specs.ByNodes.{listed, at_or_after, ByChildren, read_before, Before, read_with, node_by, children_by};
 
+use aes::Sbox;
 use job::Version;
 use spec::Shape;
 
@@ -77,7 +77,7 @@ fn write_child(
 
 // Writes the two children of node a, where the nodes before it have theirs. Returns where the writing stands then.
 fn write_children(
-    t: &[u8; 256],
+    sbox: &Sbox,
     w: usize,
     iv: [u8; 16],
     nodes: &[u32],
@@ -87,8 +87,7 @@ fn write_children(
     n: usize,
     tree: &mut [u8],
 ) -> Place
-    requires sbox_table { SboxTable t.now }
-    requires descending { Descending nodes.now × (listed nodes.now a ≡ (listed nodes.now (2 * a + 1) || listed nodes.now (2 * a + 2)))
+    requires { Descending nodes.now × (listed nodes.now a ≡ (listed nodes.now (2 * a + 1) || listed nodes.now (2 * a + 2)))
         × Before nodes.now a p × (read_before nodes.now (a + 1) ≤ n) × (w * n ≤ length slots.now)
         × (w * (2 * a + 3) ≤ length tree.old) × (length tree.old < 2 ^ 32) × (16 ≤ w) × (w ≤ 32) × (w % 8 ≡ 0) }
     ensures { Before nodes.now (a + 1) result
@@ -97,7 +96,7 @@ fn write_children(
 {
     let node = p.node;
     if !is_next(nodes, node, a) {
-        tree::expand_node(t, w, Version::Two, iv, a, tree);
+        tree::expand_node(sbox, w, Version::Two, iv, a, tree);
         return p;
     }
     let left = write_child(w, nodes, 2 * a + 1, p, slots, n, tree);
@@ -111,7 +110,7 @@ fn write_children(
 
 // Writes the tree with l leaves and these covered nodes.
 fn write_tree(
-    t: &[u8; 256],
+    sbox: &Sbox,
     w: usize,
     iv: [u8; 16],
     nodes: &[u32],
@@ -120,8 +119,7 @@ fn write_tree(
     n: usize,
     tree: &mut [u8],
 )
-    requires sbox_table { SboxTable t.now }
-    requires le_l { (1 ≤ l) × Descending nodes.now × (listed nodes.now 0 ≡ true) × ByChildren (listed nodes.now) (l - 1) × (n ≡ read_before nodes.now (l - 1))
+    requires { (1 ≤ l) × Descending nodes.now × (listed nodes.now 0 ≡ true) × ByChildren (listed nodes.now) (l - 1) × (n ≡ read_before nodes.now (l - 1))
         × (w * n ≤ length slots.now) × (length tree.old ≡ w * (2 * l - 1)) × (length tree.old < 2 ^ 32) × (16 ≤ w) × (w ≤ 32) × (w % 8 ≡ 0) }
     ensures { (s : Shape) → shape_ok s ≡ true → w ≡ node_bytes s → tree.new ≡ expand_tree w (zeros w) (children_by w nodes.now slots.now n s iv) (l - 1) }
 {
@@ -133,13 +131,13 @@ fn write_tree(
         read: 0,
     };
     for a in 0..l - 1 {
-        p = write_children(t, w, iv, nodes, a, p, slots, n, tree);
+        p = write_children(sbox, w, iv, nodes, a, p, slots, n, tree);
     }
 }
 
 // The tree that an opening gives: covered nodes are zeros, revealed nodes come from the opening, all others from their parents.
 pub fn reconstruct_tree(
-    t: &[u8; 256],
+    sbox: &Sbox,
     s: Shape,
     ch: &[u8],
     iv: [u8; 16],
@@ -147,8 +145,7 @@ pub fn reconstruct_tree(
     opening: &[u8],
     tree: &mut [u8],
 )
-    requires sbox_table { SboxTable t.now }
-    requires s_value { (shape_ok s ≡ true) × (length ch.now ≡ challenge_bytes s) × (n ≡ planned_count s ch.now) × (n ≤ s.t) × (length opening.now ≡ opening_bytes s) × (length tree.old ≡ tree_bytes s) }
+    requires { (shape_ok s ≡ true) × (length ch.now ≡ challenge_bytes s) × (n ≡ planned_count s ch.now) × (n ≤ s.t) × (length opening.now ≡ opening_bytes s) × (length tree.old ≡ tree_bytes s) }
     ensures { tree.new ≡ reconstructed_tree faest s iv ch.now opening.now }
 {
     let w = rules::node_bytes(s);
@@ -156,5 +153,5 @@ pub fn reconstruct_tree(
     let mut nodes = [0u32; 576];
     let m = planning::covered_nodes(s, ch, &mut nodes);
     let l = rules::leaf_count(s);
-    write_tree(t, w, iv, &nodes[0..m], l, &opening[first..], n, tree);
+    write_tree(sbox, w, iv, &nodes[0..m], l, &opening[first..], n, tree);
 }

@@ -17,6 +17,7 @@ ghost use Rattle.vector.specs.Vectors.{Before};
 ghost use Rattle.verifier_vector.specs.Vector.{uncorrected};
 ghost use Rattle.verifier_vectors.specs.Corrections.{Corrected};
 
+use aes::Sbox;
 use job::{Job, Version};
 use spec::Shape;
 use verifier_vector::Hidden;
@@ -37,7 +38,7 @@ fn hidden_from(g: Job, i: usize) -> usize
 
 // A vector whose hidden entry is known, in its parts of the buffers, behind those before it.
 fn next_vector(
-    t: &[u8; 256],
+    sbox: &Sbox,
     g: Job,
     x: Hidden,
     keys: &[u8],
@@ -47,7 +48,7 @@ fn next_vector(
     q: &mut [u8],
     hashes: &mut [u8],
 )
-    requires lent { Lent g t.now tree.now × HashKeys g.shape g.iv keys.now × (x.vector < g.shape.tau) × (x.entry < entries_of g.shape x.vector) × (length opening.now ≡ opening_length g.version g.shape) }
+    requires lent { Lent g tree.now × HashKeys g.shape g.iv keys.now × (x.vector < g.shape.tau) × (x.entry < entries_of g.shape x.vector) × (length opening.now ≡ opening_length g.version g.shape) }
     requires lcs_len { (length lcs.old ≡ leaf_commitments_bytes g.shape) × (length q.old ≡ matrix_bytes g.shape g.stretch.width) × (length hashes.old ≡ hash_bytes g.shape * g.shape.tau) }
     ensures { (ch : List ℕ) → x.entry ≡ hidden_index g.shape ch x.vector
         → Before g.shape g.stretch.width (given_commitment g ch opening.now tree.now) (uncorrected g.shape g.stretch.width (entry_byte g tree.now) ch) x.vector lcs.old q.old hashes.old
@@ -63,7 +64,7 @@ fn next_vector(
     let q_from = vector::columns_from(s, i, g.stretch.width);
     let q_to = vector::columns_from(s, i + 1, g.stretch.width);
     verifier_vector::convert(
-        t,
+        sbox,
         g,
         x,
         keys,
@@ -77,7 +78,7 @@ fn next_vector(
 
 // All vectors, without the corrections. The last w columns are zeros.
 pub fn write_vectors(
-    t: &[u8; 256],
+    sbox: &Sbox,
     g: Job,
     keys: &[u8],
     ch: &[u8],
@@ -87,7 +88,7 @@ pub fn write_vectors(
     q: &mut [u8],
     hashes: &mut [u8],
 )
-    requires lent { Lent g t.now tree.now × HashKeys g.shape g.iv keys.now × (length ch.now ≡ challenge_bytes g.shape) × (length opening.now ≡ opening_length g.version g.shape) }
+    requires lent { Lent g tree.now × HashKeys g.shape g.iv keys.now × (length ch.now ≡ challenge_bytes g.shape) × (length opening.now ≡ opening_length g.version g.shape) }
     requires lcs_len { (length lcs.old ≡ leaf_commitments_bytes g.shape) × (length q.old ≡ matrix_bytes g.shape g.stretch.width) × (length hashes.old ≡ hash_bytes g.shape * g.shape.tau) }
     ensures lcs_after { lcs.new ≡ leaf_commitments g.shape (given_commitment g ch.now opening.now tree.now) }
     ensures q_after { q.new ≡ matrix_of g.shape g.stretch.width (uncorrected g.shape g.stretch.width (entry_byte g tree.now) ch.now) }
@@ -99,7 +100,7 @@ pub fn write_vectors(
             vector: i,
             entry: challenge::hidden_index(g.shape, ch, i),
         };
-        next_vector(t, g, x, keys, tree, opening, lcs, q, hashes);
+        next_vector(sbox, g, x, keys, tree, opening, lcs, q, hashes);
     }
     let used = vector::columns_from(g.shape, n, g.stretch.width);
     buffers::clear_from(q, used);

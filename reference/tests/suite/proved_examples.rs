@@ -1,6 +1,6 @@
 //! The examples of the primitives and of a challenge's indices that are proved of
-//! the definitions, in the proofs of the crates `standards`, `standards_levels`, `spec`,
-//! `field_576` and `field_768`: the same inputs, derived here.
+//! the definitions, in the proofs of the crates `standards`, `standards_levels`, `spec`
+//! and `field`: the same inputs, derived here.
 
 use reference::shake::{shake128, shake256};
 use reference::{aes, bavc, prg, shape, v1};
@@ -111,7 +111,7 @@ fn leaf_hash() {
 #[test]
 fn leaf_hashes_of_576_and_768_bits() {
     for bits in [576, 768] {
-        let listed = |mark: &str| bytes(&format!("field_{bits}/proofs/KnownAnswers.antt"), mark);
+        let listed = |mark: &str| bytes(&format!("field/proofs/KnownAnswers{bits}.antt"), mark);
         let hashed = bavc::leaf_hash(&listed("\nu ="), &listed("\nx₀ ="), &listed("\nx₁ ="));
         assert_eq!(hashed, listed("u x₀ x₁\n    ≡ number 8\n    "));
     }

@@ -1,12 +1,12 @@
 -- `aes::later_rounds` meets its contract. The loop's invariant: x is the state after round i - 1, and i is even. The measure is the number of rounds left.
 use mathlib.Core.Path.{◌≡◌}
 use mathlib.Core.List.{List}
-use Prim.Native.Nat.{ℕ, ◌+◌, ◌≤◌, ◌-◌, ◌%◌}
-use Rattle.aes.specs.Rounded.{Rounded}
+use Prim.Native.Nat.{ℕ, ◌≤◌, ◌-◌, ◌%◌}
+use Rattle.aes.specs.Ciphers.{after}
 use Rattle.aes.proofs.later_rounds.Given as goal
 
 abbrev pub invariant-loop-i : goal.invariant-loop-i
-invariant-loop-i l = (10 ≤ l.i) × (l.i ≤ l.n) × (l.i % 2 ≡ 0) × ((nk : ℕ) (a : List (List ℕ)) → l.n ≡ nk + 6 → Rounded nk l.keys a l.initial.x 9 → Rounded nk l.keys a l.x (l.i - 1))
+invariant-loop-i l = (10 ≤ l.i) × (l.i ≤ l.n) × (l.i % 2 ≡ 0) × ((a : List (List ℕ)) → l.fn.s ≡ after l.schedule a 9 → l.x ≡ after l.schedule a (l.i - 1))
 
 abbrev pub decreases-loop-i : goal.decreases-loop-i
 decreases-loop-i l = l.n - l.i

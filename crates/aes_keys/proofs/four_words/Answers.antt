@@ -1,6 +1,5 @@
 -- Word by word, of which the first has the number i + 0 in the definition.
 use mathlib.Core.Path.{sym, ap, ◌∙◌}
-use Prim.Native.Nat.{ℕ, ◌+◌}
 use native.Mathlib.Nat.{add-zero}
 use Rattle.spec.specs.Aes.{word_at}
 use Rattle.aes_keys.proofs.four_words.Goals as goal

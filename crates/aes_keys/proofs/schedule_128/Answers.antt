@@ -10,10 +10,6 @@ use Rattle.aes_keys.specs.RoundKeys.{round_keys}
 use Rattle.aes_keys.proofs.KeyExpansion.{first-keys, follows-4}
 use Rattle.aes_keys.proofs.schedule_128.Goals as goal
 
--- so far from the start `search` does not look
-pub next_key-k10-requires : goal.next_key-k10-requires
-next_key-k10-requires c = c.requires.sbox_table
-
 pub returns : goal.returns
 unfolding tabulate product remainder field_product mul power2 round_keys
 returns c =

@@ -1,38 +1,21 @@
-use borrow.Author.Rules.{rules}
-use mathlib.Core.Path.{◌≡◌, refl, sym, ap, ◌∙◌}
+-- The part from `at` on is filled, and nothing is behind it.
+use mathlib.Core.Path.{◌≡◌, ap, ◌∙◌}
 use mathlib.Core.List.{List, ◌++◌, append-nil}
-use Prim.Native.Nat.{ℕ, ◌+◌, ◌-◌, ◌≤◌}
+use Prim.Native.Nat.{ℕ, ◌-◌}
 use native.Mathlib.Omega.{arith}
-use lib.ListN.{length, take}
-use lib.Seq.{take_all}
-use Rattle.spec.specs.Bytes.{tabulate, zeros}
-use Rattle.laws.proofs.Prefixes.{take-stored}
-use Rattle.laws.proofs.Strings.{zeros-tabulate}
+use lib.ListN.{length, take, drop, length-drop, drop_of_length-le}
+use lib.Seq.{length-take-le}
+use Rattle.spec.specs.Bytes.{zeros}
 use Rattle.buffers.proofs.clear_from.Goals as goal
 
-pub loop-p-init : goal.loop-p-init
-unfolding tabulate
-loop-p-init c =
-    let g = c.args in
-    let none : g.at - g.at ≡ 0 = omega arith in
-    (omega arith, omega arith, refl, sym (ap (λ (n : ℕ). take g.at g.out.now ++ tabulate n (λ i. 0)) none ∙ append-nil (take g.at g.out.now)))
-
-pub loop-p-preserved : goal.loop-p-preserved
-loop-p-preserved c =
-    let g = c.args in
-    let l = c.loop-p in
-    let next : l.p - g.at + 1 ≡ l.p + 1 - g.at = omega arith in (
-      omega arith,
-      omega arith,
-      search rules,
-      take-stored l.out l.p 0 (take g.at g.out.now) (l.p - g.at) (λ i. 0) (omega arith) l.invariant.3 refl
-          ∙ ap (λ (n : ℕ). take g.at g.out.now ++ tabulate n (λ i. 0)) next,
-    )
-
 pub returns : goal.returns
+unfolding zeros
 returns c =
     let g = c.args in
-    let l = c.loop-p in
-    let e : l.p - g.at ≡ length g.out.now - g.at = omega arith in
-    sym (take_all l.p l.out (omega arith)) ∙ l.invariant.3
-    ∙ ap (λ (x : List ℕ). take g.at g.out.now ++ x) (sym (zeros-tabulate (l.p - g.at)) ∙ ap zeros e)
+    let old = g.out.now in
+    let n = length old - g.at in
+    let long : length (take n (drop g.at old)) ≡ n = length-take-le n (drop g.at old) (simp length-drop (omega arith)) in
+    let filled : c.fill.new.self ≡ zeros n = c.fill.ensures.after (λ y e. e) ∙ ap zeros long in
+    ap (λ (x : List ℕ). take g.at old ++ (x ++ drop n (drop g.at old))) filled
+    ∙ ap (λ (x : List ℕ). take g.at old ++ (zeros n ++ x)) (drop_of_length-le (drop g.at old) {i = n} (simp length-drop (omega arith)))
+    ∙ ap (λ (x : List ℕ). take g.at old ++ x) (append-nil (zeros n))

@@ -1,11 +1,8 @@
 -- While each bit passed is 0, those from j on decide.
-use Prim.Native.Nat.{◌+◌, ◌-◌, ◌≤◌}
+use Prim.Native.Nat.{◌+◌, ◌-◌}
 use mathlib.Core.Path.{◌≡◌}
 use Rattle.spec.specs.Challenge.{clear_at}
 use Rattle.challenge.proofs.clear.Given as goal
 
 abbrev pub invariant-loop-j : goal.invariant-loop-j
-invariant-loop-j l = (l.j ≤ l.n) × (clear_at l.ch l.at l.n ≡ clear_at l.ch (l.at + l.j) (l.n - l.j))
-
-abbrev pub decreases-loop-j : goal.decreases-loop-j
-decreases-loop-j l = l.n - l.j
+invariant-loop-j l = clear_at l.ch l.at l.n ≡ clear_at l.ch (l.at + l.j) (l.n - l.j)

@@ -16,31 +16,21 @@ bytes : (x : ℕ) (xs : List ℕ) → xs ≡ tabulate 16 (byte x) → xs ≡ dig
 unfolding digits
 bytes x xs e = e
 
-pub loop-i-init : goal.loop-i-init
-loop-i-init c = (omega arith, sym (div-one c.args.x), front-none (byte c.args.x) (replicate 16 0))
+pub loop-byte-init : goal.loop-byte-init
+loop-byte-init c = (sym (div-one c.args.x), front-none (byte c.args.x) (replicate 16 0))
 
-pub bounds-challenge-i : goal.bounds-challenge-i
-bounds-challenge-i c = omega arith
-
-pub overflow_add-i : goal.overflow_add-i
-overflow_add-i c = omega arith
-
-pub loop-i-smaller : goal.loop-i-smaller
-loop-i-smaller c = omega arith
-
-pub loop-i-preserved : goal.loop-i-preserved
-loop-i-preserved c =
-    let l = c.loop-i in
+pub loop-byte-preserved : goal.loop-byte-preserved
+loop-byte-preserved c =
+    let l = c.loop-byte in
     let x = c.args.x in
-    let next : 8 * l.i + 8 ≡ 8 * (l.i + 1) = omega arith in (
-      omega arith,
-      ap (λ (n : ℕ). n / 256) l.invariant.1 ∙ shr-shr x (8 * l.i) 8 ∙ ap (λ (n : ℕ). x / 2 ^ n) next,
-      front-set (byte x) 16 l.i l.challenge _ (omega arith) l.invariant.2 (ap (λ (n : ℕ). n % 256) l.invariant.1),
+    let next : 8 * l.byte-index + 8 ≡ 8 * (l.byte-index + 1) = omega arith in (
+      ap (λ (n : ℕ). n / 256) l.invariant.0 ∙ shr-shr x (8 * l.byte-index) 8 ∙ ap (λ (n : ℕ). x / 2 ^ n) next,
+      front-set (byte x) 16 l.byte-index l.byte-items _ (omega arith) l.invariant.1 (ap (λ (n : ℕ). n % 256) l.invariant.0),
     )
 
 pub returns : goal.returns
 unfolding challenge_at challenge_bytes
 returns c s e =
-    let l = c.loop-i in
+    let l = c.loop-byte in
     let x = c.args.x in
-    bytes x l.challenge (front-all (byte x) 16 l.i l.challenge c.loop-i-test.false l.invariant.2) ∙ sym (ap (λ (n : ℕ). digits 8 (n / 8) x) e)
+    bytes x l.byte-items (front-all (byte x) 16 l.byte-index l.byte-items (omega arith) l.invariant.1) ∙ sym (ap (λ (n : ℕ). digits 8 (n / 8) x) e)

@@ -5,7 +5,4 @@ use Rattle.enumeration.proofs.Counts.{Counted}
 use Rattle.enumeration.proofs.count_all.Given as goal
 
 abbrev pub invariant-loop-x : goal.invariant-loop-x
-invariant-loop-x l = (l.x ≤ l.all) × (l.all ≤ 65536) × (l.t ≡ l.s.t) × Counted l.s l.x l.within l.total
-
-abbrev pub decreases-loop-x : goal.decreases-loop-x
-decreases-loop-x l = l.all - l.x
+invariant-loop-x l = (l.all ≤ 65536) × (l.t ≡ l.s.t) × Counted l.s l.x l.within l.total

@@ -8,7 +8,4 @@ use Rattle.enumeration.proofs.put_lines.Given as goal
 
 abbrev pub invariant-loop-i : goal.invariant-loop-i
 invariant-loop-i l =
-    (l.i ≤ l.n) × (length l.out ≡ length l.initial.out) × (l.end ≤ 39 * l.i) × Put (lines_from l.s l.from l.i) 0 l.initial.out l.out l.end
-
-abbrev pub decreases-loop-i : goal.decreases-loop-i
-decreases-loop-i l = l.n - l.i
+    (length l.out ≡ length l.initial.out) × (l.end ≤ 39 * l.i) × Put (lines_from l.s l.from l.i) 0 l.initial.out l.out l.end

@@ -1,4 +1,5 @@
 -- By whether i is one of the pieces with lines.
+use native.Mathlib.Omega.{arith}
 use Prim.Native.Nat.{ℕ, ◌-◌, ◌*◌, ◌^◌, ◌<◌, ◌≤◌, min}
 use mathlib.Core.Path.{◌≡◌, ap, ◌∙◌}
 use borrow.Author.Rules.{rules}
@@ -16,8 +17,7 @@ pub returns-then-i-line_pieces : goal.returns-then-i-line_pieces
 returns-then-i-line_pieces c =
     let a = c.args in
     let h : a.i < line_pieces a.s = rw c.line_pieces.ensures.0 at c.if-i-line_pieces.true in
-    let n : c.min-n.result ≡ min 1024 (2 ^ open_bits a.s - 1024 * a.i) =
-    c.min-n.ensures ∙ ap (λ (k : ℕ). min 1024 (k - 1024 * a.i)) c.line_count.ensures.0 in
+    let n : c.min-n.result ≡ min 1024 (2 ^ open_bits a.s - 1024 * a.i) = (let m = c.min-n.ensures in let l = c.line_count.ensures.0 in omega arith) in
     rw (lt-ltb a.i (line_pieces a.s) h, ← n) c.put_lines.ensures
 
 pub returns : goal.returns

@@ -1,16 +1,14 @@
--- The round keys of the key.
-use Rattle.std.proofs.Common.{◌≡◌, ℕ, ◌+◌, ◌*◌, ◌/◌, length, ap, subst, arith}
-use Rattle.aes_keys.specs.RoundKeys.{Keyed}
+-- The schedule's key is the key.
+use Rattle.std.proofs.Common.{◌≡◌, ℕ, ◌+◌, List, length, ap, ap₂, ◌∙◌, arith}
+use Rattle.spec.specs.Bytes.{tabulate}
+use Rattle.job.specs.Versions.{byte_of}
+use Rattle.aes_keys.specs.RoundKeys.{words}
 use Rattle.generator.proofs.fill.Goals as goal
-
-pub fill_keyed-requires : goal.fill_keyed-requires
-fill_keyed-requires c =
-    let p = c.requires.in_bounds in
-    record { sbox_table = c.requires.sbox_table; le_rounds = (omega arith, omega arith, omega arith, p.3) }
 
 pub returns : goal.returns
 returns c = λ nk e.
     let g = c.args in
-    let words : length g.key.now / 4 ≡ nk = omega arith in
-    let keys = c.key_schedule-keys in
-    c.fill_keyed.ensures nk g.key.now (ap (λ (n : ℕ). n + 6) words) (subst (λ (n : ℕ). Keyed n g.key.now keys.result) words keys.ensures)
+    let made = c.new-schedule.ensures in
+    let four : words g.key.now ≡ nk = omega arith in
+    c.fill_keyed.ensures
+    ∙ ap₂ (λ (m : ℕ) (key : List ℕ). tabulate (length g.out.now) (λ p. byte_of m key g.x (g.first + p))) (ap words made ∙ four) made

@@ -1,4 +1,4 @@
-use Rattle.std.proofs.Common.{◌≡◌, ℕ, ◌+◌, ◌-◌, ◌≤◌, get_or, sym, ap, zero-add, arith, length-set, rules}
+use Rattle.std.proofs.Common.{◌≡◌, ℕ, get_or, sym, ap, zero-add, arith, length-set, rules}
 use Rattle.generator.proofs.Storing.{continued-none, continued-more}
 use Rattle.generator.proofs.store_whole.Goals as goal
 

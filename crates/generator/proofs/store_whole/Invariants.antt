@@ -1,5 +1,5 @@
 -- `generator::store_whole` meets its contract. The loop's invariant: k bytes of the block are stored. The measure is the number of bytes left.
-use Rattle.std.proofs.Common.{◌≡◌, ℕ, ◌+◌, ◌-◌, ◌≤◌, length}
+use Rattle.std.proofs.Common.{◌≡◌, ◌+◌, ◌-◌, ◌≤◌, length}
 use Rattle.generator.specs.Stored.{Continued}
 use Rattle.generator.proofs.store_whole.Given as goal
 

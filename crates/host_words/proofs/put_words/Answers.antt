@@ -1,4 +1,4 @@
-use Prim.Native.Nat.{ℕ, ◌+◌, ◌-◌, ◌*◌, ◌≤◌}
+use Prim.Native.Nat.{ℕ, ◌+◌, ◌-◌, ◌*◌}
 use mathlib.Core.Path.{◌≡◌, refl, ap, ap₂, ◌∙◌}
 use mathlib.Core.List.{List, ◌++◌}
 use native.Mathlib.Omega.{arith}
@@ -10,19 +10,10 @@ use Rattle.host_words.proofs.put_words.Goals as goal
 
 pub loop-i-init : goal.loop-i-init
 unfolding word_bytes
-loop-i-init c = (omega arith, refl, refl)
+loop-i-init c = (refl, refl)
 
 pub overflow_mul-at : goal.overflow_mul-at
 overflow_mul-at c = omega arith
-
-pub offset_bounds-words-i : goal.offset_bounds-words-i
-offset_bounds-words-i c = omega arith
-
-pub bounds-words-i : goal.bounds-words-i
-bounds-words-i c = omega arith
-
-pub overflow_cast-words : goal.overflow_cast-words
-overflow_cast-words c = omega (arith, c.shared_slice_known-in-loop-i-1.given c.loop-i.i)
 
 pub overflow_add-at : goal.overflow_add-at
 overflow_add-at c = omega arith
@@ -41,26 +32,20 @@ put_word-requires c =
     let l = c.loop-i in
     length-take-le (4 * l.i + 4 - 4 * l.i) (drop (4 * l.i) l.out) (omega (arith, length-drop (4 * l.i) l.out)) ∙ omega arith
 
-pub overflow_add-i : goal.overflow_add-i
-overflow_add-i c = omega arith
-
-pub loop-i-smaller : goal.loop-i-smaller
-loop-i-smaller c = omega arith
-
 pub loop-i-preserved : goal.loop-i-preserved
 loop-i-preserved c =
     let l = c.loop-i in
     let next =
-    words-next c.args.words.now c.args.out.now l.i l.out c.put_word.new.out (4 * l.i + 4 - 4 * l.i) (omega arith) (omega arith) l.invariant.2
+    words-next c.args.words.now c.args.out.now l.i l.out c.put_word.new.out (4 * l.i + 4 - 4 * l.i) (omega arith) (omega arith) l.invariant.1
     c.put_word.ensures in
-    (omega arith, ap length next ∙ words-to-length c.args.words.now c.args.out.now (l.i + 1) (omega arith) c.requires, next)
+    (ap length next ∙ words-to-length c.args.words.now c.args.out.now (l.i + 1) (omega arith) c.requires, next)
 
 pub shape_of-out : goal.shape_of-out
-shape_of-out c = c.loop-i.invariant.1
+shape_of-out c = c.loop-i.invariant.0
 
 pub returns : goal.returns
 returns c =
     let a = c.args in
     let l = c.loop-i in
     let e : l.i ≡ length a.words.now = omega arith in
-    l.invariant.2 ∙ ap₂ (λ (xs : List ℕ) (n : ℕ). word_bytes xs ++ drop (4 * n) a.out.now) (ap (λ (n : ℕ). take n a.words.now) e ∙ take-length a.words.now) e
+    l.invariant.1 ∙ ap₂ (λ (xs : List ℕ) (n : ℕ). word_bytes xs ++ drop (4 * n) a.out.now) (ap (λ (n : ℕ). take n a.words.now) e ∙ take-length a.words.now) e

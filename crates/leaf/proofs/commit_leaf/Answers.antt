@@ -4,7 +4,7 @@ use Rattle.leaf.proofs.commit_leaf.Goals as goal
 
 pub hash_leaf_in_place-requires : goal.hash_leaf_in_place-requires
 hash_leaf_in_place-requires c =
-    let p = c.requires.s_value in
+    let p = c.requires in
     (p.0, p.1 c.in-One.is, p.2, p.3, p.4)
 
 pub returns-in-One : goal.returns-in-One

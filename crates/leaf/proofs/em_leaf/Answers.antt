@@ -44,14 +44,14 @@ commitment s key x i m y o v et em e =
 
 pub fill-requires : goal.fill-requires
 fill-requires c =
-    let p = c.requires.s_value in
+    let p = c.requires in
     let w = widths c.args.s (shape-facts c.args.s p.0) in
-    record { sbox_table = c.requires.sbox_table; in_bounds = (omega (arith, w.node-min), omega (arith, w.node-max), ap (λ (n : ℕ). n % 8) p.3 ∙ w.node-eight, omega (arith, w.node-max, w.commitment-max)) }
+    (omega (arith, w.node-min), omega (arith, w.node-max), ap (λ (n : ℕ). n % 8) p.3 ∙ w.node-eight, omega (arith, w.node-max, w.commitment-max))
 
 pub returns : goal.returns
 returns c = λ i tweak.
     let g = c.args in
-    let p = c.requires.s_value in
+    let p = c.requires in
     let words = p.3 ∙ (widths g.s (shape-facts g.s p.0)).node-words in (
       seed g.s g.key.now g.x.iv i g.seed.now _ p.1 (p.3 ∙ sym p.4) c.copy_part.ensures,
       commitment g.s g.key.now g.x i (length g.out.now) _ p.1 p.2 tweak p.5

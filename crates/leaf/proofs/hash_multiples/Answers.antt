@@ -12,7 +12,7 @@ use Rattle.spec.specs.Shapes.{leaf_commitment_bytes, shape_ok, field_width, fiel
 use Rattle.laws.proofs.Lists.{length_part}
 use Rattle.laws.proofs.Concat.{mul-within, mul-limit}
 use Rattle.planning_laws.proofs.ShapeFacts.{shape-facts}
-use Rattle.field_limbs.specs.Multiples.{Multiples}
+use Rattle.field.specs.Multiples.{Multiples}
 use Rattle.leaf.specs.HashKeys.{HashMultiples}
 use Rattle.leaf.proofs.Keys.{key_of}
 use Rattle.leaf.proofs.hash_multiples.Goals as goal

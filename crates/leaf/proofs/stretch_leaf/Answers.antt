@@ -59,15 +59,15 @@ commitment s key iv i x y o ex e =
 
 pub fill-requires : goal.fill-requires
 fill-requires c =
-    let p = c.requires.s_value in
+    let p = c.requires in
     let w = widths c.args.s (shape-facts c.args.s p.0) in
-    record { sbox_table = c.requires.sbox_table; in_bounds = (omega (arith, w.node-min), omega (arith, w.node-max), ap (λ (n : ℕ). n % 8) p.3 ∙ w.node-eight, omega (arith, w.node-max, w.commitment-max)) }
+    (omega (arith, w.node-min), omega (arith, w.node-max), ap (λ (n : ℕ). n % 8) p.3 ∙ w.node-eight, omega (arith, w.node-max, w.commitment-max))
 
 pub returns : goal.returns
 unfolding HashMultiples
 returns c = λ i tweak multiples.
     let g = c.args in
-    let p = c.requires.s_value in
+    let p = c.requires in
     let n = c.node_bytes-n in
     let call = c.fill in
     let words = p.3 ∙ (widths g.s (shape-facts g.s p.0)).node-words in

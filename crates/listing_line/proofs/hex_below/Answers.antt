@@ -1,6 +1,4 @@
-use Prim.Native.Nat.{◌-◌, ◌≤◌}
-use mathlib.Core.Path.{◌≡◌, sym, ap, ◌∙◌}
-use mathlib.Core.Bool.{true}
+use mathlib.Core.Path.{sym, ap, ◌∙◌}
 use native.Mathlib.Omega.{arith}
 use borrow.Author.Rules.{rules}
 use Rattle.laws.proofs.Tests.{failed, passed}
@@ -12,9 +10,6 @@ pub loop-i-init : goal.loop-i-init
 unfolding hex_below
 loop-i-init c = search rules
 
-pub bounds-text-i : goal.bounds-text-i
-bounds-text-i c = omega arith
-
 pub is_hex_digit-requires : goal.is_hex_digit-requires
 is_hex_digit-requires c = tt
 
@@ -22,18 +17,12 @@ pub returns-then-not-is_hex_digit : goal.returns-then-not-is_hex_digit
 returns-then-not-is_hex_digit c =
     hex-stop _ _ c.loop-i.i c.loop-i-test.true (failed c.is_hex_digit.ensures c.if-not-is_hex_digit.true)
 
-pub overflow_add-i : goal.overflow_add-i
-overflow_add-i c = omega arith
-
-pub loop-i-smaller : goal.loop-i-smaller
-loop-i-smaller c = omega arith
-
 pub loop-i-preserved : goal.loop-i-preserved
 loop-i-preserved c =
     let l = c.loop-i in
-    (omega arith, hex-more l.i _ l.invariant.1 (passed c.is_hex_digit.ensures c.if-not-is_hex_digit.false))
+    hex-more l.i _ l.invariant (passed c.is_hex_digit.ensures c.if-not-is_hex_digit.false)
 
 pub returns : goal.returns
 returns c =
     let l = c.loop-i in
-    sym (ap (λ n. hex_below n c.args.text.now) (omega arith) ∙ l.invariant.1)
+    sym (ap (λ n. hex_below n c.args.text.now) (omega arith) ∙ l.invariant)

@@ -1,5 +1,5 @@
 use mathlib.Core.List.{List}
-use Prim.Native.Nat.{ℕ, ◌-◌, ◌≤◌, ◌<◌}
+use Prim.Native.Nat.{ℕ, ◌≤◌, ◌<◌}
 use mathlib.Core.Path.{◌≡◌, sym, ap, ◌∙◌}
 use native.Mathlib.Omega.{arith}
 use borrow.Author.Rules.{rules}
@@ -22,32 +22,23 @@ unfolding decimal_from
 loop-i-init c = search rules
 
 pub overflow_mul-v : goal.overflow_mul-v
-overflow_mul-v c = omega (arith, known c.args.text.now c.loop-i.v c.loop-i.i c.requires c.loop-i.invariant.1 (rw c.digit_run-n.ensures.0 at c.loop-i-test.true))
-
-pub bounds-text-i : goal.bounds-text-i
-bounds-text-i c = omega arith
+overflow_mul-v c = omega (arith, known c.args.text.now c.loop-i.v c.loop-i.i c.requires c.loop-i.invariant (rw c.digit_run-n.ensures.0 at c.loop-i-test.true))
 
 pub overflow_sub-v : goal.overflow_sub-v
-overflow_sub-v c = (known c.args.text.now c.loop-i.v c.loop-i.i c.requires c.loop-i.invariant.1 (rw c.digit_run-n.ensures.0 at c.loop-i-test.true)).1
+overflow_sub-v c = (known c.args.text.now c.loop-i.v c.loop-i.i c.requires c.loop-i.invariant (rw c.digit_run-n.ensures.0 at c.loop-i-test.true)).1
 
 pub overflow_cast-v : goal.overflow_cast-v
-overflow_cast-v c = omega (arith, known c.args.text.now c.loop-i.v c.loop-i.i c.requires c.loop-i.invariant.1 (rw c.digit_run-n.ensures.0 at c.loop-i-test.true))
+overflow_cast-v c = omega (arith, known c.args.text.now c.loop-i.v c.loop-i.i c.requires c.loop-i.invariant (rw c.digit_run-n.ensures.0 at c.loop-i-test.true))
 
 pub overflow_add-v : goal.overflow_add-v
-overflow_add-v c = omega (arith, known c.args.text.now c.loop-i.v c.loop-i.i c.requires c.loop-i.invariant.1 (rw c.digit_run-n.ensures.0 at c.loop-i-test.true))
-
-pub overflow_add-i : goal.overflow_add-i
-overflow_add-i c = omega arith
-
-pub loop-i-smaller : goal.loop-i-smaller
-loop-i-smaller c = omega arith
+overflow_add-v c = omega (arith, known c.args.text.now c.loop-i.v c.loop-i.i c.requires c.loop-i.invariant (rw c.digit_run-n.ensures.0 at c.loop-i-test.true))
 
 pub loop-i-preserved : goal.loop-i-preserved
 loop-i-preserved c =
     let text = c.args.text.now in
     let l = c.loop-i in
     let r = c.digit_run-n.ensures.1 in
-    (omega arith, rw (l.invariant.1, add-one) (sym (value-more 0 text l.i (omega arith))))
+    rw (l.invariant, add-one) (sym (value-more 0 text l.i (omega arith)))
 
 pub returns : goal.returns
 unfolding number_of
@@ -55,4 +46,4 @@ returns c =
     let text = c.args.text.now in
     let l = c.loop-i in
     let e : l.i ≡ digit_run text = omega (arith, c.digit_run-n.ensures.0) in
-    l.invariant.1 ∙ ap (λ (n : ℕ). decimal_from 0 (take n text)) e
+    l.invariant ∙ ap (λ (n : ℕ). decimal_from 0 (take n text)) e

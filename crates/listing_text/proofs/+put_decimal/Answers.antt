@@ -1,5 +1,4 @@
 -- One digit, or the digits of the tenth part and behind them one more.
-use Prim.Native.Nat.{◌<◌}
 use mathlib.Core.Path.{ap}
 use native.Mathlib.Omega.{arith}
 use lib.ListN.{length}

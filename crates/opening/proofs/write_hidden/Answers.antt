@@ -17,7 +17,7 @@ use Rattle.opening.proofs.write_hidden.Goals as goal
 
 pub loop-i-init : goal.loop-i-init
 unfolding concat
-loop-i-init c = (omega arith, refl, ap (λ (n : ℕ). take n c.args.out.now) (mul-zero c.commitment_bytes-w.result))
+loop-i-init c = (refl, ap (λ (n : ℕ). take n c.args.out.now) (mul-zero c.commitment_bytes-w.result))
 
 pub overflow_mul-w : goal.overflow_mul-w
 overflow_mul-w c =
@@ -59,11 +59,10 @@ loop-i-preserved c =
     let taken : part g.lcs.now (w.result * entry.result) w.result ≡ hidden g.s g.ch.now g.lcs.now l.i =
     ap₂ (λ (m n : ℕ). part g.lcs.now (m * n) m) w.ensures.0 of in
     let out = c.copy_part.new.dst in (
-      omega arith,
       search rules,
       ap (λ (n : ℕ). take n out) (mul_next w.result l.i)
           ∙ put_next (hidden g.s g.ch.now g.lcs.now) [] w.result l.i (w.result * l.i) l.out out (drop (w.result * l.i + w.result) l.out) (omega arith)
-          (sym (ap length taken) ∙ length_part g.lcs.now (w.result * entry.result) w.result (omega arith)) l.invariant.2
+          (sym (ap length taken) ∙ length_part g.lcs.now (w.result * entry.result) w.result (omega arith)) l.invariant.1
           (c.copy_part.ensures ∙ ap (λ (p : List ℕ). take (w.result * l.i) l.out ++ (p ++ drop (w.result * l.i + w.result) l.out)) taken),
     )
 
@@ -71,4 +70,4 @@ pub returns : goal.returns
 returns c =
     let l = c.loop-i in
     let e : l.i ≡ c.args.s.tau = omega arith in
-    rw (e, c.commitment_bytes-w.ensures.0) at l.invariant.2
+    rw (e, c.commitment_bytes-w.ensures.0) at l.invariant.1

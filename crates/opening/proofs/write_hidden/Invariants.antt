@@ -13,7 +13,4 @@ abbrev pub hidden : Shape → List ℕ → List ℕ → ℕ → List ℕ
 hidden s ch lcs i = leaf_commitment_at s lcs i (hidden_index s ch i)
 
 abbrev pub invariant-loop-i : goal.invariant-loop-i
-invariant-loop-i l = (l.i ≤ l.tau) × (length l.out ≡ length l.initial.out) × (take (l.w * l.i) l.out ≡ concat l.i (hidden l.s l.ch l.lcs))
-
-abbrev pub decreases-loop-i : goal.decreases-loop-i
-decreases-loop-i l = l.tau - l.i
+invariant-loop-i l = (length l.out ≡ length l.initial.out) × (take (l.w * l.i) l.out ≡ concat l.i (hidden l.s l.ch l.lcs))

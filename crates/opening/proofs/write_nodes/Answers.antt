@@ -20,7 +20,7 @@ pub loop-m-init : goal.loop-m-init
 unfolding concat
 loop-m-init c =
     let g = c.args in
-    (omega arith, refl, ap (λ (n : ℕ). take n g.out.now) (ap (λ (n : ℕ). g.at + n) (mul-zero g.w) ∙ add-zero g.at) ∙ sym (append-nil (take g.at g.out.now)))
+    (refl, ap (λ (n : ℕ). take n g.out.now) (ap (λ (n : ℕ). g.at + n) (mul-zero g.w) ∙ add-zero g.at) ∙ sym (append-nil (take g.at g.out.now)))
 
 pub offset_bounds-nodes-m : goal.offset_bounds-nodes-m
 offset_bounds-nodes-m c = (let h = c.requires.3 c.loop-m.m (omega arith) in omega arith)
@@ -60,16 +60,15 @@ loop-m-preserved c =
     let out = c.copy_part.new.dst in
     let next : g.at + g.w * (l.m + 1) ≡ g.at + g.w * l.m + g.w = (let q = mul_next g.w l.m in omega arith) in
     let r = room g.w l.m g.n g.at (length g.out.now) (omega arith) c.requires.2 in (
-      omega arith,
       search rules,
       ap (λ (n : ℕ). take n out) next
           ∙ put_next (listed g.w g.nodes.now g.tree.now) (take g.at g.out.now) g.w l.m (g.at + g.w * l.m) l.out out
           (drop (g.at + g.w * l.m + g.w) l.out) (omega arith) (length_part g.tree.now (g.w * get_or g.nodes.now l.m 0) g.w (c.requires.3 l.m (omega arith)))
-          l.invariant.2 c.copy_part.ensures,
+          l.invariant.1 c.copy_part.ensures,
     )
 
 pub returns : goal.returns
 returns c =
     let l = c.loop-m in
     let e : l.m ≡ c.args.n = omega arith in
-    rw e at l.invariant.2
+    rw e at l.invariant.1

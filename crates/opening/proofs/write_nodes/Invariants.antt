@@ -10,7 +10,4 @@ abbrev pub listed : ℕ → List ℕ → List ℕ → ℕ → List ℕ
 listed w nodes tree m = part tree (w * get_or nodes m 0) w
 
 abbrev pub invariant-loop-m : goal.invariant-loop-m
-invariant-loop-m l = (l.m ≤ l.n) × (length l.out ≡ length l.initial.out) × (take (l.at + l.w * l.m) l.out ≡ take l.at l.initial.out ++ concat l.m (listed l.w l.nodes l.tree))
-
-abbrev pub decreases-loop-m : goal.decreases-loop-m
-decreases-loop-m l = l.n - l.m
+invariant-loop-m l = (length l.out ≡ length l.initial.out) × (take (l.at + l.w * l.m) l.out ≡ take l.at l.initial.out ++ concat l.m (listed l.w l.nodes l.tree))

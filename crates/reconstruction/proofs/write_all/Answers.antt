@@ -22,7 +22,7 @@ pub reconstruct_tree-requires : goal.reconstruct_tree-requires
 reconstruct_tree-requires c =
     let p = c.requires.s_value in
     let q = c.requires.iv_len in
-    record { sbox_table = c.table-t.ensures; s_value = (p.0, q.1, p.2, p.3, q.3, c.requires.commitment_len.1) }
+    (p.0, q.1, p.2, p.3, q.3, c.requires.commitment_len.1)
 
 pub write_vectors-requires : goal.write_vectors-requires
 unfolding nodes_bytes opening_length
@@ -33,7 +33,7 @@ write_vectors-requires c =
     let o = c.requires.commitment_len in
     let keys = keys-same g.s _ _ _ c.load_iv-x.ensures c.hash_keys.ensures in
     let lent-tree = c.reconstruct_tree.auto.tree ∙ o.1 in
-    record { lent = (record { job = record { shape = p.0; kind = two_fits g.s; row = p.1 }; table = c.table-t.ensures; tree = lent-tree }, keys, q.1, q.3); lcs_len = (o.2, o.3, p.5) }
+    record { lent = (record { job = record { shape = p.0; kind = two_fits g.s; row = p.1 }; tree = lent-tree }, keys, q.1, q.3); lcs_len = (o.2, o.3, p.5) }
 
 pub correct_vectors-requires : goal.correct_vectors-requires
 correct_vectors-requires c =

@@ -1,5 +1,4 @@
 -- The five fields that the reader hands out are those that the record says.
-use borrow.Author.Rules.{rules}
 use Rattle.record.proofs.Reading.{read-fields}
 use Rattle.record_reading.proofs.Fronts.{fields-room, contents-are}
 use Rattle.record_check.proofs.check_fields.Goals as goal

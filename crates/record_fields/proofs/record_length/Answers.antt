@@ -1,6 +1,6 @@
 -- The lengths of the fields, in the order of the places; the bound is a law.
 use native.Mathlib.Omega.{arith}
-use mathlib.Core.Path.{◌≡◌, ap, ◌∙◌}
+use mathlib.Core.Path.{ap, ◌∙◌}
 use Rattle.record.specs.Record.{head_bytes, corrections_place, opening_place, commitment_place, record_end, record_bytes}
 use Rattle.record.proofs.Bounds.{record-small}
 use Rattle.record_fields.proofs.record_length.Goals as goal

@@ -1,8 +1,9 @@
--- A missing byte reads as 0.
+-- Without a first byte it is that of 0, which names none.
 use native.Mathlib.Omega.{arith}
 use mathlib.Core.Path.{refl}
-use lib.ListN.{get_or-eq_default}
+use Rattle.record_fields.specs.Versions.{version_named}
 use Rattle.record_fields.proofs.version_of.Goals as goal
 
-pub returns-then-bytes-lt1 : goal.returns-then-bytes-lt1
-returns-then-bytes-lt1 c = rw (get_or-eq_default c.args.bytes.now 0 {n = 0} (omega arith)) refl
+pub returns-in-None : goal.returns-in-None
+unfolding version_named
+returns-in-None c = rw (← c.in-None.ensures.item.4 (omega arith) 0) refl

@@ -10,7 +10,5 @@ rest_of-requires c = omega (arith, c.requires.most)
 pub returns : goal.returns
 unfolding rest_ok corrections_place opening_place commitment_place record_end
 returns c =
-    let p = c.requires in (
-      c.rest_of.ensures.0 ∙ rw (p.head, p.challenge, p.corrections, p.opening, p.commitment) refl,
-      c.rest_of.ensures.1 ∙ rw (p.head, p.challenge, p.corrections, p.opening, p.commitment) refl,
-    )
+    let p = c.requires in
+    c.rest_of.ensures ∙ rw (p.head, p.challenge, p.corrections, p.opening, p.commitment) refl

@@ -25,4 +25,4 @@ returns c =
     let n = c.head_length-h.ensures.0 ∙ ap head_bytes c.version_for-version.ensures in
     let is = ap (λ (m : ℕ). take m c.head_of-head.result) n ∙ c.head_of-head.ensures in
     let l = ap length is in
-    (omega (arith, c.put_field.ensures.0), put-version _ _ c.version_for-version.ensures is c.put_version.ensures c.put_field.ensures.1)
+    (omega (arith, c.put_field.ensures.0), put-version _ _ (c.byte.ensures ∙ c.version_for-version.ensures) is c.put_version.ensures c.put_field.ensures.1)

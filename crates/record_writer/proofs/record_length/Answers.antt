@@ -2,38 +2,30 @@
 use Prim.Native.Nat.{◌/◌}
 use native.Mathlib.Omega.{arith}
 use mathlib.Core.Path.{refl, ap, ◌∙◌}
-use Rattle.spec.specs.Shapes.{shape_ok}
+use borrow.Author.Tests.{ne_eqb}
 use Rattle.rules.proofs.RowLength.{row-max}
-use Rattle.laws.proofs.Tests.{failed, passed}
 use Rattle.record.specs.Record.{record_bytes}
 use Rattle.record.specs.RecordCalls.{length_number}
+use Rattle.refusals.specs.Refusal.{number_of}
+use Rattle.refusals.proofs.Lists.{passed-all}
+use Rattle.refusals.proofs.Outcomes.{numbered}
+use Rattle.record_writer.specs.Tests.{row_tests}
 use Rattle.record_writer.proofs.record_length.Goals as goal
 
-pub returns-then-not-is_shape : goal.returns-then-not-is_shape
-unfolding length_number
-returns-then-not-is_shape c =
-    record { number = rw (failed (c.is_shape.ensures ∙ ap shape_ok c.resolve-s.ensures) c.if-not-is_shape.true) refl; bytes = refl; most = omega arith }
-
-pub returns-then-not-is_row_length : goal.returns-then-not-is_row_length
-unfolding length_number
-returns-then-not-is_row_length c =
-    record {
-      number =
-          rw (passed (c.is_shape.ensures ∙ ap shape_ok c.resolve-s.ensures) c.if-not-is_shape.false, failed c.is_row_length.ensures c.if-not-is_row_length.true) refl;
-      bytes = refl;
-      most = omega arith;
-    }
-
 pub record_length-requires : goal.record_length-requires
-record_length-requires c =
-    (passed c.is_shape.ensures c.if-not-is_shape.false, row-max _ (passed c.is_row_length.ensures c.if-not-is_row_length.false))
+record_length-requires c = (let q = passed-all (row_tests _ _) (refl, (refl, tt)) _ c.in-Ok.ensures refl in (q.0, row-max _ q.1.0))
 
-pub returns : goal.returns
+pub returns-in-Ok : goal.returns-in-Ok
 unfolding length_number
-returns c =
+returns-in-Ok c =
     record {
-      number =
-          rw (passed (c.is_shape.ensures ∙ ap shape_ok c.resolve-s.ensures) c.if-not-is_shape.false, passed c.is_row_length.ensures c.if-not-is_row_length.false) refl;
+      number = rw c.resolve-s.ensures at c.in-Ok.ensures;
       bytes = c.record_length.ensures.0 ∙ ap (λ s. record_bytes s (c.args.row_bits / 8)) c.resolve-s.ensures;
       most = c.record_length.ensures.1;
     }
+
+pub returns-in-Err : goal.returns-in-Err
+unfolding length_number
+returns-in-Err c =
+    let z = ne_eqb (number_of c.in-Err.refusal) 0 (numbered c.in-Err.refusal) in
+    rw c.number.ensures (record { number = rw c.resolve-s.ensures at c.in-Err.ensures; bytes = rw z refl; most = omega arith })

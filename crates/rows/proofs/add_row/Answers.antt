@@ -1,8 +1,9 @@
 use mathlib.Core.Path.{◌≡◌, refl, subst}
 use mathlib.Core.List.{List}
-use Prim.Native.Nat.{ℕ, ◌+◌, ◌*◌, ◌-◌, ◌/◌, ◌≤◌, ◌<◌, min}
+use Prim.Native.Nat.{ℕ, ◌+◌, ◌*◌, ◌-◌, ◌≤◌, ◌<◌, min}
 use native.Mathlib.Omega.{arith}
 use lib.ListN.{length, get_or}
+use Rattle.aes_keys.specs.RoundKeys.{words}
 use Rattle.job.specs.declared.Nonce.{Nonce}
 use Rattle.job.specs.Versions.{block_of, byte_of}
 use Rattle.generator.proofs.Blocks.{block-byte}
@@ -24,7 +25,7 @@ nearer : (b at from long mid n end : ℕ) → at < b → from < 16 → long ≡ 
 nearer b at from long mid n end h hf el em ee = omega arith
 
 pub loop-at-init : goal.loop-at-init
-loop-at-init c = (omega arith, xored-none 0 _ _, omega arith)
+loop-at-init c = (omega arith, xored-none 0 _ _)
 
 pub loop-at-smaller-then-from-b : goal.loop-at-smaller-then-from-b
 loop-at-smaller-then-from-b c =
@@ -36,39 +37,41 @@ pub loop-at-preserved-then-from-b : goal.loop-at-preserved-then-from-b
 loop-at-preserved-then-from-b c =
     let g = c.args in
     let l = c.loop-at in
-    let pair = c.block_pair-pair.ensures (length g.seed.now / 4) g.seed.now l.invariant.2 c.key_schedule-keys.ensures in
-    let added = block-added (length g.seed.now / 4) g.seed.now g.x g.first in
+    let pair = c.block_pair-pair.ensures in
+    let key = c.new-schedule.result in
+    let added = block-added (words key) key g.x g.first in
     let one = c.add_block-mid.ensures in
     let two = c.add_block-at.ensures in
     let size = l.invariant.1.size in
     let size2 = one.1.size in (
       omega (arith, two.0, one.0),
-      added _ _ _ _ _ _ _ _ pair.1 (omega (arith, one.0)) (omega (arith, two.0)) (omega (arith, two.0))
-          (added _ _ _ _ _ _ _ _ pair.0 (omega arith) (omega (arith, one.0)) (omega (arith, one.0)) l.invariant.1 one.1)
+      added _ _ _ _ _ _ _ _ pair.second (omega (arith, one.0)) (omega (arith, two.0)) (omega (arith, two.0))
+          (added _ _ _ _ _ _ _ _ pair.first (omega arith) (omega (arith, one.0)) (omega (arith, one.0)) l.invariant.1 one.1)
           two.1,
-      l.invariant.2,
     )
 
 pub loop-at-preserved : goal.loop-at-preserved
 loop-at-preserved c =
     let g = c.args in
     let l = c.loop-at in
-    let block = c.block-block.ensures (length g.seed.now / 4) g.seed.now l.invariant.2 c.key_schedule-keys.ensures in
+    let key = c.new-schedule.result in
     let one = c.add_block-at-else-from-b.ensures in
     let size = l.invariant.1.size in (
       omega (arith, one.0),
-      block-added (length g.seed.now / 4) g.seed.now g.x g.first _ _ _ _ _ _ _ _ block (omega arith) (omega (arith, one.0)) (omega (arith, one.0)) l.invariant.1 one.1,
-      l.invariant.2,
+      block-added (words key) key g.x g.first _ _ _ _ _ _ _ _ c.block-block.ensures (omega arith) (omega (arith, one.0)) (omega (arith, one.0)) l.invariant.1 one.1,
     )
 
 pub shape_of-sum : goal.shape_of-sum
 shape_of-sum c = c.loop-at.invariant.1.size
 
 pub returns : goal.returns
-returns c = λ nk words.
+returns c = λ nk four.
     let g = c.args in
     let l = c.loop-at in
+    let made = c.new-schedule.ensures in
     let e : l.at ≡ length g.sum.now = omega arith in
-    let d : length g.seed.now / 4 ≡ nk = omega arith in
-    subst (λ (m : ℕ). Xored 0 (length g.sum.now) (λ p. byte_of m g.seed.now g.x (g.first + p)) g.sum.now l.sum) d
-    (subst (λ (n : ℕ). Xored 0 n (λ p. byte_of (length g.seed.now / 4) g.seed.now g.x (g.first + p)) g.sum.now l.sum) e l.invariant.1)
+    let d : words g.seed.now ≡ nk = omega arith in
+    let f : ℕ → List ℕ → ℕ → Type 0 = λ m key n. Xored 0 n (λ p. byte_of m key g.x (g.first + p)) g.sum.now l.sum in
+    subst (λ (n : ℕ). f nk g.seed.now n) e
+    (subst (λ (m : ℕ). f m g.seed.now l.at) d
+    (subst (λ (key : List ℕ). f (words key) key l.at) made l.invariant.1))

@@ -5,6 +5,4 @@ use Rattle.shake.proofs.h0.Goals as goal
 
 pub returns : goal.returns
 unfolding hash0
-returns c =
-    let none = c.new-s.ensures.0 c.args.rate c.requires.1 in
-    c.hash.ensures c.args.iv.now (c.absorb-t.ensures.holds [] none)
+returns c = rw (c.absorb.ensures.rate, c.new.ensures.0) at (c.hash.ensures c.args.iv.now (c.absorb.ensures.holds [] c.new.ensures.1))

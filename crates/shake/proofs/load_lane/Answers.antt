@@ -1,7 +1,7 @@
 -- A list of eight bytes is its eight elements, and of these the number computes to the sum.
-use mathlib.Core.Path.{refl, sym, ap, ◌∙◌}
+use native.Mathlib.Omega.{arith}
+use mathlib.Core.Path.{◌≡◌, refl, sym, ap, ◌∙◌}
 use Prim.Native.Nat.{◌+◌, ◌*◌}
-use native.Mathlib.Nat.{add-zero}
 use lib.ListN.{get_or}
 use Rattle.laws.proofs.Lists.{is-tabulate}
 use Rattle.spec.specs.Bytes.{tabulate, number}
@@ -11,13 +11,8 @@ pub returns : goal.returns
 unfolding tabulate number
 returns c =
     let p = c.args.p.now in
-    let top = c.wide-b7.ensures.0 ∙ sym (add-zero (get_or p 7 0)) in
-    (λ k.
-    c.wide-b0.ensures.0 k
-    + (c.wide-b1.ensures.0 k
-    + (c.wide-b2.ensures.0 k
-    + (c.wide-b3.ensures.0 k
-    + (c.wide-b4.ensures.0 k
-    + (c.wide-b5.ensures.0 k
-    + (c.wide-b6.ensures.0 k + top k * 256) * 256) * 256) * 256) * 256) * 256) * 256)
-    ∙ ap (number 8) (sym (is-tabulate 8 (λ i. get_or p i 0) 0 p c.requires (λ i h. refl)))
+    let at = get_or p in
+    let read = c.from_le_bytes.ensures in
+    let sum : c.from_le_bytes.result ≡ at 0 0 + (at 1 0 + (at 2 0 + (at 3 0 + (at 4 0 + (at 5 0 + (at 6 0 + (at 7 0 + 0) * 256) * 256) * 256) * 256) * 256) * 256) * 256 =
+    omega arith in
+    sum ∙ ap (number 8) (sym (is-tabulate 8 (λ i. at i 0) 0 p c.requires (λ i h. refl)))

@@ -22,12 +22,12 @@ module _ (s block out : List ℕ) (fits : length out ≤ 168) (e : block ≡ tab
 pub slice_bounds-copy-end : goal.slice_bounds-copy-end
 slice_bounds-copy-end c =
     let block = c.state_bytes-block in
-    sym (front_length c.args.s.lanes block.result c.args.out.now c.requires block.ensures)
+    sym (front_length c.args.lanes block.result c.args.out.now c.requires block.ensures)
 
 pub copy-requires : goal.copy-requires
 copy-requires c =
     let block = c.state_bytes-block in
-    let n = front_length c.args.s.lanes block.result c.args.out.now c.requires block.ensures in
+    let n = front_length c.args.lanes block.result c.args.out.now c.requires block.ensures in
     omega arith
 
 pub returns : goal.returns
@@ -37,8 +37,8 @@ returns c =
     let src = take (length out) block.result in
     c.copy.ensures
     ∙ rw (
-      front_length c.args.s.lanes block.result out c.requires block.ensures,
+      front_length c.args.lanes block.result out c.requires block.ensures,
       drop-length out,
       append-nil src,
     )
-    (front c.args.s.lanes block.result out c.requires block.ensures)
+    (front c.args.lanes block.result out c.requires block.ensures)

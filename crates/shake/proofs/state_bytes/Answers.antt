@@ -1,6 +1,6 @@
 use mathlib.Core.Path.{◌≡◌, sym, ap, ap₂, ◌∙◌}
 use mathlib.Core.List.{List, ◌++◌}
-use Prim.Native.Nat.{ℕ, ◌+◌, ◌-◌, ◌*◌, ◌/◌, ◌%◌, ◌^◌, ◌≤◌}
+use Prim.Native.Nat.{ℕ, ◌+◌, ◌-◌, ◌*◌, ◌/◌, ◌%◌, ◌^◌}
 use native.Mathlib.Omega.{arith}
 use lib.ListN.{length, get_or, take, drop}
 use Rattle.laws.proofs.Division.{quotient, remainder}
@@ -19,13 +19,13 @@ lane-bytes s j =
 
 pub loop-j-init : goal.loop-j-init
 unfolding zeros
-loop-j-init c = (omega arith, sym (filled_none (state_byte c.args.s) (zeros 168)))
+loop-j-init c = sym (filled_none (state_byte c.args.s) (zeros 168))
 
 pub slice_bounds-block-end : goal.slice_bounds-block-end
 unfolding zeros
 slice_bounds-block-end c =
     let l = c.loop-j in
-    let same = ap length l.invariant.1 ∙ length-filled (state_byte c.args.s) (zeros 168) (8 * l.j) (omega arith) in
+    let same = ap length l.invariant ∙ length-filled (state_byte c.args.s) (zeros 168) (8 * l.j) (omega arith) in
     omega arith
 
 pub loop-j-preserved : goal.loop-j-preserved
@@ -35,12 +35,10 @@ loop-j-preserved c =
     let l = c.loop-j in
     let ys = c.store_lane.new.out in
     let eight : 8 * l.j + 8 - 8 * l.j ≡ 8 = omega arith in
-    let next : 8 * (l.j + 1) ≡ 8 * l.j + 8 = omega arith in (
-      omega arith,
-      ap₂ (λ (n : ℕ) (t : List ℕ). take (8 * l.j) t ++ (ys ++ drop n (drop (8 * l.j) t))) eight l.invariant.1
-          ∙ filled_put (state_byte s) (zeros 168) (8 * l.j) 8 ys (c.store_lane.ensures ∙ lane-bytes s l.j)
-          ∙ ap (λ (n : ℕ). filled n (state_byte s) (zeros 168)) (sym next),
-    )
+    let next : 8 * (l.j + 1) ≡ 8 * l.j + 8 = omega arith in
+    ap₂ (λ (n : ℕ) (t : List ℕ). take (8 * l.j) t ++ (ys ++ drop n (drop (8 * l.j) t))) eight l.invariant
+    ∙ filled_put (state_byte s) (zeros 168) (8 * l.j) 8 ys (c.store_lane.ensures ∙ lane-bytes s l.j)
+    ∙ ap (λ (n : ℕ). filled n (state_byte s) (zeros 168)) (sym next)
 
 pub returns : goal.returns
 unfolding zeros
@@ -48,4 +46,4 @@ returns c =
     let s = c.args.s in
     let l = c.loop-j in
     let all : 8 * l.j ≡ 168 = omega arith in
-    l.invariant.1 ∙ filled-end (state_byte s) (zeros 168) (8 * l.j) (omega arith) ∙ ap (λ (n : ℕ). tabulate n (state_byte s)) all
+    l.invariant ∙ filled-end (state_byte s) (zeros 168) (8 * l.j) (omega arith) ∙ ap (λ (n : ℕ). tabulate n (state_byte s)) all

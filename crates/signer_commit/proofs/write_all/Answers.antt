@@ -18,7 +18,7 @@ use Rattle.signer_commit.proofs.Answers.{commit-writes}
 use Rattle.signer_commit.proofs.write_all.Goals as goal
 
 pub grow-requires : goal.grow-requires
-grow-requires c = (record { sbox_table = c.table-t.ensures; s_value = (c.requires.s_value.0, c.requires.s_value.2, c.requires.commitment_len.1) })
+grow-requires c = (c.requires.s_value.0, c.requires.s_value.2, c.requires.commitment_len.1)
 
 pub write_vectors-requires : goal.write_vectors-requires
 unfolding nodes_bytes
@@ -28,7 +28,7 @@ write_vectors-requires c =
     let q = c.requires.commitment_len in
     let keys = keys-same g.s _ _ _ c.load_iv-x.ensures c.hash_keys.ensures in
     let lent-tree = c.grow.auto.tree ∙ q.1 in
-    record { lent = (record { job = record { shape = p.0; kind = two_fits g.s; row = p.1 }; table = c.table-t.ensures; tree = lent-tree }, keys, q.2, p.5); u_len = (q.3, q.4, q.5) }
+    record { lent = (record { job = record { shape = p.0; kind = two_fits g.s; row = p.1 }; tree = lent-tree }, keys, q.2, p.5); u_len = (q.3, q.4, q.5) }
 
 pub h1-requires : goal.h1-requires
 h1-requires c = (let r = c.rate_bytes-r.ensures in (r.2, r.1))

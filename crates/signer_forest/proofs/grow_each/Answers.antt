@@ -24,7 +24,7 @@ use Rattle.signer_forest.proofs.grow_each.Goals.{After-first_node}
 at : (c : After-first_node) → Placed c.args.s c.loop-i.i c.node_bytes-n.result c.entry_count-inner.result c.first_node.result (length c.loop-i.trees) (length c.args.roots.now)
 at c =
     let l = c.loop-i in
-    placed c.args.s l.i _ _ _ _ _ c.requires.s_value.0 (omega arith) c.node_bytes-n.ensures.0 c.entry_count-inner.ensures.0 c.first_node.ensures.0 l.invariant.1 c.requires.s_value.1
+    placed c.args.s l.i _ _ _ _ _ c.requires.0 (omega arith) c.node_bytes-n.ensures.0 c.entry_count-inner.ensures.0 c.first_node.ensures.0 l.invariant.1 c.requires.1
 
 -- what `grow_tree` writes is the tree of vector i
 grown : (s : Shape) (roots iv : List ℕ) (i n e m : ℕ) (y : List ℕ) → n ≡ node_bytes s → e ≡ entries_of s i → m ≡ n → y ≡ expand_tree n (part roots (n * i) m) (children faest1 s iv) (e - 1) → y ≡ tree s roots iv i
@@ -37,8 +37,8 @@ pub loop-i-init : goal.loop-i-init
 unfolding concat
 loop-i-init c =
     let s = c.args.s in
-    let none : node_bytes s * first_node s 0 ≡ 0 = ap (λ (m : ℕ). node_bytes s * m) (node-none s (shape-facts s c.requires.s_value.0)) ∙ mul-zero (node_bytes s) in
-    (omega arith, c.requires.s_value.2, ap (λ (m : ℕ). take m c.args.trees.now) none)
+    let none : node_bytes s * first_node s 0 ≡ 0 = ap (λ (m : ℕ). node_bytes s * m) (node-none s (shape-facts s c.requires.0)) ∙ mul-zero (node_bytes s) in
+    (omega arith, c.requires.2, ap (λ (m : ℕ). take m c.args.trees.now) none)
 
 pub overflow_mul-from : goal.overflow_mul-from
 overflow_mul-from c = let p = at (goal.at.overflow_mul-from c).After-first_node in omega arith
@@ -75,10 +75,10 @@ grow_tree-requires c =
     let e = c.entry_count-inner.result in
     let f = c.first_node.result in
     let p = at (goal.at.grow_tree-requires c).After-first_node in
-    let w = widths g.s (shape-facts g.s c.requires.s_value.0) in
+    let w = widths g.s (shape-facts g.s c.requires.0) in
     let own = lent (n.result * l.i) (n.result * l.i + n.result) n.result g.roots.now refl p.root in
     let whole = lent (n.result * f) (n.result * f + n.result * (2 * (e - 1) + 1)) (n.result * (2 * (e - 1) + 1)) l.trees refl p.room in
-    record { sbox_table = c.requires.sbox_table; le_n = (n.ensures.1, n.ensures.2, ap (λ (m : ℕ). m % 8) n.ensures.0 ∙ w.node-eight, own, whole, omega arith) }
+    (n.ensures.1, n.ensures.2, ap (λ (m : ℕ). m % 8) n.ensures.0 ∙ w.node-eight, own, whole, omega arith)
 
 pub loop-i-preserved : goal.loop-i-preserved
 unfolding primitives_of
@@ -94,7 +94,7 @@ loop-i-preserved c =
     let from = n.result * f.result in
     let size = n.result * (2 * (e.result - 1) + 1) in
     let whole = lent from (from + size) size l.trees refl p.room in
-    let is = grown g.s g.roots.now g.iv l.i n.result e.result (n.result * l.i + n.result - n.result * l.i) y n.ensures.0 e.ensures.0 (omega arith) (made.ensures g.s c.requires.s_value.0 n.ensures.0) in (
+    let is = grown g.s g.roots.now g.iv l.i n.result e.result (n.result * l.i + n.result - n.result * l.i) y n.ensures.0 e.ensures.0 (omega arith) (made.ensures g.s c.requires.0 n.ensures.0) in (
       omega arith,
       omega (arith, l.invariant.1),
       put-behind (tree g.s g.roots.now g.iv) from (node_bytes g.s * first_node g.s l.i) size _ l.i l.trees y _ (ap₂ ◌*◌ n.ensures.0 f.ensures.0) p.next p.room
@@ -108,5 +108,5 @@ returns c =
     let s = g.s in
     let l = c.loop-i in
     let last : l.i ≡ s.tau = omega arith in
-    let all : length l.trees ≡ node_bytes s * first_node s l.i = l.invariant.1 ∙ ap (λ (m : ℕ). node_bytes s * m) (sym (ap (first_node s) last ∙ node-all s (shape-facts s c.requires.s_value.0))) in
+    let all : length l.trees ≡ node_bytes s * first_node s l.i = l.invariant.1 ∙ ap (λ (m : ℕ). node_bytes s * m) (sym (ap (first_node s) last ∙ node-all s (shape-facts s c.requires.0))) in
     sym (take_all (node_bytes s * first_node s l.i) l.trees (omega arith)) ∙ l.invariant.2 ∙ ap (λ (m : ℕ). concat m (tree s g.roots.now g.iv)) last

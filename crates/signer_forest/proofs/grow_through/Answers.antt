@@ -19,25 +19,25 @@ use Rattle.signer_forest.proofs.grow_through.Goals as goal
 pub fill-requires : goal.fill-requires
 fill-requires c =
     let s = c.args.s in
-    let p = c.requires.s_value in
+    let p = c.requires in
     let f = shape-facts s p.0 in
     let w = widths s f in
     let most = mul-limit (node_bytes s) s.tau 32 32 w.node-max f.tau-max in
     let long = p.1 in
     let size = p.3 in
-    record { sbox_table = c.requires.sbox_table; in_bounds = (omega arith, omega arith, ap (λ (m : ℕ). m % 8) p.1 ∙ w.node-eight, omega arith) }
+    (omega arith, omega arith, ap (λ (m : ℕ). m % 8) p.1 ∙ w.node-eight, omega arith)
 
 pub grow_each-requires : goal.grow_each-requires
 grow_each-requires c =
     let p = c.requires in
-    record { sbox_table = p.sbox_table; s_value = (p.s_value.0, c.fill.auto.out ∙ p.s_value.3, p.s_value.2) }
+    (p.0, c.fill.auto.out ∙ p.3, p.2)
 
 pub returns : goal.returns
 unfolding prg prg1 vector_root vector_tree signer_trees primitives_of
 returns c =
     let g = c.args in
     let s = g.s in
-    let p = c.requires.s_value in
+    let p = c.requires in
     let key = g.root.now in
     let w = widths s (shape-facts s p.0) in
     let f : ℕ → ℕ = byte_of (key_words s) key (record { iv = g.iv; tweak = 0; version = One }) in

@@ -14,14 +14,14 @@ room : (s : Shape) (n : ℕ) → shape_ok s ≡ true → n ≤ 32 → n * s.tau 
 room s n ok h = mul-limit n s.tau 32 32 h (shape-facts s ok).tau-max
 
 pub overflow_mul-end : goal.overflow_mul-end
-overflow_mul-end c = let r = room c.args.s c.node_bytes.result c.requires.s_value.0 c.node_bytes.ensures.2 in omega arith
+overflow_mul-end c = let r = room c.args.s c.node_bytes.result c.requires.0 c.node_bytes.ensures.2 in omega arith
 
 pub slice_bounds-roots-end : goal.slice_bounds-roots-end
-slice_bounds-roots-end c = let r = room c.args.s c.node_bytes.result c.requires.s_value.0 c.node_bytes.ensures.2 in omega arith
+slice_bounds-roots-end c = let r = room c.args.s c.node_bytes.result c.requires.0 c.node_bytes.ensures.2 in omega arith
 
 pub grow_through-requires : goal.grow_through-requires
 grow_through-requires c =
     let g = c.args in
     let n = c.node_bytes in
     let end = n.result * g.s.tau in
-    record { sbox_table = c.requires.sbox_table; s_value = (c.requires.s_value.0, c.requires.s_value.1, c.requires.s_value.2, lent 0 end end _ (omega arith) (let r = room c.args.s c.node_bytes.result c.requires.s_value.0 c.node_bytes.ensures.2 in omega arith) ∙ ap (λ (m : ℕ). m * g.s.tau) n.ensures.0) }
+    (c.requires.0, c.requires.1, c.requires.2, lent 0 end end _ (omega arith) (let r = room c.args.s c.node_bytes.result c.requires.0 c.node_bytes.ensures.2 in omega arith) ∙ ap (λ (m : ℕ). m * g.s.tau) n.ensures.0)

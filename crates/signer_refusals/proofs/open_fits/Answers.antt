@@ -1,9 +1,9 @@
 -- Each length is that of its name; a challenge has as many bytes as a node.
-use mathlib.Core.Path.{refl}
+use Rattle.std.proofs.Math.Bool.{and-true}
 use Rattle.spec.specs.Shapes.{node_bytes, challenge_bytes}
 use Rattle.signer_refusals.proofs.open_fits.Goals as goal
 
 pub returns : goal.returns
 unfolding node_bytes challenge_bytes
 returns c =
-    rw (c.node_bytes-node.ensures.0, c.tree_bytes-tree.ensures.0, c.leaf_commitments_bytes-lcs.ensures.0, c.opening_bytes-opening.ensures.0) refl
+    rw (and-true, ← c.node_bytes.ensures.0, ← c.tree_bytes.ensures.0, ← c.leaf_commitments_bytes.ensures.0, ← c.opening_bytes.ensures.0) c.eq.ensures

@@ -19,11 +19,11 @@ grow_tree-requires c =
     let g = c.args in
     let n = c.node_bytes-n in
     let count = c.leaf_count-inner in
-    let w = widths g.s (shape-facts g.s c.requires.s_value.0) in
+    let w = widths g.s (shape-facts g.s c.requires.0) in
     let size : 2 * leaves g.s - 1 ≡ 2 * (count.result - 1) + 1 = (let e = count.ensures.0 in let p = count.ensures.1 in omega arith) in
-    let all : length g.tree.now ≡ n.result * (2 * (count.result - 1) + 1) = c.requires.s_value.2 ∙ ap₂ ◌*◌ (sym n.ensures.0) size in
+    let all : length g.tree.now ≡ n.result * (2 * (count.result - 1) + 1) = c.requires.2 ∙ ap₂ ◌*◌ (sym n.ensures.0) size in
     let most = mul-limit n.result (2 * (count.result - 1) + 1) 32 172031 n.ensures.2 (let m = count.ensures.2 in omega arith) in
-    record { sbox_table = c.requires.sbox_table; le_n = (n.ensures.1, n.ensures.2, ap (λ (m : ℕ). m % 8) n.ensures.0 ∙ w.node-eight, c.requires.s_value.1 ∙ sym n.ensures.0, all, omega arith) }
+    (n.ensures.1, n.ensures.2, ap (λ (m : ℕ). m % 8) n.ensures.0 ∙ w.node-eight, c.requires.1 ∙ sym n.ensures.0, all, omega arith)
 
 pub returns : goal.returns
 unfolding signer_tree primitives_of
@@ -31,5 +31,5 @@ returns c =
     let g = c.args in
     let n = c.node_bytes-n in
     let count = c.leaf_count-inner in
-    c.grow_tree.ensures g.s c.requires.s_value.0 n.ensures.0
+    c.grow_tree.ensures g.s c.requires.0 n.ensures.0
     ∙ ap₂ (λ (m x : ℕ). expand_tree m g.root.now (children faest g.s g.iv) (x - 1)) n.ensures.0 count.ensures.0

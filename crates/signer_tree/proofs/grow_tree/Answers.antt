@@ -19,7 +19,7 @@ inside n inner a k d l h = (let m = mul-limit n (2 * a + k) n (2 * inner + 1) (l
 pub copy-requires : goal.copy-requires
 copy-requires c =
     let g = c.args in
-    let p = c.requires.le_n in
+    let p = c.requires in
     let i = inside g.n g.inner 0 1 (length g.tree.now) p.4 (omega arith) in
     let one : g.n * 1 ≡ g.n = mul-one g.n in
     let r = p.3 in
@@ -29,7 +29,7 @@ pub loop-a-init : goal.loop-a-init
 unfolding expand_tree
 loop-a-init c =
     let g = c.args in
-    let p = c.requires.le_n in
+    let p = c.requires in
     let r = g.root.now in
     let x = g.tree.now in
     let copied = c.copy.ensures in
@@ -45,10 +45,10 @@ loop-a-init c =
 pub expand_node-requires : goal.expand_node-requires
 expand_node-requires c =
     let g = c.args in
-    let p = c.requires.le_n in
+    let p = c.requires in
     let l = c.loop-a in
     let i = inside g.n g.inner l.a 3 (length l.tree) l.invariant.1 (omega arith) in
-    record { sbox_table = c.requires.sbox_table; le_n = (p.0, p.1, p.2, i, l.invariant.2) }
+    (p.0, p.1, p.2, i, l.invariant.2)
 
 pub loop-a-preserved : goal.loop-a-preserved
 loop-a-preserved c =

@@ -1,5 +1,5 @@
--- What `key_schedule` and `fill_keyed` ensure of the parts they are lent.
-use mathlib.Core.Path.{◌≡◌, sym, ap, ap₂, subst, ◌∙◌}
+-- What `KeySchedule::new` and `fill_keyed` ensure of the parts they are lent.
+use mathlib.Core.Path.{◌≡◌, sym, ap, ap₂, ◌∙◌}
 use mathlib.Core.List.{List, ◌++◌}
 use Prim.Native.Nat.{ℕ, ◌+◌, ◌-◌, ◌*◌, ◌/◌, ◌%◌, ◌^◌, ◌≤◌, ◌<◌}
 use native.Mathlib.Nat.{le-add_right}
@@ -15,7 +15,7 @@ use Rattle.laws.proofs.Lists.{length_part, tabulate-from-0}
 use Rattle.laws.proofs.Concat.{mul-limit}
 use Rattle.laws.proofs.Putting.{behind}
 use Rattle.planning_laws.proofs.ShapeFacts.{shape-facts, widths}
-use Rattle.aes_keys.specs.RoundKeys.{Keyed}
+use Rattle.aes_keys.specs.RoundKeys.{words as words_of}
 use Rattle.tree.proofs.Growing.{node-place}
 use Rattle.tree.proofs.expand_node.Goals as goal
 
@@ -49,43 +49,43 @@ two_size n a x p =
     ap (λ (m : ℕ). length (part x from m)) two ∙ length_part x from (2 * n) p.room
 
 pub overflow_mul-from : goal.overflow_mul-from
-overflow_mul-from c = (let p = places c.args.n c.args.a (length c.args.tree.now) c.requires.le_n in omega arith)
+overflow_mul-from c = (let p = places c.args.n c.args.a (length c.args.tree.now) c.requires in omega arith)
 
 pub overflow_add-from : goal.overflow_add-from
-overflow_add-from c = (let p = places c.args.n c.args.a (length c.args.tree.now) c.requires.le_n in omega arith)
+overflow_add-from c = (let p = places c.args.n c.args.a (length c.args.tree.now) c.requires in omega arith)
 
 pub overflow_mul-from-2 : goal.overflow_mul-from-2
-overflow_mul-from-2 c = (let p = places c.args.n c.args.a (length c.args.tree.now) c.requires.le_n in omega (arith, c.requires.le_n.4))
+overflow_mul-from-2 c = (let p = places c.args.n c.args.a (length c.args.tree.now) c.requires in omega (arith, c.requires.4))
 
 pub overflow_mul-n : goal.overflow_mul-n
-overflow_mul-n c = (let p = places c.args.n c.args.a (length c.args.tree.now) c.requires.le_n in omega (arith, c.requires.le_n.4))
+overflow_mul-n c = (let p = places c.args.n c.args.a (length c.args.tree.now) c.requires in omega (arith, c.requires.4))
 
 pub overflow_mul-n-2 : goal.overflow_mul-n-2
-overflow_mul-n-2 c = (let p = places c.args.n c.args.a (length c.args.tree.now) c.requires.le_n in omega (arith, c.requires.le_n.4))
+overflow_mul-n-2 c = (let p = places c.args.n c.args.a (length c.args.tree.now) c.requires in omega (arith, c.requires.4))
 
 pub overflow_add-n : goal.overflow_add-n
-overflow_add-n c = (let p = places c.args.n c.args.a (length c.args.tree.now) c.requires.le_n in omega (arith, c.requires.le_n.4))
+overflow_add-n c = (let p = places c.args.n c.args.a (length c.args.tree.now) c.requires in omega (arith, c.requires.4))
 
-pub slice_bounds-key_schedule-count : goal.slice_bounds-key_schedule-count
-slice_bounds-key_schedule-count c = le-add_right _ _
+pub slice_bounds-new-count : goal.slice_bounds-new-count
+slice_bounds-new-count c = le-add_right _ _
 
-pub slice_bounds-key_schedule-start : goal.slice_bounds-key_schedule-start
-slice_bounds-key_schedule-start c = le-add_right _ _
+pub slice_bounds-new-start : goal.slice_bounds-new-start
+slice_bounds-new-start c = le-add_right _ _
 
-pub slice_bounds-key_schedule-end : goal.slice_bounds-key_schedule-end
-slice_bounds-key_schedule-end c = (let p = places c.args.n c.args.a (length c.args.tree.now) c.requires.le_n in omega arith)
+pub slice_bounds-new-end : goal.slice_bounds-new-end
+slice_bounds-new-end c = (let p = places c.args.n c.args.a (length c.args.tree.now) c.requires in omega arith)
 
-pub key_schedule-keys-requires : goal.key_schedule-keys-requires
-key_schedule-keys-requires c =
-    let p = c.requires.le_n in
-    let e = key-size c.args.n c.args.a c.args.tree.now (places c.args.n c.args.a (length c.args.tree.now) c.requires.le_n) in
-    record { sbox_table = c.requires.sbox_table; in_bounds = (omega (arith, p.0), omega (arith, p.1), ap (λ (m : ℕ). m % 8) e ∙ p.2) }
+pub new-schedule-requires : goal.new-schedule-requires
+new-schedule-requires c =
+    let p = c.requires in
+    let e = key-size c.args.n c.args.a c.args.tree.now (places c.args.n c.args.a (length c.args.tree.now) c.requires) in
+    (omega (arith, p.0), omega (arith, p.1), ap (λ (m : ℕ). m % 8) e ∙ p.2)
 
 pub overflow_cast-x : goal.overflow_cast-x
-overflow_cast-x c = (let p = places c.args.n c.args.a (length c.args.tree.now) c.requires.le_n in omega arith)
+overflow_cast-x c = (let p = places c.args.n c.args.a (length c.args.tree.now) c.requires in omega arith)
 
 pub overflow_add-from-2 : goal.overflow_add-from-2
-overflow_add-from-2 c = (let p = places c.args.n c.args.a (length c.args.tree.now) c.requires.le_n in omega (arith, c.requires.le_n.4))
+overflow_add-from-2 c = (let p = places c.args.n c.args.a (length c.args.tree.now) c.requires in omega (arith, c.requires.4))
 
 pub slice_bounds-fill_keyed-count : goal.slice_bounds-fill_keyed-count
 slice_bounds-fill_keyed-count c = le-add_right _ _
@@ -94,14 +94,14 @@ pub slice_bounds-fill_keyed-start : goal.slice_bounds-fill_keyed-start
 slice_bounds-fill_keyed-start c = le-add_right _ _
 
 pub slice_bounds-fill_keyed-end : goal.slice_bounds-fill_keyed-end
-slice_bounds-fill_keyed-end c = (let p = places c.args.n c.args.a (length c.args.tree.now) c.requires.le_n in omega arith)
+slice_bounds-fill_keyed-end c = (let p = places c.args.n c.args.a (length c.args.tree.now) c.requires in omega arith)
 
 pub fill_keyed-requires : goal.fill_keyed-requires
 fill_keyed-requires c =
-    let p = c.requires.le_n in
-    let e = two_size c.args.n c.args.a c.args.tree.now (places c.args.n c.args.a (length c.args.tree.now) c.requires.le_n) in
+    let p = c.requires in
+    let e = two_size c.args.n c.args.a c.args.tree.now (places c.args.n c.args.a (length c.args.tree.now) c.requires) in
     let n = c.args.n in
-    record { sbox_table = c.requires.sbox_table; le_rounds = (omega (arith, p.0), omega (arith, p.1), omega (arith, p.2), omega (arith, p.1)) }
+    omega (arith, p.1)
 
 pub returns : goal.returns
 unfolding prg children
@@ -111,19 +111,19 @@ returns c = λ s ok e.
     let n = g.n in
     let a = g.a in
     let from = n * (2 * a + 1) in
-    let p = places c.args.n c.args.a (length c.args.tree.now) c.requires.le_n in
+    let p = places c.args.n c.args.a (length c.args.tree.now) c.requires in
     let w = widths s (shape-facts s ok) in
     let words : n ≡ 4 * key_words s = e ∙ w.node-words in
     let one : n * a + n - n * a ≡ n = omega arith in
     let key : part x (n * a) (n * a + n - n * a) ≡ part x (n * a) n = ap (part x (n * a)) one in
-    let schedule = c.key_schedule-keys in
-    let quarter : length (part x (n * a) (n * a + n - n * a)) / 4 ≡ key_words s = (let k = key-size c.args.n c.args.a c.args.tree.now (places c.args.n c.args.a (length c.args.tree.now) c.requires.le_n) in omega arith) in
-    let keyed = subst (λ (m : ℕ). Keyed m (part x (n * a) (n * a + n - n * a)) schedule.result) quarter schedule.ensures in
-    let rounds : n / 4 + 6 ≡ key_words s + 6 = omega arith in
+    let schedule = c.new-schedule in
+    let quarter : length (part x (n * a) (n * a + n - n * a)) / 4 ≡ key_words s = (let k = key-size c.args.n c.args.a c.args.tree.now (places c.args.n c.args.a (length c.args.tree.now) c.requires) in omega arith) in
+    let nk : words_of schedule.result ≡ key_words s = ap words_of schedule.ensures ∙ quarter in
     let f : List ℕ → ℕ → ℕ = λ k. byte_of (key_words s) k (record { iv = g.iv; tweak = a; version = g.version }) in
     let made =
-    c.fill_keyed.ensures (key_words s) _ rounds keyed
-    ∙ ap₂ (λ (m : ℕ) (k : List ℕ). tabulate m (λ q. f k (0 + q))) (two_size c.args.n c.args.a c.args.tree.now (places c.args.n c.args.a (length c.args.tree.now) c.requires.le_n) ∙ ap (λ (m : ℕ). 2 * m) e) key
+    c.fill_keyed.ensures
+    ∙ ap (λ (m : ℕ). tabulate (length (part x from (from + 2 * n - from))) (λ q. byte_of m schedule.result (record { iv = g.iv; tweak = a; version = g.version }) (0 + q))) nk
+    ∙ ap₂ (λ (m : ℕ) (k : List ℕ). tabulate m (λ q. f k (0 + q))) (two_size c.args.n c.args.a c.args.tree.now (places c.args.n c.args.a (length c.args.tree.now) c.requires) ∙ ap (λ (m : ℕ). 2 * m) e) (schedule.ensures ∙ key)
     ∙ tabulate-from-0 (2 * node_bytes s) (f (part x (n * a) n))
     ∙ ap (tabulate (2 * node_bytes s)) (sym (prg-byte g.version s (part x (n * a) n) g.iv a)) in
     let rest : drop (from + 2 * n - from) (drop from x) ≡ drop (n * (2 * a + 3)) x = behind from (2 * n) x ∙ ap (λ (m : ℕ). drop m x) p.last in

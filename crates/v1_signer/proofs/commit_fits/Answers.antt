@@ -1,14 +1,7 @@
 -- Each length is that of its name.
-use mathlib.Core.Path.{refl}
+use Rattle.std.proofs.Math.Bool.{and-true}
 use Rattle.v1_signer.proofs.commit_fits.Goals as goal
 
 pub returns : goal.returns
 returns c =
-    rw (
-      c.node_bytes-node.ensures.0,
-      c.hash_bytes-hash.ensures.0,
-      c.trees_bytes-trees.ensures.0,
-      c.leaf_commitments_bytes-lcs.ensures.0,
-      c.matrix_bytes-v.ensures.0,
-      c.corrections_bytes-corrections.ensures.0,
-    ) refl
+    rw (and-true, ← c.node_bytes.ensures.0, ← c.hash_bytes.ensures.0, ← c.trees_bytes.ensures.0, ← c.leaf_commitments_bytes.ensures.0, ← c.matrix_bytes.ensures.0, ← c.corrections_bytes.ensures.0) c.eq.ensures

@@ -16,7 +16,7 @@ pub rate_bytes-r-requires : goal.rate_bytes-r-requires
 rate_bytes-r-requires c = (shape-parts _ c.requires.s_value.0).0
 
 pub grow_trees-requires : goal.grow_trees-requires
-grow_trees-requires c = (record { sbox_table = c.table-t.ensures; s_value = ((shape-parts _ c.requires.s_value.0).0, c.requires.s_value.2, c.requires.commitment_len.1) })
+grow_trees-requires c = ((shape-parts _ c.requires.s_value.0).0, c.requires.s_value.2, c.requires.commitment_len.1)
 
 pub write_vectors-requires : goal.write_vectors-requires
 write_vectors-requires c =
@@ -25,10 +25,9 @@ write_vectors-requires c =
     let q = c.requires.commitment_len in
     let job = c.job_of-g in
     let x = c.load_iv-x.result in
-    let box = c.table-t.ensures in
     let trees = c.grow_trees.auto.trees ∙ q.1 in
     let l = lent-lengths g.s g.b x job.result job.ensures g.lcs.now g.hashes.now g.u.now g.v.now g.corrections.now q.2 p.5 q.3 q.4 q.5 in
-    record { lent = (lent-job g.s g.b x job.result job.ensures _ _ p.0 p.1 box trees, no_keys g.s g.b x job.result job.ensures g.keys.now p.4, l.0, l.1); u_len = (l.2, l.3, l.4) }
+    record { lent = (lent-job g.s g.b x job.result job.ensures _ p.0 p.1 trees, no_keys g.s g.b x job.result job.ensures g.keys.now p.4, l.0, l.1); u_len = (l.2, l.3, l.4) }
 
 pub h1-requires : goal.h1-requires
 h1-requires c = (let r = c.rate_bytes-r.ensures in (r.2, r.1))

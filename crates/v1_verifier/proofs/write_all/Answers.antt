@@ -18,7 +18,7 @@ rate_bytes-r-requires c = (shape-parts _ c.requires.s_value.0).0
 pub reconstruct_trees-requires : goal.reconstruct_trees-requires
 reconstruct_trees-requires c =
     let p = c.requires.iv_len in
-    record { sbox_table = c.table-t.ensures; s_value = ((shape-parts _ c.requires.s_value.0).0, p.1, p.3, c.requires.commitment_len.1) }
+    ((shape-parts _ c.requires.s_value.0).0, p.1, p.3, c.requires.commitment_len.1)
 
 pub write_vectors-requires : goal.write_vectors-requires
 write_vectors-requires c =
@@ -28,10 +28,9 @@ write_vectors-requires c =
     let o = c.requires.commitment_len in
     let job = c.job_of-g in
     let x = c.load_iv-x.result in
-    let box = c.table-t.ensures in
     let trees = c.reconstruct_trees.auto.trees ∙ o.1 in
     let l = lent-lengths g.s g.b x job.result job.ensures g.ch.now g.opening.now g.lcs.now g.q.now g.hashes.now q.1 q.3 o.2 o.3 p.3 in
-    record { lent = (lent-job g.s g.b x job.result job.ensures _ _ p.0 p.1 box trees, no_keys g.s g.b x job.result job.ensures g.keys.now p.2, l.0, l.1); lcs_len = (l.2, l.3, l.4) }
+    record { lent = (lent-job g.s g.b x job.result job.ensures _ p.0 p.1 trees, no_keys g.s g.b x job.result job.ensures g.keys.now p.2, l.0, l.1); lcs_len = (l.2, l.3, l.4) }
 
 pub correct_vectors-requires : goal.correct_vectors-requires
 correct_vectors-requires c =

@@ -60,14 +60,14 @@ commit_leaf-requires c =
     let n = c.node_bytes-n in
     let a = n.result * c.leaf_node.result in
     let lent-tree = c.requires.lent.0 in
-    record { sbox_table = lent-tree.table; s_value = (lent-tree.job.shape, lent-tree.job.kind, lent a (a + n.result) n.result c.args.tree.now refl (leaf-end (goal.at.commit_leaf-requires c).After-leaf_node) ∙ n.ensures.0, c.requires.seed_len.0, c.requires.seed_len.1) }
+    (lent-tree.job.shape, lent-tree.job.kind, lent a (a + n.result) n.result c.args.tree.now refl (leaf-end (goal.at.commit_leaf-requires c).After-leaf_node) ∙ n.ensures.0, c.requires.seed_len.0, c.requires.seed_len.1)
 
 pub add_row-requires : goal.add_row-requires
 add_row-requires c =
     let job = c.requires.lent.0.job in
     let w = widths c.args.g.shape (shape-facts c.args.g.shape job.shape) in
     let e = seed-size (goal.at.add_row-requires c).After-commit_leaf in
-    record { sbox_table = c.requires.lent.0.table; in_bounds = (omega (arith, w.node-min), omega (arith, w.node-max), ap (λ (n : ℕ). n % 8) e ∙ w.node-eight, omega (arith, job.row, c.requires.seed_len.2)) }
+    (omega (arith, w.node-min), omega (arith, w.node-max), ap (λ (n : ℕ). n % 8) e ∙ w.node-eight, omega (arith, job.row, c.requires.seed_len.2))
 
 pub returns : goal.returns
 unfolding node_at entry_commitment entry_byte

@@ -19,31 +19,31 @@ here : (c : After-first_node-in-loop-i) →
     c.args.ch.now c.args.opening.now c.loop-i.trees
 here c =
     let g = c.args in
-    let p = c.requires.s_value in
+    let p = c.requires in
     lent g.s c.node_bytes-w.result c.loop-i.i c.depth_of-d.result _ _ _ _ g.ch.now g.opening.now c.loop-i.trees p.0 c.node_bytes-w.ensures.0
     c.loop-i-test.true c.depth_of-d.ensures.0 c.hidden_index-j.ensures.0
     c.decommitment_from-from.ensures.0 c.first_node.ensures.0 c.first_node-in-loop-i.ensures.0 p.2 (c.loop-i.invariant.1 ∙ p.3)
 
 pub node_bytes-w-requires : goal.node_bytes-w-requires
-node_bytes-w-requires c = c.requires.s_value.0
+node_bytes-w-requires c = c.requires.0
 
 pub loop-i-init : goal.loop-i-init
 unfolding concat
 loop-i-init c =
     let w = c.node_bytes-w.result in
-    (omega arith, refl, ap (λ (n : ℕ). take n c.args.trees.now) (ap (λ (n : ℕ). w * n) (node-none c.args.s (shape-facts c.args.s c.requires.s_value.0)) ∙ mul-zero w))
+    (omega arith, refl, ap (λ (n : ℕ). take n c.args.trees.now) (ap (λ (n : ℕ). w * n) (node-none c.args.s (shape-facts c.args.s c.requires.0)) ∙ mul-zero w))
 
 pub depth_of-d-requires : goal.depth_of-d-requires
-depth_of-d-requires c = c.requires.s_value.0
+depth_of-d-requires c = c.requires.0
 
 pub hidden_index-j-requires : goal.hidden_index-j-requires
-hidden_index-j-requires c = let p = c.requires.s_value in (p.0, p.1, c.loop-i-test.true)
+hidden_index-j-requires c = let p = c.requires in (p.0, p.1, c.loop-i-test.true)
 
 pub decommitment_from-from-requires : goal.decommitment_from-from-requires
-decommitment_from-from-requires c = (c.requires.s_value.0, omega arith)
+decommitment_from-from-requires c = (c.requires.0, omega arith)
 
 pub first_node-requires : goal.first_node-requires
-first_node-requires c = (c.requires.s_value.0, omega arith)
+first_node-requires c = (c.requires.0, omega arith)
 
 pub overflow_mul-at : goal.overflow_mul-at
 overflow_mul-at c =
@@ -53,7 +53,7 @@ overflow_mul-at c =
     omega arith
 
 pub first_node-requires-in-loop-i : goal.first_node-requires-in-loop-i
-first_node-requires-in-loop-i c = (c.requires.s_value.0, omega arith)
+first_node-requires-in-loop-i c = (c.requires.0, omega arith)
 
 pub overflow_mul-end : goal.overflow_mul-end
 overflow_mul-end c =
@@ -81,10 +81,8 @@ pub write_tree-requires : goal.write_tree-requires
 write_tree-requires c =
     let w = c.node_bytes-w.ensures in
     let s = c.args.s in
-    let v = here (goal.at.write_tree-requires c).After-first_node-in-loop-i in record {
-      sbox_table = c.requires.sbox_table;
-      le_w = (w.1, w.2, ap (λ (m : ℕ). m % 8) w.0 ∙ (widths s (shape-facts s c.requires.s_value.0)).node-eight, c.depth_of-d.ensures.1, v.index, v.slots, v.tree);
-    }
+    let v = here (goal.at.write_tree-requires c).After-first_node-in-loop-i in
+    (w.1, w.2, ap (λ (m : ℕ). m % 8) w.0 ∙ (widths s (shape-facts s c.requires.0)).node-eight, c.depth_of-d.ensures.1, v.index, v.slots, v.tree)
 
 pub loop-i-preserved : goal.loop-i-preserved
 loop-i-preserved c =
@@ -101,4 +99,4 @@ returns c =
     let s = c.args.s in
     let w = c.node_bytes-w in
     let l = c.loop-i in
-    all-stand s c.requires.s_value.0 w.result l.i w.ensures.0 l.trees (reconstructed_vector_tree faest1 s c.args.iv c.args.ch.now c.args.opening.now) (omega arith) (l.invariant.1 ∙ c.requires.s_value.3) l.invariant.2
+    all-stand s c.requires.0 w.result l.i w.ensures.0 l.trees (reconstructed_vector_tree faest1 s c.args.iv c.args.ch.now c.args.opening.now) (omega arith) (l.invariant.1 ∙ c.requires.3) l.invariant.2

@@ -34,9 +34,6 @@ inside w p a k n h l e r =
     let q = mul-limit w (2 * p - 1) 32 8191 h (omega arith) in
     (omega arith, omega arith)
 
-falls : (n a : ℕ) → a < n → n - (a + 1) < n - a
-falls n a h = omega arith
-
 -- the root is zeros
 root_stands : (w : ℕ) (d y : List ℕ) → w ≤ length d → y ≡ zeros (length (part d 0 (w - 0)) - 0) → take (w * 1) (take 0 d ++ (y ++ drop (w - 0) (drop 0 d))) ≡ zeros w
 root_stands w d y h e =
@@ -51,7 +48,7 @@ room w d a k n h l e r s = (let q = power d l in inside w (2 ^ d) a k n h q.2 e 
 
 -- the node that is met on the way is no leaf
 level : (c : Then-a-path) → c.loop-a.l < c.args.d
-level c = (let g = c.args in let l = c.loop-a in walk_inside g.d g.j l.a l.path l.l l.invariant.4 c.if-a-path.true (omega arith))
+level c = (let g = c.args in let l = c.loop-a in walk_inside g.d g.j l.a l.path l.l l.invariant.3 c.if-a-path.true (omega arith))
 
 -- the root is in the tree
 root-end : (w d n : ℕ) → w ≤ 32 → d ≤ 12 → n ≡ w * (2 * 2 ^ d - 1) → w ≤ n
@@ -62,23 +59,22 @@ root-end w d n h l e =
     omega arith
 
 pub slice_bounds-clear_from-end : goal.slice_bounds-clear_from-end
-slice_bounds-clear_from-end c = root-end c.args.w c.args.d _ c.requires.le_w.1 c.requires.le_w.3 c.requires.le_w.6
+slice_bounds-clear_from-end c = root-end c.args.w c.args.d _ c.requires.1 c.requires.3 c.requires.6
 
 pub overflow_sub-inner : goal.overflow_sub-inner
-overflow_sub-inner c = (let q = power c.args.d c.requires.le_w.3 in omega arith)
+overflow_sub-inner c = (let q = power c.args.d c.requires.3 in omega arith)
 
 pub loop-a-init : goal.loop-a-init
 unfolding expand_tree
 loop-a-init c =
     let g = c.args in
-    let p = c.requires.le_w in
+    let p = c.requires in
     let q = power g.d p.3 in (
-      omega arith,
       omega arith,
       omega arith,
       search rules,
       walk_start g.d g.j p.4,
-      λ s ch opening i v. root_stands g.w g.tree.now _ (root-end c.args.w c.args.d _ c.requires.le_w.1 c.requires.le_w.3 c.requires.le_w.6) c.clear_from.ensures,
+      λ s ch opening i v. root_stands g.w g.tree.now _ (root-end c.args.w c.args.d _ c.requires.1 c.requires.3 c.requires.6) c.clear_from.ensures,
     )
 
 pub overflow_sub-m : goal.overflow_sub-m
@@ -88,55 +84,47 @@ pub overflow_sub-m-then-a-path : goal.overflow_sub-m-then-a-path
 overflow_sub-m-then-a-path c = let l = level (goal.at.overflow_sub-m-then-a-path c).Then-a-path in omega arith
 
 pub overflow_shr-b : goal.overflow_shr-b
-overflow_shr-b c = omega (arith, c.requires.le_w.3)
+overflow_shr-b c = omega (arith, c.requires.3)
 
 pub write_covered-requires : goal.write_covered-requires
 write_covered-requires c =
-    let p = c.requires.le_w in
+    let p = c.requires in
     let m = mul-within c.args.w c.loop-a.l c.args.d (level (goal.at.write_covered-requires c).Then-a-path) in
-    let r = room c.args.w c.args.d c.loop-a.a 3 _ c.requires.le_w.1 c.requires.le_w.3 c.loop-a.invariant.3 (omega arith) (omega arith) in
+    let r = room c.args.w c.args.d c.loop-a.a 3 _ c.requires.1 c.requires.3 c.loop-a.invariant.2 (omega arith) (omega arith) in
     (p.0, omega arith, omega (arith, p.5), r.0, r.1)
-
-pub loop-a-smaller-then-a-path : goal.loop-a-smaller-then-a-path
-loop-a-smaller-then-a-path c = falls _ _ c.loop-a-test.true
 
 pub loop-a-preserved-then-a-path : goal.loop-a-preserved-then-a-path
 loop-a-preserved-then-a-path c =
     let g = c.args in
     let l = c.loop-a in
-    let up = c.if-a-path.true ∙ l.invariant.4.node in (
+    let up = c.if-a-path.true ∙ l.invariant.3.node in (
       l.invariant.0,
       l.invariant.1,
-      omega arith,
       search rules,
       walk-down g.d g.j l.a l.l (level (goal.at.loop-a-preserved-then-a-path c).Then-a-path) up,
       λ s ch opening i v.
-          way-grown g.w g.d g.j g.slots.now s ch opening i v c.requires.le_w.4 g.iv l.a l.l l.tree _ (level (goal.at.loop-a-preserved-then-a-path c).Then-a-path) up c.write_covered.ensures
-          (l.invariant.5 s ch opening i v),
+          way-grown g.w g.d g.j g.slots.now s ch opening i v c.requires.4 g.iv l.a l.l l.tree _ (level (goal.at.loop-a-preserved-then-a-path c).Then-a-path) up c.write_covered.ensures
+          (l.invariant.4 s ch opening i v),
     )
 
 pub expand_node-requires : goal.expand_node-requires
 expand_node-requires c =
-    let p = c.requires.le_w in
-    let r = room c.args.w c.args.d c.loop-a.a 3 _ c.requires.le_w.1 c.requires.le_w.3 c.loop-a.invariant.3 (omega arith) (omega arith) in
-    record { sbox_table = c.requires.sbox_table; le_n = (p.0, p.1, p.2, r.0, r.1) }
-
-pub loop-a-smaller : goal.loop-a-smaller
-loop-a-smaller c = falls _ _ c.loop-a-test.true
+    let p = c.requires in
+    let r = room c.args.w c.args.d c.loop-a.a 3 _ c.requires.1 c.requires.3 c.loop-a.invariant.2 (omega arith) (omega arith) in
+    (p.0, p.1, p.2, r.0, r.1)
 
 pub loop-a-preserved : goal.loop-a-preserved
 loop-a-preserved c =
     let g = c.args in
     let l = c.loop-a in
-    let o = walk-off g.d g.j l.a l.path l.l l.invariant.4 c.if-a-path.false in (
+    let o = walk-off g.d g.j l.a l.path l.l l.invariant.3 c.if-a-path.false in (
       l.invariant.0,
       l.invariant.1,
-      omega arith,
       search rules,
-      walk-past g.d g.j l.a l.path l.l l.invariant.4 c.if-a-path.false,
+      walk-past g.d g.j l.a l.path l.l l.invariant.3 c.if-a-path.false,
       λ s ch opening i v.
-          other-grown g.w g.d g.j g.slots.now s ch opening i v c.requires.le_w.4 g.iv l.a l.tree _ o (room c.args.w c.args.d c.loop-a.a 1 _ c.requires.le_w.1 c.requires.le_w.3 c.loop-a.invariant.3 (omega arith) (omega arith)).0
-          (c.expand_node.ensures s v.shape v.width) (l.invariant.5 s ch opening i v),
+          other-grown g.w g.d g.j g.slots.now s ch opening i v c.requires.4 g.iv l.a l.tree _ o (room c.args.w c.args.d c.loop-a.a 1 _ c.requires.1 c.requires.3 c.loop-a.invariant.2 (omega arith) (omega arith)).0
+          (c.expand_node.ensures s v.shape v.width) (l.invariant.4 s ch opening i v),
     )
 
 pub returns : goal.returns
@@ -145,10 +133,10 @@ returns c =
     λ s ch opening i v.
     let g = c.args in
     let l = c.loop-a in
-    let q = power g.d c.requires.le_w.3 in
+    let q = power g.d c.requires.3 in
     let e : l.a ≡ 2 ^ g.d - 1 = omega arith in
-    let all : length l.tree ≡ g.w * (2 * l.a + 1) = l.invariant.3 ∙ ap (λ (m : ℕ). g.w * m) (let z : 2 * 2 ^ g.d - 1 ≡ 2 * l.a + 1 = omega arith in z) in
+    let all : length l.tree ≡ g.w * (2 * l.a + 1) = l.invariant.2 ∙ ap (λ (m : ℕ). g.w * m) (let z : 2 * 2 ^ g.d - 1 ≡ 2 * l.a + 1 = omega arith in z) in
     let kids = reconstructed_children1 faest1 s g.iv ch opening i in
     sym (take_all (g.w * (2 * l.a + 1)) l.tree (omega arith))
-    ∙ l.invariant.5 s ch opening i v
+    ∙ l.invariant.4 s ch opening i v
     ∙ ap₂ (λ (w n : ℕ). expand_tree w (zeros w) kids n) v.width (e ∙ ap (λ (n : ℕ). 2 ^ n - 1) v.depth)

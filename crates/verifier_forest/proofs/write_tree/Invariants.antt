@@ -1,5 +1,5 @@
 -- Once a nodes have their children, the first 2 a + 1 nodes stand, and the walk down to the hidden leaf has not passed its next node.
-use Prim.Native.Nat.{ℕ, ◌+◌, ◌-◌, ◌*◌, ◌^◌, ◌≤◌, ◌<◌}
+use Prim.Native.Nat.{ℕ, ◌+◌, ◌-◌, ◌*◌, ◌^◌, ◌<◌}
 use mathlib.Core.Path.{◌≡◌}
 use mathlib.Core.List.{List}
 use lib.ListN.{length, take}
@@ -15,11 +15,7 @@ abbrev pub invariant-loop-a : goal.invariant-loop-a
 invariant-loop-a l =
     (l.inner ≡ 2 ^ l.d - 1)
     × (l.inner < 4096)
-    × (l.a ≤ l.inner)
     × (length l.tree ≡ l.w * (2 * 2 ^ l.d - 1))
     × Walk l.d l.j l.a l.path l.l
     × ((s : Shape) (ch opening : List ℕ) (i : ℕ) → VectorOf l.w l.d l.j l.slots s ch opening i
     → take (l.w * (2 * l.a + 1)) l.tree ≡ expand_tree l.w (zeros l.w) (reconstructed_children1 faest1 s l.iv ch opening i) l.a)
-
-abbrev pub decreases-loop-a : goal.decreases-loop-a
-decreases-loop-a l = l.inner - l.a

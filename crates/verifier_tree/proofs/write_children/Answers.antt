@@ -27,13 +27,13 @@ right-room : (w a d : ℕ) → w * (2 * a + 3) ≤ d → w * (2 * a + 2) + w ≤
 right-room w a d h = (let x = node-place w a 2 in let y = node-place w a 3 in omega arith)
 
 pub expand_node-requires : goal.expand_node-requires
-expand_node-requires c = (let p = c.requires.descending in record { sbox_table = c.requires.sbox_table; le_n = (p.7, p.8, p.9, p.5, p.6) })
+expand_node-requires c = (let p = c.requires in (p.7, p.8, p.9, p.5, p.6))
 
 pub returns-then-not-is_next : goal.returns-then-not-is_next
 unfolding primitives_of
 returns-then-not-is_next c =
     let g = c.args in
-    let p = c.requires.descending in
+    let p = c.requires in
     let nodes = g.nodes.now in
     let d = g.tree.now in
     let m = failed c.is_next.ensures c.if-not-is_next.true in (
@@ -48,28 +48,28 @@ returns-then-not-is_next c =
     )
 
 pub overflow_mul-a : goal.overflow_mul-a
-overflow_mul-a c = (let m = small c.args.w c.args.a _ c.requires.descending.7 c.requires.descending.5 in omega (arith, c.requires.descending.6))
+overflow_mul-a c = (let m = small c.args.w c.args.a _ c.requires.7 c.requires.5 in omega (arith, c.requires.6))
 
 pub overflow_add-a : goal.overflow_add-a
-overflow_add-a c = (let m = small c.args.w c.args.a _ c.requires.descending.7 c.requires.descending.5 in omega (arith, c.requires.descending.6))
+overflow_add-a c = (let m = small c.args.w c.args.a _ c.requires.7 c.requires.5 in omega (arith, c.requires.6))
 
 pub write_child-left-requires : goal.write_child-left-requires
 write_child-left-requires c =
     let g = c.args in
-    let p = c.requires.descending in
+    let p = c.requires in
     let m = passed c.is_next.ensures c.if-not-is_next.false in
     (p.0, p.2.1, left-within g.w g.nodes.now g.slots.now g.n g.a p.1 p.3 g.p.read m p.2.2, p.4, left-room g.w g.a _ p.5)
 
 pub overflow_mul-a-2 : goal.overflow_mul-a-2
-overflow_mul-a-2 c = (let m = small c.args.w c.args.a _ c.requires.descending.7 c.requires.descending.5 in omega (arith, c.requires.descending.6))
+overflow_mul-a-2 c = (let m = small c.args.w c.args.a _ c.requires.7 c.requires.5 in omega (arith, c.requires.6))
 
 pub overflow_add-a-2 : goal.overflow_add-a-2
-overflow_add-a-2 c = (let m = small c.args.w c.args.a _ c.requires.descending.7 c.requires.descending.5 in omega (arith, c.requires.descending.6))
+overflow_add-a-2 c = (let m = small c.args.w c.args.a _ c.requires.7 c.requires.5 in omega (arith, c.requires.6))
 
 pub write_child-both-requires : goal.write_child-both-requires
 write_child-both-requires c =
     let g = c.args in
-    let p = c.requires.descending in
+    let p = c.requires in
     let m = passed c.is_next.ensures c.if-not-is_next.false in
     let w = c.write_child-left in (
       p.0,
@@ -82,14 +82,14 @@ write_child-both-requires c =
 pub overflow_sub-result : goal.overflow_sub-result
 overflow_sub-result c =
     let z =
-    node-passed c.args.nodes.now c.args.a c.requires.descending.0
+    node-passed c.args.nodes.now c.args.a c.requires.0
     (passed c.is_next.ensures c.if-not-is_next.false) in
-    omega (arith, c.requires.descending.2.0)
+    omega (arith, c.requires.2.0)
 
 pub returns : goal.returns
 returns c =
     let g = c.args in
-    let p = c.requires.descending in
+    let p = c.requires in
     let nodes = g.nodes.now in
     let m = passed c.is_next.ensures c.if-not-is_next.false in
     let v = c.write_child-left in

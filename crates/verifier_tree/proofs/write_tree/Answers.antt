@@ -24,12 +24,12 @@ root-end : (w l d : ℕ) → d ≡ w * (2 * l - 1) → 1 ≤ l → w ≤ d
 root-end w l d e h = (let i = inside w l 0 1 d e (omega arith) in let o = mul-one w in omega arith)
 
 pub slice_bounds-clear_from-end : goal.slice_bounds-clear_from-end
-slice_bounds-clear_from-end c = root-end c.args.w c.args.l _ c.requires.le_l.6 c.requires.le_l.0
+slice_bounds-clear_from-end c = root-end c.args.w c.args.l _ c.requires.6 c.requires.0
 
 pub overflow_sub-p : goal.overflow_sub-p
 overflow_sub-p c =
     let nodes = c.args.nodes.now in
-    let z = node-passed nodes 0 c.requires.le_l.1 c.requires.le_l.2 in
+    let z = node-passed nodes 0 c.requires.1 c.requires.2 in
     let y = all_after nodes in
     omega arith
 
@@ -41,8 +41,8 @@ loop-a-init c =
     let w = c.args.w in (
       omega arith,
       search rules,
-      (sym (all_after nodes), (let z = node-passed nodes 0 c.requires.le_l.1 c.requires.le_l.2 in let y = all_after nodes in omega arith), refl),
-      λ s ok e. ap (take (w * 1)) (put-zeros-front w d c.clear_from.new.out (root-end w c.args.l _ c.requires.le_l.6 c.requires.le_l.0) c.clear_from.ensures)
+      (sym (all_after nodes), (let z = node-passed nodes 0 c.requires.1 c.requires.2 in let y = all_after nodes in omega arith), refl),
+      λ s ok e. ap (take (w * 1)) (put-zeros-front w d c.clear_from.new.out (root-end w c.args.l _ c.requires.6 c.requires.0) c.clear_from.ensures)
           ∙ take_at (zeros w) (drop w d) (w * 1) (length-zeros w ∙ sym (mul-one w)),
     )
 
@@ -52,12 +52,12 @@ write_children-p-requires c =
     let p = c.requires in
     let l = c.loop-a in
     let r = read-longer g.nodes.now (l.a + 1) (g.l - 1) (omega arith) in
-    record { sbox_table = p.sbox_table; descending = (p.le_l.1, p.le_l.3 l.a (omega arith), l.invariant.2, omega (arith, p.le_l.4), p.le_l.5, inside g.w g.l l.a 3 _ l.invariant.1 (omega arith), omega (arith, l.invariant.1, p.le_l.6, p.le_l.7), p.le_l.8, p.le_l.9, p.le_l.10) }
+    (p.1, p.3 l.a (omega arith), l.invariant.2, omega (arith, p.4), p.5, inside g.w g.l l.a 3 _ l.invariant.1 (omega arith), omega (arith, l.invariant.1, p.6, p.7), p.8, p.9, p.10)
 
 pub loop-a-preserved : goal.loop-a-preserved
 loop-a-preserved c =
     let g = c.args in
-    let p = c.requires.le_l in
+    let p = c.requires in
     let l = c.loop-a in
     let w = c.write_children-p in
     let r = read-longer g.nodes.now (l.a + 1) (g.l - 1) (omega arith) in (
@@ -73,7 +73,7 @@ pub returns : goal.returns
 returns c =
     λ s ok k.
     let g = c.args in
-    let p = c.requires.le_l in
+    let p = c.requires in
     let l = c.loop-a in
     let e : l.a ≡ g.l - 1 = omega arith in
     let all : length l.tree ≡ g.w * (2 * l.a + 1) = l.invariant.1 ∙ ap (λ (m : ℕ). g.w * m) (let z : 2 * g.l - 1 ≡ 2 * l.a + 1 = omega (arith, p.0) in z) in

@@ -1,12 +1,11 @@
--- What `h1_finish` ensures, of three parts.
-use mathlib.Core.Path.{◌≡◌, ap, ap₂, ◌∙◌}
+-- What `Sponge::h1` ensures, of three parts.
+use mathlib.Core.Path.{◌≡◌, ap, ◌∙◌}
 use mathlib.Core.List.{List, [], ◌++◌}
 use Prim.Native.Nat.{ℕ, ◌+◌, ◌-◌, ◌*◌}
-use native.Mathlib.Omega.{arith}
 use lib.ListN.{length, take}
 use Rattle.spec.specs.Hashes.{hash1}
 use Rattle.laws.proofs.Parts.{to_the_end}
-use Rattle.shake.proofs.Absorbing.{took_more}
+use Rattle.shake.proofs.Absorbing.{absorbs_more}
 use Rattle.verifier_vector.proofs.hash_vector.Goals as goal
 
 pub returns : goal.returns
@@ -15,7 +14,7 @@ returns c =
     let l = g.lcs.now in
     let hidden = g.hidden.now in
     let at = g.w * g.d in
-    let front : take (at - 0) l ≡ take at l = ap (λ (n : ℕ). take n l) (let z : at - 0 ≡ at = omega arith in z) in
-    let all = took_more c.absorb-t.ensures (took_more c.absorb-u.ensures c.absorb-v.ensures) in
-    c.h1_finish.ensures _ (all.holds [] (c.new-s.ensures.0 g.r (omega arith)))
-    ∙ ap₂ (λ (x y : List ℕ). hash1 g.r (x ++ (hidden ++ y)) (length g.hash.now)) front (to_the_end l (at + g.w))
+    let made = c.new.ensures in
+    let all = absorbs_more c.absorb.ensures (absorbs_more c.absorb-2.ensures c.absorb-3.ensures) in
+    rw (all.rate, made.0) at (c.h1.ensures _ (all.holds [] made.1))
+    ∙ ap (λ (y : List ℕ). hash1 g.r (take at l ++ (hidden ++ y)) (length g.hash.now)) (to_the_end l (at + g.w))

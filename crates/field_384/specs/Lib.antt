@@ -1,2 +1,0 @@
--- The polynomial of the field.
-pub mod Field

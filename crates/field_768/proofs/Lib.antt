@@ -1,2 +1,0 @@
--- Known answers of the field.
-pub mod KnownAnswers

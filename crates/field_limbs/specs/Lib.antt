@@ -1,2 +1,0 @@
--- The definitions that the contracts of the fields cite at every width.
-pub mod Multiples

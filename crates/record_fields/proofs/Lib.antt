@@ -1,0 +1,2 @@
+-- What every version of a record has.
+pub mod Versions

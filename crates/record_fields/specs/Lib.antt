@@ -1,0 +1,2 @@
+-- The versions of a record by their bytes.
+pub mod Versions

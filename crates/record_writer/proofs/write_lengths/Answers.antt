@@ -1,5 +1,0 @@
--- Each length is the definition's.
-use Rattle.record_writer.proofs.write_lengths.Goals as goal
-
-pub returns : goal.returns
-returns c = cc

@@ -1,7 +1,0 @@
--- What `hash` ensures, with the byte of H1.
-use Rattle.spec.specs.Hashes.{hash1}
-use Rattle.shake.proofs.h1_finish.Goals as goal
-
-pub returns : goal.returns
-unfolding hash1
-returns c = c.hash.ensures

@@ -1,9 +1,0 @@
--- `shake::new` meets its contract, by the law of a sponge that holds nothing.
-use mathlib.Core.Path.{refl}
-use Rattle.spec.specs.Bytes.{zeros}
-use Rattle.shake.proofs.Absorbing.{holds-none}
-use Rattle.shake.proofs.new.Goals as goal
-
-pub returns : goal.returns
-unfolding zeros
-returns c = (holds-none, refl)

@@ -1,0 +1,20 @@
+-- Where the shape is allowed the lengths decide.
+use mathlib.Core.Path.{sym, ◌∙◌}
+use Rattle.refusals.specs.Refusal.{number_of}
+use Rattle.refusals.proofs.Numbers.{shape-stops, sizes-decide}
+use Rattle.refusals.proofs.Outcomes.{test-passed, test-failed, last-test, passed-on}
+use Rattle.signer_refusals.proofs.test_sizes.Goals as goal
+
+pub returns-in_err-test : goal.returns-in_err-test
+unfolding number_of
+returns-in_err-test c =
+    let q = test-failed _ _ _ c.in_err-test.ensures in
+    rw (passed-on _ _ c.from_residual.ensures, q.1) (shape-stops _ _ (sym c.is_shape.ensures ∙ q.0))
+
+pub open_fits-requires : goal.open_fits-requires
+open_fits-requires c = sym c.is_shape.ensures ∙ test-passed _ _ c.in_ok-test.ensures
+
+pub returns : goal.returns
+unfolding number_of
+returns c =
+    sizes-decide _ _ _ (sym c.is_shape.ensures ∙ test-passed _ _ c.in_ok-test.ensures) (rw c.open_fits.ensures at (last-test _ _ _ c.test-2.ensures))
