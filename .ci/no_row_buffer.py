@@ -1,8 +1,7 @@
 #!/usr/bin/env python3
 """Document 02, E5: outside the lent buffers no array holds more than 16 bytes of a row, or of a sum of rows.
 
-Shown of the public functions of both halves, those of version 2 and those of version 1 (document 02, E12), and of all that they call but the tests that they
-begin with (TESTS), from their .rt files:
+Shown of the public functions of both halves, those of version 2 and those of version 1 (document 02, E12), and of all that they call, from their .rt files:
 
 1. Where bytes of rows begin. A block that AES gives is one of a row, unless a crate of NO_ROWS asks for it, no number of 2^30 or more is in what its tweak is
    made of (a row's tweak is 2^31 + i), and no byte of a leaf's seed is in what its key is made of (version 1 has no tweak: there the key alone tells a row).
@@ -10,11 +9,13 @@ begin with (TESTS), from their .rt files:
    corrections.
 2. Where they go: through every let, assignment, element, struct, argument, lent buffer and result, call by call, until nothing is added. No branch, loop or
    bound of a slice depends on them.
-3. What holds them. Each local, parameter by value and result that they reach has at most 16 bytes, arrays and structs measured whole; the one exception is a
-   pair, a struct of exactly two arrays of 16 bytes. Those that are still to be read behind a statement have 16 bytes together, in a function that has a pair
-   32: one block, or the two of a pair, and a block is the same whether it is a state of AES or its bytes. Along a chain of calls, each function with what it
-   reads behind its call, they have at most 64. No function calls itself.
+3. What holds them. Each local, parameter by value and result that they reach has at most 16 bytes, arrays, structs, tuples, results and enums measured whole;
+   the one exception is a pair, a struct of exactly two arrays of 16 bytes. Those that are still to be read behind a statement have 16 bytes together, in a
+   function that has a pair 32: one block, or the two of a pair, and a block is the same whether it is a state of AES or its bytes. Along a chain of calls, each
+   function with what it reads behind its call, they have at most 64. No function calls itself.
 4. Every other array above 16 bytes is in TABLE, with what it holds.
+5. The tests that calls begin with, in the crates of PLAIN, are given no byte of a row and do not reach the generator. These crates have no array but empty
+   ones, also in functions that neither half calls.
 
 Trusted: this script and its reader, sources.py, both of which refuse what they do not know; what KIT says of the kit's functions; that the crates of NO_ROWS
 ask for what is said there, and make no row's tweak out of smaller numbers; that seeds are what SEEDS says. No array is meant that the compiler makes for a
@@ -35,11 +36,11 @@ NO_ROWS = {'tree': 'nodes', 'leaf': 'seeds and leaf commitments', 'signer_forest
 # the function that makes the seeds of leaves, and the parameter to which it writes them
 SEEDS = 'leaf::commit_leaf', 'seed'
 GENERATOR, CIPHER, SUB_BYTES = 'generator', 'aes', 'aes_steps::sub_bytes'
-# the crates of the tests that calls begin with. They are not read: none reaches the generator, and what they are given has no byte of a row in it
-TESTS = ('refusals', 'plan_refusals', 'signer_refusals', 'verifier_refusals', 'slots')
+# the crates of the tests that calls begin with. They are read as all others, and rule 5 holds of them too
+PLAIN = ('refusals', 'plan_refusals', 'signer_refusals', 'verifier_refusals', 'slots')
 
 # the kit's functions that are called: the number of the argument to which they write the bytes of the others, or None where they return them
-KIT = {'spec::Answer::from': None, '.max': None, 'slice::copy_from_slice': 0, '.fill': 0, '.wrapping_add': None, '.min': None, '.iter': None, '.all': None, 'u64::from_le_bytes': None}
+KIT = {'slice::copy_from_slice': 0, '.fill': 0, '.max': None, '.min': None, '.wrapping_add': None, '.iter': None, '.all': None, 'u64::from_le_bytes': None}
 # those of them that go by what the bytes are
 DECIDED = ('.all',)
 
@@ -111,6 +112,8 @@ class Frame:
 
     def label_name(self, e):
         const = self.types.constant(e.info)
+        if not const and e.info[0] not in self.labels:
+            self.types.of_name(e.info)
         return self.label(const[1]) if const else self.labels.get(e.info[0], 0)
 
     def label_len(self, e):
@@ -141,6 +144,11 @@ class Frame:
     def label_part(self, e):
         return self.decided(e, e.parts[1:])
 
+    def label_try(self, e):
+        found = self.decided(e, e.parts)
+        self.result |= found
+        return found
+
     def decided(self, e, by):
         if any(self.label(part) & ROWS for part in by):
             self.test.fault(f'a branch, a loop or a bound of {self.f.name} depends on bytes of rows')
@@ -161,24 +169,14 @@ class Frame:
         if full in KIT:
             every = self.decided(e, e.parts) if full in DECIDED else self.union(e)
             return every if KIT[full] is None else self.mark(e.parts[KIT[full]], every) or 0
-        if full.split('::')[0] in TESTS:
-            return self.tested(e, full)
         callee = self.p.functions[full]
+        if callee.crate in PLAIN and any(label & ROWS for label in given):
+            self.test.fault(f'{full} is given bytes of rows by {self.f.name}')
         made = self.callees[id(e)] = self.test.run(callee, tuple(self.given(callee, given)))
         for part, t, out in zip(e.parts, callee.params.values(), made.outs):
             if is_a(t, 'ref') and t[1]:
                 self.mark(part, out)
         return made.result
-
-    def tested(self, e, full):
-        """A call of the tests of a call: bytes of rows are none of what it is given, and so none of what it writes and answers."""
-        every = self.union(e)
-        if every & ROWS:
-            self.test.fault(f'{full} is given bytes of rows by {self.f.name}')
-        for part in e.parts:
-            if part.kind == 'lent' and part.info:
-                self.mark(part.parts[0], every)
-        return every
 
     def given(self, callee, labels):
         """What the arguments of a call bring: who asks for blocks may ask for a row's, and so does who gives a seed for a key; what AES is given to encrypt
@@ -189,8 +187,12 @@ class Frame:
         if callee.crate in (GENERATOR, CIPHER) and (other or any(label & SEED for label in labels)):
             labels = [label | TWEAK for label in labels]
         if callee.crate == CIPHER != self.f.crate:
-            labels = [label | ROWS if label & TWEAK and is_a(t, 'array') else label for label, t in zip(labels, callee.params.values())]
+            labels = [label | ROWS if label & TWEAK and self.is_block(t) else label for label, t in zip(labels, callee.params.values())]
         return labels
+
+    def is_block(self, t):
+        """Whether it is an array, or has one in a tuple, a result or an enum."""
+        return is_a(t, 'array') or t not in self.p.structs and any(map(self.is_block, self.p.inside(t)))
 
 
 class Held:
@@ -220,9 +222,10 @@ class Held:
         return isinstance(t, str) and list(self.types.p.structs.get(t, {}).values()) == [('array', 'u8', BLOCK)] * 2
 
     def fields(self, path, t):
-        if not isinstance(t, str) or t not in self.types.p.structs:
+        fields = self.types.p.fields(t)
+        if not fields:
             return {path: self.types.size(t)}
-        return {inner: size for name, field in self.types.p.structs[t].items() for inner, size in self.fields(path + '.' + name, field).items()}
+        return {inner: size for name, field in fields.items() for inner, size in self.fields(path + '.' + name, field).items()}
 
     def most(self):
         named_by = [{path.split('.')[0] for path in paths} for paths in (self.sizes, self.read(self.f.body))]
@@ -300,7 +303,7 @@ class Held:
 
 class Test:
     def __init__(self, texts):
-        self.p = Program(texts)
+        self.p, self.texts = Program(texts), texts
         self.types, self.reached, self.runs, self.open, self.seeing, self.faults = {}, {}, {}, [], set(), []
         self.entries = [self.p.functions[name] for crate in HALVES for name in self.p.public[crate] if name in self.p.functions]
         self.all = set().union(*(self.reach(f.name) for f in self.entries))
@@ -315,13 +318,13 @@ class Test:
             f = self.p.functions[name]
             self.types[name] = Types(self.p, f)
             self.reached[name] = {name}
-            for e in walk(f.body):
+            for e in self.types[name].every:
                 full = self.p.find(f.crate, e.info) if e.kind == 'call' else None
                 if full in self.p.functions:
                     self.reached[name] |= self.reach(full)
                 elif full and full[0] == '.' and full not in KIT:
                     raise Refused(f'a method of {name} that is not known: {full[1:]}')
-                elif full and full not in KIT and full.split('::')[0] not in TESTS:
+                elif full and full not in KIT:
                     raise Refused(f'a call of {name} that is not found: {full}')
         return self.reached[name]
 
@@ -346,20 +349,34 @@ class Test:
 
     def others(self):
         """The arrays above 16 bytes are those of the table."""
-        seen = {(named(t), self.types[name].f.crate) for name in self.all for _, t in self.types[name].arrays()}
+        arrays = {name: list(self.types[name].arrays()) for name in sorted(self.all)}
+        seen = {(named(t), self.types[name].f.crate) for name, held in arrays.items() for _, t in held}
         listed = {(kind, crate) for kind, (_, crates) in TABLE.items() for crate in crates.split()}
-        for name in sorted(self.all):
-            for holder, t in self.types[name].arrays():
+        for name, held in arrays.items():
+            for holder, t in held:
                 if self.types[name].size(t) > BLOCK and (named(t), self.types[name].f.crate) not in listed:
                     self.fault(f'{named(t)} in {name} ({holder}) is not in the table')
         for kind, crate in sorted(listed - seen):
             self.fault(f'{kind} of {crate} is in the table and nowhere else')
+
+    def plain(self):
+        """The crates of PLAIN have no array but empty ones: none in a function, and none in their texts."""
+        for f in self.p.functions.values():
+            if f.crate in PLAIN and self.reach(f.name):
+                types = self.types[f.name]
+                for holder, t in [*types.arrays(), *types.written()]:
+                    if types.size(t) > 0:
+                        self.fault(f'{named(t)} in {f.name} ({holder}) is not in the table')
+        for crate in PLAIN:
+            if re.search(r';[^][{}]*\]', re.sub(r'//[^\n]*', '', self.texts[crate])):
+                self.fault(f'{crate} has an array')
 
 
 def check(texts):
     test = Test(texts)
     names = test.follow()
     test.others()
+    test.plain()
     if test.faults:
         raise Refused('\n'.join(test.faults))
     held, buffers = max(made.held for made in test.runs.values()), ', '.join(sorted(names))
@@ -370,7 +387,7 @@ def check(texts):
 
 def sources():
     needs = crate_lines((TOP / 'crates.txt').read_text(encoding='utf-8'))
-    if GENERATOR in closure(needs, TESTS):
+    if GENERATOR in closure(needs, PLAIN):
         raise Refused('the tests of the calls reach the generator')
     texts = {}
     for name in sorted(closure(needs, HALVES)):
@@ -378,10 +395,6 @@ def sources():
         if [f.name for f in files] != ['lib.rt']:
             raise Refused(f'crate {name} has other files than lib.rt')
         texts[name] = files[0].read_text(encoding='utf-8')
-        if name in TESTS:
-            # nothing that could hold a row: no array but an empty one
-            if re.search(r';\s*\w+\s*\]', re.sub(r'//[^\n]*', '', texts.pop(name))):
-                raise Refused(f'{name} has an array')
     return texts
 
 
@@ -424,6 +437,16 @@ STRETCH = 'stretch_leaf(sbox, m, s, key, x, &mut stretched'
 FORMS = ('leaf', '', 'pub enum Form { One, Two }')
 ARMS = 'match Form::Two { Form::One => { tweak } Form::Two => tweak + %s, }'
 
+# functions of the tests that calls begin with, and functions that only they call
+TESTED = (('plan_refusals', 'test_challenge'), ('slots', 'test_opening'), ('verifier_refusals', 'test_reconstruct'), ('signer_refusals', 'commit_fits'))
+CALLED = (('planning', 'walk'), ('planning', 'revealed_nodes'), ('buffers', 'is_clear_from'), ('challenge', 'clear'), ('lengths', 'tree_bytes'))
+# a block added to a sum of rows; a function whose result may hold a row; an enum that may, and a match that takes it out; a function that goes by a sum of rows
+ADDED = 'add_block(%s, 0, 0, sum);'
+TRIED = 'fn tried(sum: &mut [u8]) -> Result<[u8; 32], Refusal> { %s }'
+PART = 'rows', '', 'enum Part { None, Of([u8; 16], usize), Many([u8; 8192]) }'
+TAKEN = 'match %s { Part::Of(block, n) => add_block(block, 0, n, sum), Part::None | Part::Many(_) => {} }'
+BY_ROW = 'rows', '', 'fn by_row(sum: &mut [u8]) -> Result<(), bool> { asked(sum)?; Ok(()) } fn asked(sum: &[u8]) -> Result<u8, bool> { Ok(sum[0]) }'
+
 # a part of the reason, and what is edited: the crate, the place, the new text
 EDITS = [
     ('[u8; 8192] in rows::add_row (row) is not in the table', ('rows', 'fn add_row', 'let mut row = [0u8; 8192];')),
@@ -460,7 +483,7 @@ EDITS = [
      ('rows', 'let mid =', 'let mut held = [[[0u8; 4]; 4]; 15]; held[0] = aes::load_state(&one); let mid =')),
     # the tweak of rows for a leaf, however it is written
     *map(stretched_with, ('0x80000000', '0x8000_0000u32', '0b1 << 31', 'tweak + 2_147_483_648', 'tweak + 2 * HALF', 'leaf_tweak(HALF as usize, HALF as usize)',
-                          ARMS % '0x80000000')),
+                          ARMS % '0x80000000', '(tweak, 0x80000000).1', 'match (tweak, 0x80000000) { (_, most) => most, }')),
     ('a pattern of leaf::commit_leaf that cannot be read: y', ('leaf', 'fn commit_leaf', 'let two = match x.tweak { y => y, };')),
     # u, a sum of rows and the corrections in arrays that are there for something else
     ('keys of signer_commit::write_commitment, [u8; 3072], holds bytes of rows', ('signer_commit', 'fn write_all', 'buffers::copy(u, keys);')),
@@ -490,13 +513,69 @@ EDITS = [
      ('vector', '', 'fn first<const N: usize>(x: [u8; N]) -> u8 { x[0] }'),
      ('vector', 'fn add_leaf', 'let mut pair = [0u8; 32]; buffers::copy_part(sum, 0, 32, &mut pair, 0); seed[0] = first::<32>(pair);')),
     ('[u64; 40] in field::Field::reduce (many) is not in the table', ('field', 'c ^ (c << 2)', 'let many = [0u64; 40]; c ^ (c << 2)')),
-    # the tests that a call begins with, given bytes of rows
-    ('verifier_refusals::test_reconstruct is given bytes of rows by verifier::reconstruct_stretch', ('verifier', 'x, challenge, opening)', 'x, corrections, opening)')),
+    # the tests that a call begins with, given bytes of rows, which they go by
+    ('verifier_refusals::test_reconstruct is given bytes of rows by verifier::reconstruct_stretch',
+     ('verifier', 'x, challenge, opening)', 'x, corrections, opening)')),
+    ('a branch, a loop or a bound of challenge::clear depends on bytes of rows', ('verifier', 'x, challenge, opening)', 'x, corrections, opening)')),
+    ('a branch, a loop or a bound of buffers::is_clear_from depends on bytes of rows', ('verifier', 'x, challenge, opening)', 'x, challenge, corrections)')),
+    # an array in them, however it is written, and in what they alone call
+    *((f'[u8; 8192] in {crate}::{f} (row) is not in the table', (crate, f'fn {f}', 'let row = [0u8; 8192];')) for crate, f in CALLED),
+    *((f'[u8; 8192] in {crate}::{f} (row) is not in the table', (crate, f'fn {f}', 'let row = [0u8; 8 * 1024];')) for crate, f in TESTED),
+    *((f'[u8; 18] in {crate}::{f} (row) is not in the table', (crate, f'fn {f}', f'let row = [{"0u8, " * 18}];')) for crate, f in TESTED),
+    ('[u8; 8] in slots::slots_clear (row) is not in the table', ('slots', 'fn slots_clear', 'let row = [0u8; 8];')),
+    ('[u8; 8] in slots::slots_clear (a value without a name) is not in the table', ('slots', 'fn slots_clear', 'let n = [0u8; 8].len();')),
+    ('[u8; 8192] in spec::Answer::from (row) is not in the table',
+     ('refusals', 'Answer {\n            number: refusal.number(),', 'let row = [0u8; 8192]; Answer { number: refusal.number(),')),
+    ('[u8; 18] in plan_refusals::test_decode (row) is not in the table', ('plan_refusals', 'fn test_decode', f'let row = [{"0u8, " * 18}];')),
+    ('plan_refusals has an array', ('plan_refusals', 'fn test_decode', 'let row = [0u8; 8 * 1024];')),
+    ('refusals has an array', ('refusals', '', 'struct Row { row: [u8; 16] }')),
+    ('planning::revealed_nodes calls itself', ('planning', 'fn revealed_nodes', 'revealed_nodes(s, ch, out);')),
+    ('spec::Answer::from calls itself', ('refusals', 'number: refusal.number(),', 'number: Answer::from(refusal).number,')),
+    ('a method of slots::slots_clear that is not known: to_vec', ('slots', 'fn slots_clear', 'let copy = opening.to_vec();')),
+    # a row in a tuple, in a result, in a value of an enum, and what a match takes out of it
+    ('both of rows::add_row, ([u8; 16], [u8; 16]), holds bytes of rows', ('rows', 'fn add_row', f'let both = ({block(0)}, {block(1)}); {ADDED % "both.0"}')),
+    ('[u8; 32] in rows::tried (the result) is not in the table', ('rows', 'fn add_row', 'tried(sum);'), ('rows', '', TRIED % 'Err(Refusal::BufferLength)')),
+    ('the result of rows::tried, Result<[u8; 32], Refusal>, holds bytes of rows',
+     ('rows', 'fn add_row', f'let one = {block(0)}; {ADDED % "one"} tried(sum);'), ('rows', '', TRIED % 'let mut x = [0u8; 32]; x[0] = sum[0]; Ok(x)')),
+    ('a value without a name of rows::add_row, ([u8; 16], [u8; 16]), holds bytes of rows',
+     ('rows', 'fn add_row', f'let same = ({block(0)}, {block(1)}) == (x.iv, x.iv);')),
+    ('held of rows::add_row, Part, holds bytes of rows', PART, ('rows', 'fn add_row', f'let held = Part::Of({block(0)}, 1); {TAKEN % "held"}')),
+    (' of rows::add_row, Part, holds bytes of rows', PART, ('rows', 'fn add_row', TAKEN % f'Part::Of({block(0)}, 1)')),
+    ('a branch, a loop or a bound of rows::add_row depends on bytes of rows', PART, ('rows', 'fn add_row', TAKEN % f'Part::Of({block(0)}, 1)')),
+    ('[u8; 8192] in rows::add_row (held) is not in the table', PART, ('rows', 'fn add_row', 'let held = Part::Many([0u8; 8192]);')),
+    ('most of rows::add_row, [u8; 32], holds bytes of rows',
+     ('rows', 'fn add_row', 'let mut row = [0u8; 32]; generator::fill(sbox, seed, x, 0, &mut row); let most = row.max(row); sum[0] = most[0];')),
+    ('a branch, a loop or a bound of rows::by_row depends on bytes of rows',
+     BY_ROW, ('rows', 'fn add_row', f'let one = {block(0)}; {ADDED % "one"} by_row(sum);')),
+    # forms that are near to those that are read
+    ('a ? of rows::by_row that is not known: another refusal', ('rows', 'fn add_row', 'by_row(sum);'), ('rows', '', BY_ROW[2].replace('(), bool', '(), u8'))),
+    ('a variant of rows::add_row that is not known: Part::Half', PART, ('rows', 'fn add_row', 'let held = Part::Half(1);')),
+    ('a type of rows::add_row that is not known: Ok', ('rows', 'fn add_row', 'let held = Ok(1);')),
+    ('a name of rows::add_row that is not known: u32::MAX', ('rows', 'fn add_row', 'let held = 1 + u32::MAX;')),
+    ('a name of leaf::leaf_of_kind that is not known: u32::MAX', ('leaf', '', 'const MOST: u32 = u32::MAX;'), ('leaf', STRETCH, with_tweak('MOST'))),
+    ('a pattern of rows::add_row that cannot be read: Part :: Of ( ref', PART, ('rows', 'fn add_row', 'match Part::None { Part::Of(ref x, y) => y, _ => 0 };')),
+    ('a form of rows::add_row that cannot be read: . iv ) = ( sum .', ('rows', 'fn add_row', '(x.tweak, x.iv) = (sum.len(), [0u8; 16]);')),
+    ('n of rows::add_row is the name of a constant', ('rows', '', 'const n: usize = 2147483648;'), ('rows', 'fn add_row', TAKEN % 'Part::None'), PART),
+    ('a trait of rows that is not known: Add', ('rows', '', 'impl Add for Row { fn add(x: Row, y: Row) -> Row { x } }')),
+    ('a function that has a name like a variant: rows::Ok', ('rows', '', 'fn Ok(x: usize) -> usize { x }')),
+    ('two functions of one name: spec::Answer::from', ('spec', '', 'impl Answer { fn from(n: usize) -> Answer { Answer { number: n, count: 0 } } }')),
+    ('two enums of one name: Version', ('rows', '', 'enum Version { Long([u8; 32]) }')),
+    ('a form of rows::none that cannot be read: ) -> Option < usize > {', ('rows', '', 'fn none() -> Option<usize> { None }')),
+    ('x of rows::put has a reference in it, which is not followed',
+     ('rows', 'fn add_row', 'put((1, sum));'), ('rows', '', 'fn put(x: (usize, &mut [u8])) { }')),
+    ('the result of rows::put has a reference in it, which is not followed',
+     ('rows', 'fn add_row', 'put(sum);'), ('rows', '', 'fn put(x: &mut [u8]) -> Result<&mut [u8], Refusal> { Ok(x) }')),
+    ('held of rows::add_row is a reference in a local, which is not followed', ('rows', 'fn add_row', 'let held = (1, &mut sum[0..8]);')),
 ]
 ALLOWED = [
     [('leaf', STRETCH, with_tweak(ARMS % '1')), FORMS],
     [('rows', '', 'enum Half { First, Second } fn cut(h: Half) -> usize { match h { Half::First => 0, Half::Second => { return 8; } } }'),
      ('rows', 'fn add_row', f'let one = {block(0)}; add_block(one, cut(Half::First), 0, sum);')],
+    [('rows', '', 'enum Cut { None, From(usize), By((usize, bool)) }'),
+     ('rows', '', 'fn place(c: Cut) -> usize { match c { Cut::From(n) | Cut::By((n, true)) => n, _ => 0 } }'),
+     ('rows', '', 'fn found(n: usize) -> Result<usize, Refusal> { if n == place(Cut::By((n, 1 < n))) { Ok(n) } else { Err(Refusal::TooManyNodes(n)) } }'),
+     ('rows', '', 'fn twice(n: usize) -> Result<(), Refusal> { let x = (found(n)?, 2); match found(x.0 * x.1) { Ok(_) => Ok(()), Err(why) => Err(why) } }'),
+     ('rows', 'fn add_row', 'let end = match twice(8) { Ok(()) => 8, Err(Refusal::TooManyNodes(count)) => count, Err(other) => other.number() };')],
 ]
 
 

@@ -2,14 +2,17 @@
 never passed over.
 
 An expression or a statement is a Node: its kind, what it says beside its parts, and its parts. The kinds, with what they say: number (value, type),
-bytes (length), name (path), call (path; of a method '.' and its name, and what it is called of is lent to it), array, repeat, struct (name, fields),
-field (name), index, part, len, lent (mutable), unary and binary (operator), cast (type), test (name; a closure), if, match, block; let (name, mutable, type),
-set (of a place and a value), while, for (name), return, continue, do, try (an expression with ? behind it), and value, the value of its block.
-A type is a name, without its arguments, ('ref', mutable, type), ('slice', type) or ('array', type, length).
+bytes (length), name (path), call (path; of a method '.' and its name, and what it is called of is lent to it), variant (path; of an enum, with the values in
+it, or Ok or Err), held (path, number; of a variant the value at that place), array, repeat, tuple, struct (name, fields), field (name), index, part, len,
+lent (mutable), unary and binary (operator), cast (type), test (name; a closure), if, match, block; let (name, mutable, type), set (of a place and a value),
+while, for (name), return, continue, do, try (an expression with ? behind it), and value, the value of its block.
+A type is a name, ('ref', mutable, type), ('slice', type), ('array', type, length), ('tuple', types) or ('result', type, the refusal's type).
 """
 import operator
 import re
 from collections import namedtuple
+from functools import lru_cache
+from itertools import count
 from pathlib import Path
 
 TOP = Path(__file__).resolve().parent.parent
@@ -44,6 +47,8 @@ def closure(needs, roots):
 
 TOKEN = re.compile(r'b"(?:[^"\\]|\\.)*"|b\'(?:\\x[0-9a-f]{2}|\\.|[^\'\\])\'|\'\w+|\w+|::|->|=>|\.\.=?|&&|\|\||<<=?|>>=?|[<>=!+\-*/%^|&]=|\S', re.S)
 NUMBER = re.compile(r'(0x[0-9a-fA-F_]+|0b[01_]+|0o[0-7_]+|[0-9][0-9_]*)((?:u|i)(?:8|16|32|64|size))?')
+# std's traits whose functions are called by the type's name; `?` would call one for another type of refusal, which is not known
+NAMED = ('From',)
 LEVELS = ['||', '&&', '== != < > <= >=', '|', '^', '&', '<< >>', '+ -', '* / %']
 LEVEL = {op: n for n, ops in enumerate(LEVELS) for op in ops.split()}
 KEYWORDS = set('as break const continue else enum extern fn for if impl in let loop match mod mut pub return static struct trait type unsafe use where '
@@ -97,6 +102,11 @@ class Reader:
                 self.next(',')
         return found
 
+    def group(self, one):
+        """What stands in a round bracket: one alone, or the list of a tuple."""
+        found = self.list(')', one)
+        return found[0] if len(found) == 1 and self.ts[self.i - 2] != ',' else found
+
     def word(self):
         t = self.next()
         if not re.fullmatch(r'[A-Za-z_]\w*', t) or t in KEYWORDS:
@@ -120,13 +130,6 @@ class Reader:
         self.list('>', self.next)
         return True
 
-    def skip_arguments(self):
-        """Passes over the arguments of a type, whatever they are."""
-        depth = 0
-        while depth or self.peek() == '<':
-            t = self.next()
-            depth += (t == '<') - (t == '>')
-
     def parameters(self):
         """Type parameters, each with one trait for its bound, and const parameters. These are measured as the largest number that an impl or a call gives one;
         where a call gives none, it is the length of an array that the caller has, which is measured there."""
@@ -149,20 +152,30 @@ class Reader:
             if self.peek().startswith("'"):
                 self.next()
             return ('ref', self.skip('mut'), self.type())
+        if self.skip('('):
+            t = self.group(self.type)
+            return ('tuple', *t) if isinstance(t, list) else t
         if not self.skip('['):
             name = self.path()[-1]
-            self.skip_arguments()
-            return name
+            return self.result() if name == 'Result' and self.peek() == '<' else name
         inner = self.type()
         if self.skip(']'):
             return ('slice', inner)
         self.next(';')
-        count = self.next()
+        length = self.next()
         self.next(']')
-        count = str(self.numbers.get(count, count))
-        if not count.isdigit():
-            raise Refused(f'an array type of {self.of} that cannot be measured: {count}')
-        return ('array', inner, int(count))
+        length = str(self.numbers.get(length, length))
+        if not length.isdigit():
+            raise Refused(f'an array type of {self.of} that cannot be measured: {length}')
+        return ('array', inner, int(length))
+
+    def result(self):
+        """The type of a result, whose arguments come next."""
+        self.next('<')
+        types = self.list('>', self.type)
+        if len(types) != 2:
+            raise Refused(f'a form of {self.of} that cannot be read: a result of {len(types)} types')
+        return ('result', *types)
 
     # -- expressions; `structs` says whether a brace behind a name begins a struct
 
@@ -194,16 +207,15 @@ class Reader:
         if t in ('if', 'match', '{'):
             return {'if': self.choice, 'match': self.match, '{': self.block}[t]()
         if self.skip('('):
-            e = self.expression()
-            self.next(')')
-            return e
+            e = self.group(self.expression)
+            return Node('tuple', None, e) if isinstance(e, list) else e
         if self.skip('['):
             return self.array()
         if self.skip('|'):
             return self.test()
         path = self.path()
         if self.skip('('):
-            return Node('call', path, self.list(')', self.expression))
+            return Node('variant' if path[-1][0].isupper() else 'call', path, self.list(')', self.expression))
         if structs and self.skip('{'):
             fields = self.list('}', self.field)
             return Node('struct', (path[-1], [name for name, _ in fields]), [e for _, e in fields])
@@ -219,6 +231,8 @@ class Reader:
         return Node('test', name, [e])
 
     def array(self):
+        if self.skip(']'):
+            return Node('array', None, [])
         one = self.expression()
         if self.skip(';'):
             e = Node('repeat', None, [one, self.expression()])
@@ -268,26 +282,65 @@ class Reader:
         return Node('if', None, found)
 
     def match(self):
-        """A match on an enum without fields or on a number, whose patterns bind no name, or on a result, of which they bind the count or the refusal."""
+        """A match. Each name of a pattern is a let of its part of the value, in front of the arm; the value then has a name too."""
         self.next('match')
         of = self.expression(structs=False)
-        found = [of]
+        value = of if of.kind == 'name' else Node('name', (f'value matched at {self.i}',), [])
         self.next('{')
+        arms, lets = [], []
         while not self.skip('}'):
-            start = self.i
-            while not self.skip('=>'):
-                self.next()
-            pattern = ' '.join(self.ts[start:self.i - 1])
-            result = re.fullmatch(r'(Ok|Err) \( (\( \)|\w+) \)', pattern)
-            if not result and not re.fullmatch(r'(\w+( :: \w+)+|\d\w*|_)( \| (\w+( :: \w+)+|\d\w*))*', pattern):
-                raise Refused(f'a pattern of {self.of} that cannot be read: {pattern}')
+            bound = self.pattern(value)
             arm = self.expression()
-            if result and result[2] != '( )':
-                bound = Node('let', (result[2], False, 'usize' if result[1] == 'Ok' else 'Refusal'), [of])
-                arm = Node('block', None, [bound, Node('value', None, [arm])])
-            found.append(arm)
+            arms.append(Node('block', None, [*bound, Node('value', None, [arm])]) if bound else arm)
+            lets += bound
             self.skip(',')
-        return Node('match', None, found)
+        if not lets or of is value:
+            return Node('match', None, [of, *arms])
+        return Node('block', None, [Node('let', (value.info[0], False, None), [of]), Node('value', None, [Node('match', None, [value, *arms])])])
+
+    def pattern(self, value):
+        """The lets of a pattern's names, up to the arrow. A name alone is no pattern."""
+        start = self.i
+        try:
+            lets = self.alternatives(value, inner=False)
+            self.next('=>')
+        except Refused as why:
+            raise Refused(f'a pattern of {self.of} that cannot be read: ' + ' '.join(self.ts[start:self.i + 1])) from why
+        return lets
+
+    def alternatives(self, value, inner):
+        self.skip('|')
+        lets = self.alternative(value, inner)
+        while self.skip('|'):
+            lets = lets + self.alternative(value, inner)
+        return lets
+
+    def alternative(self, value, inner):
+        """A number, a variant or a tuple; inside of one a name too, which is a let of that part of the value."""
+        t = self.peek()
+        if t in ('_', 'true', 'false') or NUMBER.fullmatch(t):
+            self.next()
+            return []
+        if self.skip('('):
+            return self.parts_of(value, ())
+        if inner and re.fullmatch('[a-z]\\w*', t) and self.ts[self.i + 1:self.i + 2] != ['::']:
+            return [Node('let', (self.word(), False, None), [value])]
+        start, path = self.i, self.path()
+        if self.skip('('):
+            return self.parts_of(value, path)
+        if len(path) == 1:
+            self.i = start
+            self.next('a variant')
+        return []
+
+    def parts_of(self, value, path):
+        """The lets of what stands in the bracket of a variant, or of a tuple."""
+        places = count()
+        found = self.list(')', lambda: self.alternatives(self.part_of(value, path, next(places)), inner=True))
+        return [let for lets in found for let in lets]
+
+    def part_of(self, value, path, n):
+        return Node('held', (path, n), [value]) if path else Node('field', str(n), [value])
 
     # -- statements
 
@@ -311,7 +364,7 @@ class Reader:
         e = self.first(True) if braced else self.expression()
         op = self.peek()
         if op == '=' or (op[:-1] in LEVEL and op[-1:] == '=' and op not in LEVEL):
-            self.next()
+            self.next('a place' if e.kind not in ('name', *PLACES) else op)
             value = self.expression()
             self.next(';')
             return Node('set', None, [e, value if op == '=' else Node('binary', op[:-1], [e, value])])
@@ -383,18 +436,15 @@ def with_place(e, old, new):
 
 # ---- a program
 
-class Program:
-    """The functions, methods, structs, enums without fields and constants of some crates, of which the texts are given, and what each crate makes public."""
+class Crate:
+    """The functions, methods, structs, enums, traits and constants of a crate, its names for what is in others, and what it makes public."""
 
-    def __init__(self, texts):
+    def __init__(self, crate, text, most):
         self.functions, self.structs, self.enums, self.consts, self.methods = {}, {}, {}, {}, {}
-        self.names = {crate: {} for crate in texts}
-        self.public = {crate: [] for crate in texts}
-        given = [n for text in texts.values() for n in re.findall(r'(?:^impl \w+|::)<[^<>()\n]*?\b(\d+)>', text, re.M)]
-        for crate, text in texts.items():
-            r = Reader(tokens(text), crate, max(map(int, given), default=0))
-            while r.peek():
-                self.item(crate, r)
+        self.traits, self.impls, self.names, self.public = [], [], {}, []
+        r = Reader(tokens(text), crate, most)
+        while r.peek():
+            self.item(crate, r)
 
     def item(self, crate, r):
         while r.skip('#'):
@@ -410,7 +460,7 @@ class Program:
             raise Refused(f'an item of {crate} that cannot be read: {word} {r.peek()}')
         name = kinds[word](crate, r)
         if public:
-            self.public[crate] += name if word == 'use' else [name]
+            self.public += name if word == 'use' else [name]
 
     def use(self, crate, r):
         """A name of another crate, or several: `use a::b;`, `use a::{b, c};`. Of std's traits the one that says what a contract sees."""
@@ -424,7 +474,7 @@ class Program:
         if r.peek() != ';':
             raise Refused(f'a use of {crate} that cannot be read: {of}::{names[-1]} {r.peek()}')
         r.next(';')
-        self.names[crate].update({name: f'{of}::{name}' for name in names})
+        self.names.update({name: f'{of}::{name}' for name in names})
         return [f'{of}::{name}' for name in names]
 
     def const(self, crate, r):
@@ -455,18 +505,20 @@ class Program:
         return r.skip_group() if ghost else (name, r.type())
 
     def impl(self, crate, r):
-        """The functions of a struct, what a contract sees of it, or the functions of a trait for a type."""
+        """The functions of a struct or an enum, what a contract sees of it, or the functions of a trait for a type."""
         owner = r.word()
         r.arguments()
         if r.skip('for'):
             return self.model(crate, r) if owner == 'Model' else self.of_trait(crate, r, owner)
         r.next('{')
         while not r.skip('}'):
+            while r.skip('#'):
+                r.skip_group()
             public = r.skip('pub')
             r.next('fn')
             name = self.function(crate, r, owner)
             if public:
-                self.public[crate].append(name)
+                self.public.append(name)
         return owner
 
     def model(self, crate, r):
@@ -479,9 +531,12 @@ class Program:
         return owner
 
     def enum(self, crate, r):
+        """An enum: its variants, and the types of the values that each has."""
         name = r.word()
         r.next('{')
-        self.enums[name] = r.list('}', r.word)
+        variants = dict(r.list('}', lambda: (r.word(), r.list(')', r.type) if r.skip('(') else [])))
+        if self.enums.setdefault(name, variants) is not variants:
+            raise Refused('two enums of one name: ' + name)
         return crate + '::' + name
 
     def trait(self, crate, r):
@@ -496,18 +551,22 @@ class Program:
             self.head(r, '::'.join([crate, name, r.word()]))
             r.next(';')
         r.of = crate
+        self.traits.append(crate + '::' + name)
         return crate + '::' + name
 
     def of_trait(self, crate, r, trait):
-        """The functions of a trait for a type without fields. A call of one by a bound is of any of its impls."""
-        r.word()
+        """The functions of a trait for a type. Those of a trait of the program are called by a bound, and a call is of any of its impls; there the type has no
+        fields. Those of NAMED are called by the type's name. Another trait's may be called by operators, which no reader sees."""
+        owner = r.word()
+        of = self.names.get(owner, f'{crate}::{owner}') if trait in NAMED else f'{crate}::{trait}'
+        self.impls += [] if trait in NAMED else [f'{crate}::{trait}']
         r.next('{')
         while not r.skip('}'):
             if self.ghost(r):
                 continue
             r.next('fn')
-            name = '::'.join([crate, trait, r.word()])
-            params, result = self.head(r, name)
+            name = of + '::' + r.word()
+            params, result = self.head(r, name, owner if trait in NAMED else None)
             body = r.block()
             other = self.functions.get(name)
             if other and (other.crate, other.params, other.result) != (crate, params, result):
@@ -528,6 +587,8 @@ class Program:
 
     def head(self, r, name, owner=None):
         """The parameters and the result behind a function's name."""
+        if name.rsplit('::', 1)[1][0].isupper():
+            raise Refused(f'a function that has a name like a variant: {name}')
         r.of = name
         r.parameters()
         self.consts.update({name.split('::')[0] + '::' + n: ('usize', Node('number', (most, 'usize'), [])) for n, most in r.numbers.items()})
@@ -546,6 +607,8 @@ class Program:
     def function(self, crate, r, owner=None):
         name = '::'.join([crate, *[owner] * bool(owner), r.word()])
         params, result = self.head(r, name, owner)
+        if name in self.functions:
+            raise Refused('two functions of one name: ' + name)
         self.functions[name] = Function(crate, name, params, result, r.block())
         r.of, r.bounds, r.numbers = crate, {}, {}
         return name
@@ -561,6 +624,35 @@ class Program:
             raise Refused(f'a form of {r.of} that cannot be read: & {name}')
         r.next(':')
         return name, of_owner(r.type(), owner)
+
+
+# an edit changes one crate or two, and the others are read once
+read_crate = lru_cache(maxsize=None)(Crate)
+
+
+class Program:
+    """Some crates together, of which the texts are given."""
+
+    def __init__(self, texts):
+        self.functions, self.structs, self.enums, self.consts, self.methods = {}, {}, {}, {}, {}
+        given = [n for text in texts.values() for n in re.findall(r'(?:^impl \w+|::)<[^<>()\n]*?\b(\d+)>', text, re.M)]
+        crates = {crate: read_crate(crate, text, max(map(int, given), default=0)) for crate, text in texts.items()}
+        self.names = {crate: read.names for crate, read in crates.items()}
+        self.public = {crate: read.public for crate, read in crates.items()}
+        for read in crates.values():
+            for kind in ('functions', 'structs', 'enums', 'consts', 'methods'):
+                self.join(kind, getattr(self, kind), getattr(read, kind))
+        self.join('types', dict(self.structs), self.enums)
+        traits = {trait for read in crates.values() for trait in read.traits}
+        for name in (name for read in crates.values() for name in read.impls):
+            if self.found(name) not in traits:
+                raise Refused('a trait of {} that is not known: {}'.format(*name.split('::')))
+
+    def join(self, kind, mine, more):
+        for name in more:
+            if name in mine:
+                raise Refused(f'two {kind} of one name: {name}')
+        mine.update(more)
 
     def find(self, crate, path):
         """The full name of the function or the constant that a crate calls by this path; a method that is not there keeps its dot."""
@@ -581,6 +673,19 @@ class Program:
             full = self.names.get(owner, {}).get(name, full)
         return full
 
+    def fields(self, t):
+        """The fields of a struct or a tuple, by name."""
+        return {str(n): part for n, part in enumerate(t[1:])} if is_a(t, 'tuple') else self.structs.get(t, {})
+
+    def values_in(self, path):
+        """The types of the values that a variant has; None where this is no variant."""
+        return self.enums.get(path[-2], {}).get(path[-1]) if len(path) > 1 else None
+
+    def inside(self, t):
+        """The types of what a value of this type has in it; an array is one whole."""
+        of_enum = [part for held in self.enums.get(t, {}).values() for part in held]
+        return [*self.fields(t).values(), *(t[1:] if is_a(t, 'result') else ()), *of_enum]
+
 
 # ---- types
 
@@ -593,7 +698,12 @@ def of_owner(t, owner):
 
 PLACES = ('lent', 'index', 'part', 'field', 'unary')
 COMPARED = ('==', '!=', '<', '>', '<=', '>=')
-SIZES = {'u8': 1, 'bool': 1, 'u16': 2, 'u32': 4, 'u64': 8, 'usize': 8, None: 8, 'Refusal': 16, 'Result': 24}
+SIZES = {'u8': 1, 'bool': 1, 'u16': 2, 'u32': 4, 'u64': 8, 'usize': 8, None: 8}
+# the bytes that say which variant it is, of a result or an enum with values, and the variants of a result
+TAG = 8
+RESULTS = (('Ok',), ('Err',))
+# the kit's methods that give what has the type of what they are called of
+LIKE = ('max', 'min', 'wrapping_add', 'iter')
 OPERATORS = {'+': operator.add, '-': operator.sub, '*': operator.mul, '|': operator.or_, '&': operator.and_, '^': operator.xor, '>>': operator.rshift,
              '<<': lambda a, b: a << min(b, 64), '/': lambda a, b: a // max(b, 1), '%': lambda a, b: a % max(b, 1)}
 
@@ -612,6 +722,8 @@ def is_a(t, kind):
 def named(t):
     if is_a(t, 'array') or is_a(t, 'slice'):
         return '[' + '; '.join([named(t[1]), *map(str, t[2:])]) + ']'
+    if is_a(t, 'tuple') or is_a(t, 'result'):
+        return ('({})' if t[0] == 'tuple' else 'Result<{}>').format(', '.join(map(named, t[1:])))
     return '&' + named(t[2]) if is_a(t, 'ref') else str(t)
 
 
@@ -620,16 +732,43 @@ class Types:
 
     def __init__(self, p, f):
         self.p, self.f, self.names, self.values = p, f, dict(f.params), {}
-        for e in walk(f.body):
+        self.every = list(walk(f.body))
+        for e in self.every:
             if e.kind in ('for', 'test'):
                 self.declare(e.info, 'usize' if e.kind == 'for' else 'u8')
-        lets = [e for e in walk(f.body) if e.kind == 'let']
-        every = [*self.names, *(e.info[0] for e in lets)]
+        lets = [e for e in self.every if e.kind == 'let']
+        given = [*self.names, *(e.info[0] for e in lets)]
         for e in lets:
             name, mutable, t = e.info
             self.declare(name, t or self.of(e.parts[0]), self.is_lent_part(e.parts[0]))
-            if not mutable and every.count(name) == 1:
+            if not mutable and given.count(name) == 1:
                 self.values[name] = self.value(e.parts[0])
+        for name, t in [*f.params.items(), ('the result', f.result)]:
+            t = t[2] if is_a(t, 'ref') else t
+            if not is_a(t, 'slice') and self.lends(t):
+                raise Refused(f'{name} of {f.name} has a reference in it, which is not followed')
+        for e in self.every:
+            self.known(e)
+
+    def known(self, e):
+        """Refuses a name, a method, a variant or a `?` that is not known."""
+        if e.kind in ('name', 'try') or e.kind == 'call' and e.info[0] == '.' and self.p.find(self.f.crate, e.info) in self.p.functions:
+            self.of(e)
+        if e.kind == 'try' and (not is_a(self.f.result, 'result') or self.f.result[2] != self.of(e.parts[0])[2]):
+            self.unknown('?', 'another refusal')
+        if e.kind == 'variant' and len(e.parts) != (1 if e.info in RESULTS else len(self.variant(e.info))):
+            self.unknown('variant', '::'.join(e.info))
+
+    def variant(self, path, t=None):
+        """The types of the values that a variant has; those of Ok and Err are the result's."""
+        if path in RESULTS and is_a(t, 'result'):
+            return [t[1 + RESULTS.index(path)]]
+        found = self.p.values_in(path)
+        return self.unknown('variant', '::'.join(path)) if found is None or t not in (None, path[-2]) else found
+
+    def lends(self, t):
+        """Whether a value of this type has a reference in it, or is one."""
+        return is_a(t, 'ref') or is_a(t, 'slice') or any(map(self.lends, self.p.inside(t)))
 
     def is_lent_part(self, e):
         """Whether it lends a part of what was lent to the function, to be read alone: it holds no bytes of its own."""
@@ -640,8 +779,10 @@ class Types:
         return e.kind == 'name' and is_a(self.f.params.get(e.info[0]), 'ref')
 
     def declare(self, name, t, lent=False):
-        if (is_a(t, 'ref') or is_a(t, 'slice')) and not lent:
+        if self.lends(t) and not lent:
             raise Refused(f'{name} of {self.f.name} is a reference in a local, which is not followed')
+        if self.p.find(self.f.crate, (name,)) in self.p.consts:
+            raise Refused(f'{name} of {self.f.name} is the name of a constant')
         if self.names.setdefault(name, t) != t:
             raise Refused(f'{name} of {self.f.name} has two types')
 
@@ -671,9 +812,9 @@ class Types:
             f = self.p.functions.get(self.p.find(self.f.crate, info))
             if f and info[0] == '.' and self.lent(parts[0].parts[0]) != f.name.split('::')[-2]:
                 self.unknown('method', info[1])
-            return f and f.result
+            return f.result if f else self.of_kit(info, parts)
         if kind == 'field':
-            fields = self.p.structs.get(self.lent(parts[0]), {})
+            fields = self.p.fields(self.lent(parts[0]))
             return fields[info] if info in fields else self.unknown('field', info)
         if kind in ('array', 'repeat'):
             count = len(parts) if kind == 'array' else self.value(parts[1])
@@ -686,6 +827,8 @@ class Types:
         if kind in ('binary', 'if', 'match', 'unary', 'block', 'value'):
             of = parts[1:] if kind in ('if', 'match') else parts[-1:] if kind == 'block' else parts
             return 'bool' if info in COMPARED else self.lent(parts[0]) if info == '*' and kind == 'unary' else self.first(of)
+        if kind in ('variant', 'held', 'try', 'tuple'):
+            return ('tuple', *map(self.of, parts)) if kind == 'tuple' else self.of_variant(kind, info, parts)
         if kind == 'lent':
             return ('ref', info, self.of(parts[0]))
         if kind == 'bytes':
@@ -694,11 +837,26 @@ class Types:
             return info[1] if kind == 'number' else info[0]
         return 'usize' if kind == 'len' else info if kind == 'cast' else None
 
+    def of_kit(self, path, parts):
+        """The type of what a function of the kit gives, where it is not a number or a test."""
+        return self.lent(parts[0].parts[0]) if path[0] == '.' and path[1] in LIKE else None
+
+    def of_variant(self, kind, info, parts):
+        """The type of a variant, or of what is in it; a result's is not known from Ok or Err alone."""
+        if kind == 'variant':
+            return info[-2] if info not in RESULTS and self.variant(info) else self.unknown('type', info[0])
+        path, n = info if kind == 'held' else (RESULTS[0], 0)
+        t = self.of(parts[0])
+        values = self.variant(path, t or '')
+        return values[n] if n < len(values) else self.unknown('variant', '::'.join(path))
+
     def of_name(self, path):
         const = self.constant(path)
         if const or path[0] in self.names:
             return const[0] if const else self.names[path[0]]
-        return path[-2] if path[-1] in self.p.enums.get(path[-2:][0], []) else self.unknown('name', '::'.join(path))
+        if path in (('true',), ('false',)):
+            return 'bool'
+        return path[-2] if self.p.values_in(path) == [] else self.unknown('name', '::'.join(path))
 
     def first(self, parts):
         return next((t for t in map(self.of, parts) if t is not None), None)
@@ -714,14 +872,23 @@ class Types:
     def size(self, t):
         if is_a(t, 'array'):
             return t[2] * self.size(t[1])
-        if t in self.p.structs:
-            return sum(map(self.size, self.p.structs[t].values()))
-        return SIZES[t] if t in SIZES else 1 if t in self.p.enums else self.unknown('size', named(t))
+        if t in self.p.structs or is_a(t, 'tuple'):
+            return sum(map(self.size, self.p.fields(t).values()))
+        if is_a(t, 'result'):
+            return TAG + max(map(self.size, t[1:]))
+        if t in self.p.enums:
+            return TAG + max(sum(map(self.size, held)) for held in self.p.enums[t].values()) if any(self.p.enums[t].values()) else 1
+        return SIZES[t] if t in SIZES else self.unknown('size', named(t))
 
     def unnamed(self):
-        """What is made and used where it stands."""
+        """What is made and used where it stands, and every tuple and value of an enum, wherever it stands."""
         made = ('array', 'repeat', 'struct', 'if', 'match', 'block')
-        return [e.parts[0] for e in walk(self.f.body) if e.kind in PLACES and e.parts[0].kind in made]
+        several = [e for e in self.every if e.kind == 'tuple' or e.kind == 'variant' and e.info not in RESULTS]
+        return [e.parts[0] for e in self.every if e.kind in PLACES and e.parts[0].kind in made] + several
+
+    def written(self):
+        """The arrays that stand in the function's text."""
+        return [('a value without a name', self.of(e)) for e in self.every if e.kind in ('array', 'repeat')]
 
     def arrays(self):
         """The arrays that the function has by value, each with the name of what it is or is in."""
@@ -729,5 +896,5 @@ class Types:
         for name, t in rest:
             if is_a(t, 'array'):
                 yield name, t
-            elif isinstance(t, str):
-                rest += [(name, inner) for inner in self.p.structs.get(t, {}).values()]
+            else:
+                rest += [(name, inner) for inner in self.p.inside(t)]

@@ -3,11 +3,10 @@
 #![tactic(auto)]
 
 ghost use Rattle.std.specs.Prelude.{◌≡◌, List, ℕ, ◌+◌, length};
-ghost use Rattle.spec.specs.Aes.{state_of, bytes_of, add_round_key, round_of, last_round};
-ghost use Rattle.aes_keys.specs.RoundKeys.{words};
-ghost use Rattle.aes.specs.Ciphers.{encrypted, after};
+ghost use Rattle.spec.specs.Aes.{state_of, bytes_of, add_round_key, round_of, last_round, cipher, rounds, key_expansion};
+ghost use Rattle.aes_keys.specs.Scheduled.{Expands};
 
-pub use aes_keys::KeySchedule;
+pub use aes_keys::{KeySchedule, key_schedule};
 use aes_steps::{mix_columns, shift_rows, sub_bytes, xor_word};
 pub use aes_steps::{Sbox, pack, table, unpack};
 
@@ -66,10 +65,10 @@ fn two_rounds(sbox: &Sbox, s: [[u8; 4]; 4], k: [[u8; 4]; 4], l: [[u8; 4]; 4]) ->
     add_round_key(mix_columns(shift_rows(sub_bytes(sbox, x))), l)
 }
 
-// CIPHER with the schedule's key. The nine rounds that every key has are counted by a constant and stand here by their steps, which is quicker; those from 10
-// on of longer keys go by twos, as in `later_rounds`.
+// CIPHER with any key whose schedule it is. The nine rounds that every key has are counted by a constant and stand here by their steps, which is quicker; those
+// from 10 on of longer keys go by twos, as in `later_rounds`.
 pub fn encrypt(sbox: &Sbox, schedule: &KeySchedule, s: [[u8; 4]; 4]) -> [[u8; 4]; 4]
-    ensures { result ≡ encrypted schedule.now s }
+    ensures { (nk : ℕ) (key : List ℕ) → Expands nk key schedule.now → result ≡ cipher (nk + 6) (key_expansion nk key) s }
 {
     let n = schedule.rounds();
     let mut x = add_round_key(s, schedule.round_key(0));
@@ -91,7 +90,8 @@ pub fn encrypt(sbox: &Sbox, schedule: &KeySchedule, s: [[u8; 4]; 4]) -> [[u8; 4]
 
 // The rounds of longer keys: from round 10 on, and before the last, round n. There are two or four, and they go by twos, which is quicker than one by one.
 fn later_rounds(sbox: &Sbox, schedule: &KeySchedule, s: [[u8; 4]; 4]) -> [[u8; 4]; 4]
-    ensures { (a : List (List ℕ)) → s ≡ after schedule.now a 9 → result ≡ after schedule.now a (words schedule.now + 5) }
+    ensures { (nk : ℕ) (key : List ℕ) (a : List (List ℕ)) → Expands nk key schedule.now
+        → s ≡ rounds (key_expansion nk key) a 9 → result ≡ rounds (key_expansion nk key) a (nk + 5) }
 {
     let n = schedule.rounds();
     let mut x = s;
@@ -115,8 +115,8 @@ pub struct Blocks {
 // compares it with one after the other). The steps of a round stand here one by one, since the compiler would not inline a function of them that is called
 // twice. The nine rounds that every key has are counted by a constant, which is quicker; those from 10 on of longer keys go one state after the other.
 pub fn encrypt_pair(sbox: &Sbox, schedule: &KeySchedule, a: [[u8; 4]; 4], b: [[u8; 4]; 4]) -> Blocks
-    ensures first { result.first ≡ bytes_of (encrypted schedule.now a) }
-    ensures second { result.second ≡ bytes_of (encrypted schedule.now b) }
+    ensures first { (nk : ℕ) (key : List ℕ) → Expands nk key schedule.now → result.first ≡ bytes_of (cipher (nk + 6) (key_expansion nk key) a) }
+    ensures second { (nk : ℕ) (key : List ℕ) → Expands nk key schedule.now → result.second ≡ bytes_of (cipher (nk + 6) (key_expansion nk key) b) }
 {
     let n = schedule.rounds();
     let mut x = add_round_key(a, schedule.round_key(0));

@@ -2,10 +2,10 @@
 // keys; the unused ones behind those of a shorter key are zeros.
 #![tactic(auto)]
 
-ghost use Rattle.std.specs.Prelude.{◌≡◌, List, [], ◌∷◌, ℕ, ◌+◌, ◌-◌, ◌*◌, ◌%◌, ◌≤◌, length};
+ghost use Rattle.std.specs.Prelude.{◌≡◌, List, [], ◌∷◌, ℕ, ◌+◌, ◌*◌, ◌%◌, ◌≤◌, ◌<◌, length, get_or};
 ghost use Rattle.spec.specs.Bytes.{tabulate};
 ghost use Rattle.spec.specs.Aes.{state, word_at, round_key, key_expansion};
-ghost use Rattle.aes_keys.specs.RoundKeys.{words, Keyed, key_of, chained, next_round_key, odd_round_key};
+ghost use Rattle.aes_keys.specs.RoundKeys.{words, Keyed, chained, next_round_key, odd_round_key};
 ghost use Rattle.aes_keys.specs.RoundKeys.{six_of, six_words, lower_four, upper_four, next_six, three_keys};
 
 use aes_steps::{Sbox, rot_word, sub_word, xor_word};
@@ -281,7 +281,7 @@ fn stored_keys(keys: &[[[u8; 4]; 4]; 15]) -> [RoundKey; 15]
     ]
 }
 
-// The round keys of a key, and how many rounds they are for. A clause sees the key.
+// Round keys, and how many rounds they are for. A clause sees both, and says of which key they are.
 #[derive(Drop)]
 pub struct KeySchedule {
     round_keys: [RoundKey; 15],
@@ -289,31 +289,31 @@ pub struct KeySchedule {
 }
 
 impl Model for KeySchedule {
-    ghost use Rattle.std.specs.Prelude.{List, ℕ};
+    ghost use Rattle.aes_keys.specs.Scheduled.{Schedule, schedule_of, Scheduled};
 
-    ghost Value = { List ℕ };
+    ghost Value = { Schedule };
 
-    ghost use Rattle.aes_keys.specs.Scheduled.{scheduled_key, Scheduled};
-
-    ghost view = { scheduled_key };
+    ghost view = { schedule_of };
 
     ghost invariant = { Scheduled };
 }
 
 impl KeySchedule {
+    ghost use Rattle.aes_keys.specs.Scheduled.{Expands};
+
     // The schedule of a key of 16, 24 or 32 bytes.
     pub fn new(sbox: &Sbox, key: &[u8]) -> Self
         requires { (16 ≤ length key.now) × (length key.now ≤ 32) × (length key.now % 8 ≡ 0) }
-        ensures { result ≡ key.now }
+        ensures { Expands (words key.now) key.now result }
     {
         KeySchedule::of_round_keys(&key_schedule(sbox, key), key.len() / 4 + 6)
     }
 
-    // The schedule that these round keys make, those of the key that they begin with.
+    // The schedule that these round keys make, of whatever key they are, or of none.
     pub fn of_round_keys(keys: &[[[u8; 4]; 4]; 15], rounds: usize) -> Self
-        requires bounds { (10 ≤ rounds) × (rounds ≤ 14) × (rounds % 2 ≡ 0) }
-        requires keyed { Keyed (rounds - 6) (key_of (rounds - 6) keys.now) keys.now }
-        ensures { result ≡ key_of (rounds - 6) keys.now }
+        requires { (10 ≤ rounds) × (rounds ≤ 14) × (rounds % 2 ≡ 0) }
+        ensures count { result.rounds ≡ rounds }
+        ensures keys { result.round_keys ≡ keys.now }
     {
         KeySchedule {
             round_keys: stored_keys(keys),
@@ -323,16 +323,16 @@ impl KeySchedule {
 
     // The number of rounds: 10, 12 or 14.
     pub fn rounds(&self) -> usize
-        ensures count { result ≡ words self.now + 6 }
+        ensures count { result ≡ self.now.rounds }
         ensures bounds { (10 ≤ result) × (result ≤ 14) × (result % 2 ≡ 0) }
     {
         self.rounds
     }
 
-    // Round key i.
+    // Round key i; those behind the last of the rounds are whatever the schedule was made of.
     pub fn round_key(&self, i: usize) -> [[u8; 4]; 4]
-        requires { i ≤ words self.now + 6 }
-        ensures { result ≡ round_key (key_expansion (words self.now) self.now) i }
+        requires { i < 15 }
+        ensures { result ≡ get_or self.now.round_keys i [] }
     {
         let keys = &self.round_keys;
         keys[i].columns()

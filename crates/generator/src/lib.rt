@@ -2,13 +2,13 @@
 // which differs in the counter alone.
 #![tactic(auto)]
 
-ghost use Rattle.std.specs.Prelude.{◌≡◌, ℕ, ◌+◌, ◌*◌, ◌%◌, ◌^◌, ◌<◌, ◌≤◌, length};
+ghost use Rattle.std.specs.Prelude.{◌≡◌, List, ℕ, ◌+◌, ◌*◌, ◌%◌, ◌^◌, ◌<◌, ◌≤◌, length};
 ghost use Rattle.spec.specs.Bytes.{tabulate};
 ghost use Rattle.spec.specs.Aes.{state_of};
 ghost use Rattle.spec.specs.Generator.{add_to_word, add_to_upper_word, add_to_lower_word};
 ghost use Rattle.spec.specs.Version1.{add_to_iv};
 ghost use Rattle.job.specs.Versions.{counter_of, block_of, byte_of};
-ghost use Rattle.aes_keys.specs.RoundKeys.{words};
+ghost use Rattle.aes_keys.specs.Scheduled.{Expands};
 ghost use Rattle.generator.specs.Stored.{Stored};
 
 use aes::{Blocks, KeySchedule, Sbox};
@@ -73,9 +73,9 @@ fn counter(x: Nonce, n: u32) -> [[u8; 4]; 4]
     }
 }
 
-// Block n of the schedule's key.
+// Block n of any key whose schedule it is.
 pub fn block(sbox: &Sbox, schedule: &KeySchedule, x: Nonce, n: u32) -> [u8; 16]
-    ensures { result ≡ block_of (words schedule.now) schedule.now x n }
+    ensures { (nk : ℕ) (key : List ℕ) → Expands nk key schedule.now → result ≡ block_of nk key x n }
 {
     aes::bytes_of(aes::encrypt(sbox, schedule, counter(x, n)))
 }
@@ -83,8 +83,8 @@ pub fn block(sbox: &Sbox, schedule: &KeySchedule, x: Nonce, n: u32) -> [u8; 16]
 // Blocks n and n + 1, encrypted together.
 pub fn block_pair(sbox: &Sbox, schedule: &KeySchedule, x: Nonce, n: u32) -> Blocks
     requires { n + 1 < 2 ^ 32 }
-    ensures first { result.first ≡ block_of (words schedule.now) schedule.now x n }
-    ensures second { result.second ≡ block_of (words schedule.now) schedule.now x (n + 1) }
+    ensures first { (nk : ℕ) (key : List ℕ) → Expands nk key schedule.now → result.first ≡ block_of nk key x n }
+    ensures second { (nk : ℕ) (key : List ℕ) → Expands nk key schedule.now → result.second ≡ block_of nk key x (n + 1) }
 {
     let iv = x.iv;
     let version = x.version;
@@ -145,10 +145,11 @@ fn store(block: [u8; 16], from: usize, p: usize, out: &mut [u8]) -> usize
     store_part(block, from, p, out)
 }
 
-// Fills out with the output of the schedule's key from byte `first` on: byte p of the output is byte p % 16 of block p / 16.
+// Fills out with the output of any key whose schedule it is, from byte `first` on: byte p of the output is byte p % 16 of block p / 16.
 pub fn fill_keyed(sbox: &Sbox, schedule: &KeySchedule, x: Nonce, first: usize, out: &mut [u8])
     requires { first + length out.old < 2 ^ 32 }
-    ensures { out.new ≡ tabulate (length out.old) (λ p. byte_of (words schedule.now) schedule.now x (first + p)) }
+    ensures { (nk : ℕ) (key : List ℕ) → Expands nk key schedule.now
+        → out.new ≡ tabulate (length out.old) (λ p. byte_of nk key x (first + p)) }
 {
     // a `while`, since a turn goes on by what it stored: the first block is cut in front, the last behind
     let mut p = 0;

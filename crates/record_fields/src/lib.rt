@@ -113,14 +113,24 @@ impl RecordVersion {
     }
 }
 
-// The version of a record, if it begins with a byte that names one.
-pub fn version_of(bytes: &[u8]) -> Option<RecordVersion>
-    ensures { result ≡ version_named (version_of bytes.now) }
+// The version byte of a record, 0 where it is missing.
+pub fn version_of(bytes: &[u8]) -> u8
+    ensures { result ≡ version_of bytes.now }
 {
     match bytes.first() {
-        Some(byte) => RecordVersion::named(*byte),
-        None => None,
+        Some(byte) => *byte,
+        None => 0,
     }
+}
+
+// The bytes of the head of a version, 0 where the byte names none.
+pub fn head_length(version: u8) -> usize
+    ensures { (result ≡ head_bytes version) × (result ≤ 11) }
+{
+    let Some(known) = RecordVersion::named(version) else {
+        return 0;
+    };
+    known.head_length()
 }
 
 // The level in the head of a version, in bits.
@@ -170,15 +180,14 @@ pub fn row_in(head: &[u8]) -> usize
     number4(head, 5)
 }
 
-// Whether a record of a version may have a leaf kind.
-#[tactic(auto, unfolding(crate::specs::Versions::byte_of))]
-pub fn kind_fits(version: RecordVersion, kind: usize) -> bool
-    ensures { result ≡ kind_fits (byte_of version) kind }
+// Whether a record of a version may have a leaf kind, by the version's byte.
+pub fn kind_fits(version: u8, kind: usize) -> bool
+    ensures { result ≡ kind_fits version kind }
 {
-    match version {
-        RecordVersion::One | RecordVersion::Two => true,
-        RecordVersion::Three => kind == 1,
+    if version != 3 {
+        return true;
     }
+    kind == 1
 }
 
 // The version that is written for a shape, by its leaf kind.

@@ -2,7 +2,7 @@
 // it takes the reader apart and calls a function of record_fields.
 #![tactic(auto)]
 
-ghost use Rattle.std.specs.Prelude.{◌≡◌, ◌&&◌, cond, Some, None, ◌+◌, ◌^◌, ◌<◌, ◌≤◌, length};
+ghost use Rattle.std.specs.Prelude.{◌≡◌, ◌&&◌, cond, Ok, Err, ◌+◌, ◌^◌, ◌<◌, ◌≤◌, length};
 ghost use Rattle.record.specs.Fields.{field_ok, field_at, behind};
 
 #[derive(Clone, Copy)]
@@ -78,7 +78,8 @@ pub fn head_of(bytes: &[u8], h: usize) -> &[u8]
     field(advanced(new(bytes), 1), h)
 }
 
-// The reader goes past a head of h bytes, and tests each of the five fields behind it before it goes past it. Where all are there, its place behind the sixth field.
+// The reader goes past a head of h bytes, and tests each of the five fields behind it before it goes past it. Its place behind the sixth field in the end: Ok
+// where all are there, Err where one is not.
 pub fn rest_of(
     bytes: &[u8],
     h: usize,
@@ -87,14 +88,15 @@ pub fn rest_of(
     n4: usize,
     n5: usize,
     n6: usize,
-) -> Option<usize>
+) -> Result<usize, usize>
     requires { 1 + 4 + h + 4 + n2 + 4 + n3 + 4 + n4 + 4 + n5 + 4 + n6 < 2 ^ 64 }
     ensures { result ≡ cond ((((field_ok bytes.now (behind 1 h) n2
         && field_ok bytes.now (behind (behind 1 h) n2) n3)
         && field_ok bytes.now (behind (behind (behind 1 h) n2) n3) n4)
         && field_ok bytes.now (behind (behind (behind (behind 1 h) n2) n3) n4) n5)
         && field_ok bytes.now (behind (behind (behind (behind (behind 1 h) n2) n3) n4) n5) n6)
-        (Some (behind (behind (behind (behind (behind (behind 1 h) n2) n3) n4) n5) n6)) None }
+        (Ok (behind (behind (behind (behind (behind (behind 1 h) n2) n3) n4) n5) n6))
+        (Err (behind (behind (behind (behind (behind (behind 1 h) n2) n3) n4) n5) n6)) }
 {
     let r2 = past(advanced(new(bytes), 1), h);
     let ok2 = fits(r2, n2);
@@ -107,10 +109,11 @@ pub fn rest_of(
     let r6 = past(r5, n5);
     let ok6 = fits(r6, n6);
     let r7 = past(r6, n6);
+    let end = place(r7);
     if ok2 & ok3 & ok4 & ok5 & ok6 {
-        Some(place(r7))
+        Ok(end)
     } else {
-        None
+        Err(end)
     }
 }
 

@@ -10,7 +10,7 @@ use Rattle.record.specs.Fields.{field_ok, field_at, behind}
 use Rattle.record.specs.Record.{version_of, head_bytes, version_ok, head_of, corrections_place, opening_place, commitment_place, contents_of, head_number, fields_number}
 use Rattle.record.proofs.Fields.{field-length, field_room}
 use Rattle.record.proofs.Reading.{front-shape, front-row, fields-rest}
-use Rattle.std.specs.Prelude.{Result, Ok, Err, IfOk, Some, None}
+use Rattle.std.specs.Prelude.{Result, Ok, Err, IfOk}
 use Rattle.record_fields.specs.declared.RecordVersion.{RecordVersion}
 use Rattle.record_fields.specs.Versions.{byte_of}
 use Rattle.record_reading.specs.declared.Front.{Front}
@@ -92,10 +92,10 @@ module _ (rec : List ℕ) (z : Sizes) (n : SizesOf rec z) where
 
 -- ---- the end of the fields, if they are there
 
-pub there : (b : Bool) (e n : ℕ) → Some n ≡ cond b (Some e) None → (b ≡ true) × (n ≡ e)
+pub there : (b : Bool) (e n : ℕ) → ◌≡◌ {A = Result ℕ ℕ} (Ok n) (cond b (Ok e) (Err e)) → (b ≡ true) × (n ≡ e)
 there true e n h = (refl, cc)
 there false e n h = cc
 
-pub missing : (b : Bool) (e : ℕ) → None ≡ cond b (Some e) None → b ≡ false
-missing true e h = cc
-missing false e h = refl
+pub missing : (b : Bool) (e n : ℕ) → ◌≡◌ {A = Result ℕ ℕ} (Err n) (cond b (Ok e) (Err e)) → b ≡ false
+missing true e n h = cc
+missing false e n h = refl

@@ -2,7 +2,7 @@
 // are tested by a reader, record_reader, and handed out by it where they are used.
 #![tactic(auto)]
 
-ghost use Rattle.std.specs.Prelude.{◌≡◌, true, ◌&&◌, cond, List, [], ◌∷◌, ℕ, ◌<◌, ◌≤◌, length, IfOk, Some, None};
+ghost use Rattle.std.specs.Prelude.{◌≡◌, true, ◌&&◌, cond, List, [], ◌∷◌, ℕ, ◌<◌, ◌≤◌, length, IfOk, Ok, Err};
 ghost use Rattle.spec.specs.Shapes.{shape_ok};
 ghost use Rattle.spec.specs.Calls.{first_refusal, row_ok};
 ghost use Rattle.record.specs.Record.{head_bytes, kind_fits, fields_test, end_of, read_number};
@@ -79,7 +79,7 @@ fn test_said(
 ) -> Result<(), RecordRefusal>
     ensures { number_in result ≡ first_refusal ((shape_ok resolved && kind_fits (byte_of version) kind, 1) ∷ (row_ok row, 2) ∷ []) }
 {
-    if !(rules::is_shape(resolved) & record_fields::kind_fits(version, kind)) {
+    if !(rules::is_shape(resolved) & record_fields::kind_fits(version.byte(), kind)) {
         return Err(RecordRefusal::NotAShape);
     }
     if !rules::is_row_length(row) {
@@ -111,7 +111,7 @@ fn front_in(version: RecordVersion, head: &[u8]) -> Result<Front, RecordRefusal>
 pub fn front_of(bytes: &[u8]) -> Result<Front, RecordRefusal>
     ensures { ReadFront bytes.now result }
 {
-    let Some(version) = record_fields::version_of(bytes) else {
+    let Some(version) = RecordVersion::named(record_fields::version_of(bytes)) else {
         return Err(RecordRefusal::UnknownVersion);
     };
     let h = version.head_length();
@@ -136,10 +136,10 @@ pub fn sizes_of(f: Front) -> Sizes
     }
 }
 
-// Where the sixth field ends, if fields two to six are there. What stands behind it is not looked at.
-pub fn rest(bytes: &[u8], z: Sizes) -> Option<usize>
+// Where the sixth field ends: Ok where fields two to six are there, Err where one is not. What stands behind it is not looked at.
+pub fn rest(bytes: &[u8], z: Sizes) -> Result<usize, usize>
     requires { SizesOf bytes.now z }
-    ensures { result ≡ cond (fields_test bytes.now).0 (Some (end_of bytes.now)) None }
+    ensures { result ≡ cond (fields_test bytes.now).0 (Ok (end_of bytes.now)) (Err (end_of bytes.now)) }
 {
     record_reader::rest_of(
         bytes,
@@ -158,7 +158,7 @@ pub fn is_read(bytes: &[u8], z: Sizes) -> bool
     ensures { read_number bytes.now ≡ cond result 0 10 }
 {
     match rest(bytes, z) {
-        Some(end) => bytes.len() == end,
-        None => false,
+        Ok(end) => bytes.len() == end,
+        Err(_) => false,
     }
 }

@@ -64,8 +64,8 @@ fn entry_behind(bytes: &[u8], f: Front) -> Entry
 {
     let z = record_reading::sizes_of(f);
     match record_reading::rest(bytes, z) {
-        Some(end) => open_fields(bytes, f, z, end),
-        None => refused(RecordRefusal::NotARecord.number(), bytes.len()),
+        Ok(end) => open_fields(bytes, f, z, end),
+        Err(_) => refused(RecordRefusal::NotARecord.number(), bytes.len()),
     }
 }
 

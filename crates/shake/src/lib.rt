@@ -90,18 +90,51 @@ fn squeeze_part(lanes: [u64; 25], out: &mut [u8])
     buffers::copy(&block[..n], out);
 }
 
+// Fills out with the output of a state that has absorbed whole blocks at a rate, block by block. The loop is a `while`, since a turn goes on by a block or what
+// is left.
+pub fn squeeze(lanes: [u64; 25], rate: usize, out: &mut [u8])
+    requires { (rate ≤ 168) × (0 < rate) }
+    ensures { out.new ≡ tabulate (length out.old) (output_byte rate lanes) }
+{
+    let mut state = lanes;
+    let mut at = 0;
+    while at < out.len() {
+        let n = rate.min(out.len() - at);
+        squeeze_part(state, &mut out[at..at + n]);
+        at += n;
+        if at < out.len() {
+            let next = keccak::keccak_f(state);
+            state = next;
+        }
+    }
+}
+
 impl Sponge {
-    ghost use Rattle.shake.specs.Absorbing.{Absorbed, Absorbs};
+    ghost use Rattle.shake.specs.Absorbing.{Holds, Absorbed, Absorbs};
+
+    // A sponge of SHAKE128 that has absorbed nothing. Its lanes and its fill are those of a sponge at any rate.
+    pub fn empty() -> Sponge
+        ensures holds { ((r : ℕ) → 0 < r → Holds r [] result.lanes result.fill) × (result.fill ≡ 0) }
+        ensures rate { result.rate ≡ 168 }
+    {
+        Sponge {
+            rate: 168,
+            lanes: [0; 25],
+            fill: 0,
+        }
+    }
 
     // A sponge that has absorbed nothing.
     pub fn new(rate: usize) -> Sponge
         requires { (rate ≤ 168) × (0 < rate) }
         ensures { (result.rate ≡ rate) × Absorbed result [] }
     {
+        let empty = Sponge::empty();
+        let lanes = empty.lanes;
         Sponge {
             rate,
-            lanes: [0; 25],
-            fill: 0,
+            lanes,
+            fill: empty.fill,
         }
     }
 
@@ -155,21 +188,11 @@ impl Sponge {
         sponge
     }
 
-    // Fills out with the output of a state that has absorbed whole blocks, block by block. The loop is a `while`, since a turn goes on by a block or what is left.
+    // The same with its own state and rate.
     pub fn squeeze_blocks(self, out: &mut [u8])
         ensures { out.new ≡ tabulate (length out.old) (output_byte self.rate self.lanes) }
     {
-        let rate = self.rate;
-        let mut state = self;
-        let mut at = 0;
-        while at < out.len() {
-            let n = rate.min(out.len() - at);
-            squeeze_part(state.lanes, &mut out[at..at + n]);
-            at += n;
-            if at < out.len() {
-                state = state.permute();
-            }
-        }
+        squeeze(self.lanes, self.rate, out);
     }
 
     // Absorbs the suffix and the padding, which end the last block.

@@ -1,9 +1,8 @@
 -- The counter's state, encrypted.
 use Rattle.std.proofs.Common.{ap, ◌∙◌}
 use Rattle.spec.specs.Aes.{bytes_of}
-use Rattle.aes_keys.specs.RoundKeys.{words}
 use Rattle.generator.proofs.Blocks.{block-is}
 use Rattle.generator.proofs.block.Goals as goal
 
 pub returns : goal.returns
-returns c = (let key = c.args.schedule.now in block-is (words key) key c.args.x _ _ _ c.counter.ensures (c.bytes_of.ensures ∙ ap bytes_of c.encrypt.ensures))
+returns c = λ nk key e. block-is nk key c.args.x _ _ _ c.counter.ensures (c.bytes_of.ensures ∙ ap bytes_of (c.encrypt.ensures nk key e))

@@ -1,12 +1,11 @@
 use Rattle.std.proofs.Common.{ℕ, ◌+◌, refl, arith, rules}
-use Rattle.aes_keys.specs.RoundKeys.{words}
 use Rattle.job.specs.Versions.{byte_of}
 use Rattle.laws.proofs.Front.{front-none, front-all}
 use Rattle.generator.proofs.Blocks.{block-byte}
 use Rattle.generator.proofs.fill_keyed.Goals as goal
 
 pub loop-p-init : goal.loop-p-init
-loop-p-init c = (omega arith, refl, front-none _ _)
+loop-p-init c = (omega arith, refl, λ nk key e. front-none _ _)
 
 pub loop-p-smaller : goal.loop-p-smaller
 loop-p-smaller c =
@@ -24,16 +23,16 @@ loop-p-preserved c =
     let size = l.invariant.1 in (
       omega (arith, two.ensures.inside),
       search rules,
-      let key = a.schedule.now in
+      λ nk key e.
           let pair = c.block_pair-pair.ensures in
-          let f : ℕ → ℕ = λ q. byte_of (words key) key a.x (a.first + q) in
-          let byte = block-byte (words key) key a.x in
-          two.ensures.written f _ (λ i h room. byte _ _ _ i _ pair.second (omega (arith, one.ensures.whole (omega arith))) h)
-          (one.ensures.written f _ (λ i h room. byte _ _ _ i _ pair.first (omega arith) h) l.invariant.2),
+          let f : ℕ → ℕ = λ q. byte_of nk key a.x (a.first + q) in
+          let byte = block-byte nk key a.x in
+          two.ensures.written f _ (λ i h room. byte _ _ _ i _ (pair.second nk key e) (omega (arith, one.ensures.whole (omega arith))) h)
+          (one.ensures.written f _ (λ i h room. byte _ _ _ i _ (pair.first nk key e) (omega arith) h) (l.invariant.2 nk key e)),
     )
 
 pub returns : goal.returns
-returns c =
+returns c = λ nk key e.
     let l = c.loop-p in
     let size = l.invariant.1 in
-    front-all _ _ l.p l.out (omega arith) l.invariant.2
+    front-all _ _ l.p l.out (omega arith) (l.invariant.2 nk key e)

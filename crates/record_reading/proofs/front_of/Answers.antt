@@ -16,14 +16,14 @@ use Rattle.record_reading.proofs.front_of.Goals.{In-Some}
 
 -- the version is that of the record's first byte, whose head is known
 of : (c : In-Some) → byte_of c.in-Some.version ≡ version_of c.args.bytes.now
-of c = named-byte _ _ c.in-Some.ensures
+of c = named-byte _ _ c.in-Some.ensures ∙ c.version_of.ensures
 
 known : (c : In-Some) → 0 < head_bytes (version_of c.args.bytes.now)
 known c = (let m = nine c.in-Some.version in rw (← of c) (omega arith))
 
 pub returns-in_default : goal.returns-in_default
 unfolding number_of
-returns-in_default c = refused _ _ (sym (no-version _ (unnamed _ c.in_default.ensures)))
+returns-in_default c = refused _ _ (sym (no-version _ (ap head_bytes (sym c.version_of.ensures) ∙ unnamed _ c.in_default.ensures)))
 
 pub returns-then-not-head_fits : goal.returns-then-not-head_fits
 unfolding number_of

@@ -4,10 +4,10 @@ use Rattle.record.proofs.Reading.{end-decides}
 use Rattle.record_reading.proofs.Fronts.{there, missing}
 use Rattle.record_reading.proofs.is_read.Goals as goal
 
-pub returns-in-Some : goal.returns-in-Some
-returns-in-Some c =
-    let q = there _ _ _ c.in-Some.ensures in
+pub returns-in-Ok : goal.returns-in-Ok
+returns-in-Ok c =
+    let q = there _ _ _ c.in-Ok.ensures in
     end-decides _ c.requires.read ∙ rw (q.0, q.1) refl
 
-pub returns-in-None : goal.returns-in-None
-returns-in-None c = end-decides _ c.requires.read ∙ rw (missing _ _ c.in-None.ensures) refl
+pub returns-in-Err : goal.returns-in-Err
+returns-in-Err c = end-decides _ c.requires.read ∙ rw (missing _ _ _ c.in-Err.ensures) refl

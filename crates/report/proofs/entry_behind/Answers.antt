@@ -23,15 +23,15 @@ rest-requires c = c.sizes_of-z.ensures _ c.requires
 
 pub open_fields-requires : goal.open_fields-requires
 open_fields-requires c =
-    let q = there _ _ _ c.in-Some.ensures in
+    let q = there _ _ _ c.in-Ok.ensures in
     (c.requires, c.sizes_of-z.ensures _ c.requires, fields-decide _ c.requires.read ∙ ap number_by q.0, q.1)
 
-pub returns-in-Some : goal.returns-in-Some
-returns-in-Some c = c.open_fields.ensures
+pub returns-in-Ok : goal.returns-in-Ok
+returns-in-Ok c = c.open_fields.ensures
 
-pub returns-in-None : goal.returns-in-None
+pub returns-in-Err : goal.returns-in-Err
 unfolding number_of
-returns-in-None c =
+returns-in-Err c =
     let xs = c.args.bytes.now in
-    let e : fields_number xs ≡ 10 = fields-decide xs c.requires.read ∙ ap number_by (missing _ _ c.in-None.ensures) in
+    let e : fields_number xs ≡ 10 = fields-decide xs c.requires.read ∙ ap number_by (missing _ _ _ c.in-Err.ensures) in
     c.refused.ensures ∙ ap (stopped (length xs)) (c.number.ensures ∙ sym e) ∙ sym (entry-stops xs (λ z. let k = sym e ∙ z in omega arith))

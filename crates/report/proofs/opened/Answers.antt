@@ -1,5 +1,4 @@
 -- The entry by what the tests of the opening give.
-use native.Mathlib.Omega.{arith}
 use mathlib.Core.Path.{ap, ◌∙◌}
 use Rattle.refusals.proofs.Outcomes.{numbered}
 use Rattle.report.proofs.Answers.{stopped, entry-refused, entry-passed, within}

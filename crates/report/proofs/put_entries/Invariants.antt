@@ -1,6 +1,6 @@
 -- After each turn the records up to `at` are reported: the laws of `Reported`.
-use Prim.Native.Nat.{ℕ, ◌-◌, ◌≤◌}
-use mathlib.Core.Path.{◌≡◌, ◌∙◌}
+use Prim.Native.Nat.{◌-◌, ◌≤◌}
+use mathlib.Core.Path.{◌≡◌}
 use lib.ListN.{length, drop}
 use Rattle.report.proofs.Reported.{Reported}
 use Rattle.report.proofs.put_entries.Given as goal

@@ -38,15 +38,16 @@ loop-at-preserved-then-from-b c =
     let g = c.args in
     let l = c.loop-at in
     let pair = c.block_pair-pair.ensures in
-    let key = c.new-schedule.result in
-    let added = block-added (words key) key g.x g.first in
+    let seed = g.seed.now in
+    let expands = c.new-schedule.ensures in
+    let added = block-added (words seed) seed g.x g.first in
     let one = c.add_block-mid.ensures in
     let two = c.add_block-at.ensures in
     let size = l.invariant.1.size in
     let size2 = one.1.size in (
       omega (arith, two.0, one.0),
-      added _ _ _ _ _ _ _ _ pair.second (omega (arith, one.0)) (omega (arith, two.0)) (omega (arith, two.0))
-          (added _ _ _ _ _ _ _ _ pair.first (omega arith) (omega (arith, one.0)) (omega (arith, one.0)) l.invariant.1 one.1)
+      added _ _ _ _ _ _ _ _ (pair.second _ _ expands) (omega (arith, one.0)) (omega (arith, two.0)) (omega (arith, two.0))
+          (added _ _ _ _ _ _ _ _ (pair.first _ _ expands) (omega arith) (omega (arith, one.0)) (omega (arith, one.0)) l.invariant.1 one.1)
           two.1,
     )
 
@@ -54,11 +55,11 @@ pub loop-at-preserved : goal.loop-at-preserved
 loop-at-preserved c =
     let g = c.args in
     let l = c.loop-at in
-    let key = c.new-schedule.result in
+    let block = c.block-block.ensures _ _ c.new-schedule.ensures in
     let one = c.add_block-at-else-from-b.ensures in
     let size = l.invariant.1.size in (
       omega (arith, one.0),
-      block-added (words key) key g.x g.first _ _ _ _ _ _ _ _ c.block-block.ensures (omega arith) (omega (arith, one.0)) (omega (arith, one.0)) l.invariant.1 one.1,
+      block-added (words g.seed.now) g.seed.now g.x g.first _ _ _ _ _ _ _ _ block (omega arith) (omega (arith, one.0)) (omega (arith, one.0)) l.invariant.1 one.1,
     )
 
 pub shape_of-sum : goal.shape_of-sum
@@ -68,10 +69,7 @@ pub returns : goal.returns
 returns c = λ nk four.
     let g = c.args in
     let l = c.loop-at in
-    let made = c.new-schedule.ensures in
     let e : l.at ≡ length g.sum.now = omega arith in
     let d : words g.seed.now ≡ nk = omega arith in
-    let f : ℕ → List ℕ → ℕ → Type 0 = λ m key n. Xored 0 n (λ p. byte_of m key g.x (g.first + p)) g.sum.now l.sum in
-    subst (λ (n : ℕ). f nk g.seed.now n) e
-    (subst (λ (m : ℕ). f m g.seed.now l.at) d
-    (subst (λ (key : List ℕ). f (words key) key l.at) made l.invariant.1))
+    let f : ℕ → ℕ → Type 0 = λ m n. Xored 0 n (λ p. byte_of m g.seed.now g.x (g.first + p)) g.sum.now l.sum in
+    subst (λ (n : ℕ). f nk n) e (subst (λ (m : ℕ). f m l.at) d l.invariant.1)

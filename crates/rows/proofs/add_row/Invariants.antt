@@ -8,7 +8,7 @@ use Rattle.rows.proofs.add_row.Given as goal
 
 abbrev pub invariant-loop-at : goal.invariant-loop-at
 invariant-loop-at l =
-    (l.at ≤ l.b) × Xored 0 l.at (λ p. byte_of (words l.schedule) l.schedule l.x (l.first + p)) l.initial.sum l.sum
+    (l.at ≤ l.b) × Xored 0 l.at (λ p. byte_of (words l.seed) l.seed l.x (l.first + p)) l.initial.sum l.sum
 
 abbrev pub decreases-loop-at : goal.decreases-loop-at
 decreases-loop-at l = l.b - l.at

@@ -1,5 +1,5 @@
 -- What `KeySchedule::new` and `fill_keyed` ensure of the parts they are lent.
-use mathlib.Core.Path.{◌≡◌, sym, ap, ap₂, ◌∙◌}
+use mathlib.Core.Path.{◌≡◌, sym, ap, ap₂, subst, ◌∙◌}
 use mathlib.Core.List.{List, ◌++◌}
 use Prim.Native.Nat.{ℕ, ◌+◌, ◌-◌, ◌*◌, ◌/◌, ◌%◌, ◌^◌, ◌≤◌, ◌<◌}
 use native.Mathlib.Nat.{le-add_right}
@@ -15,7 +15,7 @@ use Rattle.laws.proofs.Lists.{length_part, tabulate-from-0}
 use Rattle.laws.proofs.Concat.{mul-limit}
 use Rattle.laws.proofs.Putting.{behind}
 use Rattle.planning_laws.proofs.ShapeFacts.{shape-facts, widths}
-use Rattle.aes_keys.specs.RoundKeys.{words as words_of}
+use Rattle.aes_keys.specs.Scheduled.{Expands}
 use Rattle.tree.proofs.Growing.{node-place}
 use Rattle.tree.proofs.expand_node.Goals as goal
 
@@ -118,12 +118,10 @@ returns c = λ s ok e.
     let key : part x (n * a) (n * a + n - n * a) ≡ part x (n * a) n = ap (part x (n * a)) one in
     let schedule = c.new-schedule in
     let quarter : length (part x (n * a) (n * a + n - n * a)) / 4 ≡ key_words s = (let k = key-size c.args.n c.args.a c.args.tree.now (places c.args.n c.args.a (length c.args.tree.now) c.requires) in omega arith) in
-    let nk : words_of schedule.result ≡ key_words s = ap words_of schedule.ensures ∙ quarter in
     let f : List ℕ → ℕ → ℕ = λ k. byte_of (key_words s) k (record { iv = g.iv; tweak = a; version = g.version }) in
     let made =
-    c.fill_keyed.ensures
-    ∙ ap (λ (m : ℕ). tabulate (length (part x from (from + 2 * n - from))) (λ q. byte_of m schedule.result (record { iv = g.iv; tweak = a; version = g.version }) (0 + q))) nk
-    ∙ ap₂ (λ (m : ℕ) (k : List ℕ). tabulate m (λ q. f k (0 + q))) (two_size c.args.n c.args.a c.args.tree.now (places c.args.n c.args.a (length c.args.tree.now) c.requires) ∙ ap (λ (m : ℕ). 2 * m) e) (schedule.ensures ∙ key)
+    c.fill_keyed.ensures (key_words s) _ (subst (λ (m : ℕ). Expands m (part x (n * a) (n * a + n - n * a)) schedule.result) quarter schedule.ensures)
+    ∙ ap₂ (λ (m : ℕ) (k : List ℕ). tabulate m (λ q. f k (0 + q))) (two_size c.args.n c.args.a c.args.tree.now (places c.args.n c.args.a (length c.args.tree.now) c.requires) ∙ ap (λ (m : ℕ). 2 * m) e) key
     ∙ tabulate-from-0 (2 * node_bytes s) (f (part x (n * a) n))
     ∙ ap (tabulate (2 * node_bytes s)) (sym (prg-byte g.version s (part x (n * a) n) g.iv a)) in
     let rest : drop (from + 2 * n - from) (drop from x) ≡ drop (n * (2 * a + 3)) x = behind from (2 * n) x ∙ ap (λ (m : ℕ). drop m x) p.last in

@@ -15,5 +15,7 @@ write_reconstruction-requires c =
 pub returns-in-Ok : goal.returns-in-Ok
 returns-in-Ok c = written _ _ _ _ _ _ _ _ c.in-Ok.ensures refl _ refl c.write_reconstruction.ensures
 
+-- a refusal has the number that the tests give, and no count;
+-- what was lent stays as it was
 pub returns-in-Err : goal.returns-in-Err
 returns-in-Err c = rw c.from.ensures (refused _ _ _ _ _ _ _ _ c.in-Err.ensures (row-uncounted _ _ _ _ c.in-Err.ensures) (numbered _))

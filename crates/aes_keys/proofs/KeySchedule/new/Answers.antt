@@ -1,14 +1,9 @@
--- The round keys are those of the key, which they show.
-use mathlib.Core.Path.{◌∙◌}
-use Rattle.aes_keys.proofs.Schedules.{shown, scheduled}
+-- The round keys are stored as they are, and they are those of the key.
+use native.Mathlib.Omega.{arith}
 use Rattle.aes_keys.proofs.KeySchedule.new.Goals as goal
 
-pub of_round_keys-requires-clause-keyed : goal.of_round_keys-requires-clause-keyed
-of_round_keys-requires-clause-keyed c =
-    let p = c.requires in
-    scheduled c.args.key.now _ p.0 p.2 c.key_schedule.ensures
+pub of_round_keys-requires : goal.of_round_keys-requires
+of_round_keys-requires c = let p = c.requires in (omega (arith, p.0), omega (arith, p.1), omega (arith, p.2))
 
 pub returns : goal.returns
-returns c =
-    let p = c.requires in
-    c.of_round_keys.ensures ∙ shown c.args.key.now _ p.0 p.2 c.key_schedule.ensures
+returns c = record { count = c.of_round_keys.ensures.count; keyed = rw c.of_round_keys.ensures.keys c.key_schedule.ensures }

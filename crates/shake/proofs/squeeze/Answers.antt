@@ -9,7 +9,7 @@ use Rattle.spec.specs.Keccak.{keccak_f}
 use Rattle.spec.specs.Bytes.{tabulate, part}
 use Rattle.spec.specs.Sponge.{permuted, state_byte}
 use Rattle.shake.proofs.Squeezing.{Squeezed, squeezed-none, squeezed-more, squeezed-all}
-use Rattle.shake.proofs.Sponge.squeeze_blocks.Goals as goal
+use Rattle.shake.proofs.squeeze.Goals as goal
 
 -- behind the call that fills a part, that part begins a block, and the bytes up to its end are squeezed: at is the place of the part, n its length, q the
 -- number of blocks before it, lanes the state at its block, old and new the buffer before and after the call
@@ -27,7 +27,7 @@ pub loop-at-init : goal.loop-at-init
 unfolding permuted
 loop-at-init c =
     let a = c.args in
-    (squeezed-none a.self.rate a.self.lanes a.out.now, (0, refl, λ h. sym (mul-zero a.self.rate)))
+    (squeezed-none a.rate a.lanes a.out.now, (0, refl, λ h. sym (mul-zero a.rate)))
 
 pub loop-at-preserved-then-at-out : goal.loop-at-preserved-then-at-out
 unfolding permuted
@@ -35,22 +35,22 @@ loop-at-preserved-then-at-out c =
     let a = c.args in
     let l = c.loop-at in
     let q = l.invariant.1 in
-    let begins : l.at ≡ a.self.rate * q.0 = q.2 (omega arith) in
-    let s = more a.self.rate l.at c.min-n.result q.0 a.self.lanes a.out.now l.out l.state.lanes c.squeeze_part.new.out (omega arith) (omega arith) begins q.1 l.invariant.0 c.squeeze_part.ensures in
-    let next = mul-suc a.self.rate q.0 in
-    (s, (suc q.0, c.permute-state.ensures.1 ∙ ap keccak_f q.1, λ h. omega arith))
+    let begins : l.at ≡ a.rate * q.0 = q.2 (omega arith) in
+    let s = more a.rate l.at c.min-n.result q.0 a.lanes a.out.now l.out l.state c.squeeze_part.new.out (omega arith) (omega arith) begins q.1 l.invariant.0 c.squeeze_part.ensures in
+    let next = mul-suc a.rate q.0 in
+    (s, (suc q.0, c.keccak_f-next.ensures ∙ ap keccak_f q.1, λ h. omega arith))
 
 pub loop-at-preserved : goal.loop-at-preserved
 loop-at-preserved c =
     let a = c.args in
     let l = c.loop-at in
     let q = l.invariant.1 in
-    let begins : l.at ≡ a.self.rate * q.0 = q.2 (omega arith) in
-    let s = more a.self.rate l.at c.min-n.result q.0 a.self.lanes a.out.now l.out l.state.lanes c.squeeze_part.new.out (omega arith) (omega arith) begins q.1 l.invariant.0 c.squeeze_part.ensures in
+    let begins : l.at ≡ a.rate * q.0 = q.2 (omega arith) in
+    let s = more a.rate l.at c.min-n.result q.0 a.lanes a.out.now l.out l.state c.squeeze_part.new.out (omega arith) (omega arith) begins q.1 l.invariant.0 c.squeeze_part.ensures in
     (s, (q.0, q.1, λ h. absurd (omega arith)))
 
 pub returns : goal.returns
 returns c =
     let a = c.args in
     let l = c.loop-at in
-    squeezed-all a.self.rate a.self.lanes a.out.now l.out l.at l.invariant.0 c.loop-at-test.false
+    squeezed-all a.rate a.lanes a.out.now l.out l.at l.invariant.0 c.loop-at-test.false

@@ -1,2 +1,0 @@
--- What the contracts of this crate cite beyond FIPS 197 as crate spec restates it.
-pub mod Ciphers
