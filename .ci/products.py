@@ -34,7 +34,7 @@ GROUPS = {
     'report': 'report_text report report_openings',
     'claims': 'standards standards_levels theorems record_theorems',
     'tests': 'round_trip round_trip_report run_round_trip v1_round_trip test_support case_text vectors_calls vectors_probes record_cases run_cases '
-             'vectors vectors_stretches vectors_records v1_vectors list_nodes_runs list_challenges_runs report_runs bench_exports',
+             'vectors vectors_stretches vectors_records v1_vectors list_nodes_runs list_challenges_runs report_runs aes_keys_tests bench_exports',
 }
 PRODUCTS = {
     'shape_host': ['base', 'planning', 'decode and plan'],
