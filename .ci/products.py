@@ -19,7 +19,7 @@ GROUPS = {
     'base': 'spec laws planning_laws rules refusals v1_rules lengths buffers job host_words',
     'planning': 'challenge planning plan_refusals',
     'decode and plan': 'shape shape_host',
-    'primitives': 'aes_steps aes_keys aes generator keccak shake field leaf_hash',
+    'primitives': 'aes_steps aes_keys keyed_schedule aes generator keccak shake field leaf_hash',
     'vectors': 'tree leaf columns rows vector',
     'signing': 'signer_refusals signer_tree signer_vectors signer_commit opening signer_open signer signer_host',
     'signing of version 1': 'signer_forest v1_opening v1_signer v1_signer_host',
@@ -34,7 +34,7 @@ GROUPS = {
     'report': 'report_text report report_openings',
     'claims': 'standards standards_levels theorems record_theorems',
     'tests': 'round_trip round_trip_report run_round_trip v1_round_trip test_support case_text vectors_calls vectors_probes record_cases run_cases '
-             'vectors vectors_stretches vectors_records v1_vectors list_nodes_runs list_challenges_runs report_runs aes_keys_tests bench_exports',
+             'vectors vectors_stretches vectors_records v1_vectors list_nodes_runs list_challenges_runs report_runs bench_exports',
 }
 PRODUCTS = {
     'shape_host': ['base', 'planning', 'decode and plan'],

@@ -343,7 +343,7 @@ impl KeySchedule {
         requires { i ≤ self.now.rounds }
         ensures { (nk : ℕ) (key : List ℕ) → Expands nk key self.now → result ≡ round_key (key_expansion nk key) i }
     {
-        // the number of the rounds is at most 14, which the fields say
+        // from here on the invariant is known, by which the rounds are at most 14
         let _ = &self.rounds;
         self.stored_key(i)
     }
