@@ -6,7 +6,7 @@ ghost use Rattle.std.specs.Prelude.{◌≡◌, ◌+◌, ◌-◌, ◌%◌, ◌≤
 ghost use Rattle.spec.specs.Aes.{round_key, key_expansion};
 ghost use Rattle.aes_keys.specs.RoundKeys.{words, Keyed, key_of};
 
-use aes_keys::KeySchedule;
+use aes_keys::{KeySchedule, key_schedule};
 use aes_steps::Sbox;
 use std::marker::Model;
 
@@ -35,9 +35,7 @@ impl KeyedSchedule {
         requires { (16 ≤ length key.now) × (length key.now ≤ 32) × (length key.now % 8 ≡ 0) }
         ensures { result ≡ key.now }
     {
-        KeyedSchedule {
-            schedule: KeySchedule::new(sbox, key),
-        }
+        KeyedSchedule::of_round_keys(&key_schedule(sbox, key), key.len() / 4 + 6)
     }
 
     // The schedule that these round keys make, those of the key that they begin with.
@@ -78,7 +76,6 @@ impl KeyedSchedule {
 #[cfg(test)]
 mod tests {
     use super::*;
-    use aes_keys::key_schedule;
 
     // The keys of FIPS 197, appendix A.
     const KEY_16: [u8; 16] = [
@@ -118,13 +115,6 @@ mod tests {
         assert_eq!(rt; u32::from_be_bytes(schedule.round_key(n)[3]), 0x706c_631e);
     }
 
-    fn by_round_keys(sbox: &Sbox, key: &[u8]) -> KeyedSchedule
-        requires { (16 ≤ length key.now) × (length key.now ≤ 32) × (length key.now % 8 ≡ 0) }
-        ensures { result ≡ key.now }
-    {
-        KeyedSchedule::of_round_keys(&key_schedule(sbox, key), key.len() / 4 + 6)
-    }
-
     // The same words through schedules that are a key's.
     #[test]
     fn keyed_schedules(rt: HostRuntime) {
@@ -134,11 +124,11 @@ mod tests {
         assert_eq!(rt; n, 10);
         assert_eq!(rt; u32::from_be_bytes(keyed.round_key(1)[0]), 0xa0fa_fe17);
         assert_eq!(rt; u32::from_be_bytes(keyed.round_key(n)[3]), 0xb663_0ca6);
-        let keyed = by_round_keys(&sbox, &KEY_24);
+        let keyed = KeyedSchedule::new(&sbox, &KEY_24);
         let n = keyed.rounds();
         assert_eq!(rt; n, 12);
         assert_eq!(rt; u32::from_be_bytes(keyed.round_key(n)[3]), 0x0100_2202);
-        let keyed = by_round_keys(&sbox, &KEY_32);
+        let keyed = KeyedSchedule::new(&sbox, &KEY_32);
         let schedule = keyed.schedule();
         let n = schedule.rounds();
         assert_eq!(rt; n, 14);

@@ -1,4 +1,5 @@
--- Today's schedule holds these round keys and their number.
+-- The schedule holds these round keys and their number, so what they are asked to be is what it keeps.
+use native.Mathlib.Omega.{arith}
 use Rattle.keyed_schedule.proofs.KeyedSchedule.of_round_keys.Goals as goal
 
 pub invariant_of-result : goal.invariant_of-result
@@ -6,9 +7,9 @@ invariant_of-result c =
     let p = c.requires.bounds in
     let made = c.of_round_keys.ensures in
     record {
-      least = rw made.count p.0;
-      most = rw made.count p.1;
-      even = rw made.count p.2;
+      least = omega (arith, made.count, p.0);
+      most = omega (arith, made.count, p.1);
+      even = omega (arith, made.count, p.2);
       keyed = rw (made.count, made.keys) c.requires.keyed;
     }
 

@@ -1,4 +1,4 @@
--- Today's schedule expands the key.
+-- The schedule is the key's.
 use native.Mathlib.Omega.{arith}
 use Rattle.aes_keys.specs.RoundKeys.{words}
 use Rattle.keyed_schedule.proofs.Schedules.{expands}
