@@ -1,2 +1,2 @@
--- The law by which a struct's schedule is its key's.
+-- The law that the struct's schedule is that of its key.
 pub mod Schedules

@@ -1,4 +1,4 @@
--- What the struct of a key schedule of a key holds, and its key.
+-- What the struct of a key's schedule holds, and its key.
 use Rattle.std.specs.Prelude.{◌≡◌, List, ℕ, ◌-◌, ◌%◌, ◌≤◌}
 use Rattle.aes_keys.specs.RoundKeys.{Keyed, key_of}
 use Rattle.keyed_schedule.specs.declared.KeyedSchedule.TheInside.{Inside}

@@ -127,11 +127,13 @@ mod tests {
         let keyed = KeyedSchedule::new(&sbox, &KEY_24);
         let n = keyed.rounds();
         assert_eq!(rt; n, 12);
+        assert_eq!(rt; u32::from_be_bytes(keyed.round_key(1)[2]), 0xfe0c_91f7);
         assert_eq!(rt; u32::from_be_bytes(keyed.round_key(n)[3]), 0x0100_2202);
         let keyed = KeyedSchedule::new(&sbox, &KEY_32);
         let schedule = keyed.schedule();
         let n = schedule.rounds();
         assert_eq!(rt; n, 14);
+        assert_eq!(rt; u32::from_be_bytes(schedule.round_key(2)[0]), 0x9ba3_5411);
         assert_eq!(rt; u32::from_be_bytes(schedule.round_key(n)[3]), 0x706c_631e);
     }
 }

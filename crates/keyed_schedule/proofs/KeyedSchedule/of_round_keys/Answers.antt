@@ -1,4 +1,4 @@
--- The schedule holds these round keys and their number, so what they are asked to be is what it keeps.
+-- The schedule holds these round keys and their number, so the clauses on them are its invariant.
 use native.Mathlib.Omega.{arith}
 use Rattle.keyed_schedule.proofs.KeyedSchedule.of_round_keys.Goals as goal
 
