@@ -19,7 +19,7 @@ GROUPS = {
     'base': 'spec laws planning_laws rules refusals v1_rules lengths buffers job host_words',
     'planning': 'challenge planning plan_refusals',
     'decode and plan': 'shape shape_host',
-    'primitives': 'aes_steps aes_keys aes generator keccak shake field leaf_hash',
+    'primitives': 'aes_steps aes_keys keyed_schedule aes generator keccak shake field leaf_hash',
     'vectors': 'tree leaf columns rows vector',
     'signing': 'signer_refusals signer_tree signer_vectors signer_commit opening signer_open signer signer_host',
     'signing of version 1': 'signer_forest v1_opening v1_signer v1_signer_host',

@@ -71,21 +71,21 @@ pub fn encrypt(sbox: &Sbox, schedule: &KeySchedule, s: [[u8; 4]; 4]) -> [[u8; 4]
     ensures { (nk : ℕ) (key : List ℕ) → Expands nk key schedule.now → result ≡ cipher (nk + 6) (key_expansion nk key) s }
 {
     let n = schedule.rounds();
-    let mut x = add_round_key(s, schedule.round_key(0));
+    let mut x = add_round_key(s, schedule.stored_key(0));
     for i in 1..FEWEST {
         let y = add_round_key(
             mix_columns(shift_rows(sub_bytes(sbox, x))),
-            schedule.round_key(i),
+            schedule.stored_key(i),
         );
         x = y;
     }
     let mut i = FEWEST;
     while i < n {
-        let y = two_rounds(sbox, x, schedule.round_key(i), schedule.round_key(i + 1));
+        let y = two_rounds(sbox, x, schedule.stored_key(i), schedule.stored_key(i + 1));
         x = y;
         i += 2;
     }
-    last_round(sbox, x, schedule.round_key(n))
+    last_round(sbox, x, schedule.stored_key(n))
 }
 
 // The rounds of longer keys: from round 10 on, and before the last, round n. There are two or four, and they go by twos, which is quicker than one by one.
@@ -97,7 +97,7 @@ fn later_rounds(sbox: &Sbox, schedule: &KeySchedule, s: [[u8; 4]; 4]) -> [[u8; 4
     let mut x = s;
     let mut i = FEWEST;
     while i < n {
-        let y = two_rounds(sbox, x, schedule.round_key(i), schedule.round_key(i + 1));
+        let y = two_rounds(sbox, x, schedule.stored_key(i), schedule.stored_key(i + 1));
         x = y;
         i += 2;
     }
@@ -119,13 +119,13 @@ pub fn encrypt_pair(sbox: &Sbox, schedule: &KeySchedule, a: [[u8; 4]; 4], b: [[u
     ensures second { (nk : ℕ) (key : List ℕ) → Expands nk key schedule.now → result.second ≡ bytes_of (cipher (nk + 6) (key_expansion nk key) b) }
 {
     let n = schedule.rounds();
-    let mut x = add_round_key(a, schedule.round_key(0));
-    let mut y = add_round_key(b, schedule.round_key(0));
+    let mut x = add_round_key(a, schedule.stored_key(0));
+    let mut y = add_round_key(b, schedule.stored_key(0));
     for i in 1..FEWEST {
         let c = mix_columns(shift_rows(sub_bytes(sbox, x)));
         let d = mix_columns(shift_rows(sub_bytes(sbox, y)));
-        let e = add_round_key(c, schedule.round_key(i));
-        let f = add_round_key(d, schedule.round_key(i));
+        let e = add_round_key(c, schedule.stored_key(i));
+        let f = add_round_key(d, schedule.stored_key(i));
         x = e;
         y = f;
     }
@@ -136,7 +136,7 @@ pub fn encrypt_pair(sbox: &Sbox, schedule: &KeySchedule, a: [[u8; 4]; 4], b: [[u
         y = d;
     }
     Blocks {
-        first: bytes_of(last_round(sbox, x, schedule.round_key(n))),
-        second: bytes_of(last_round(sbox, y, schedule.round_key(n))),
+        first: bytes_of(last_round(sbox, x, schedule.stored_key(n))),
+        second: bytes_of(last_round(sbox, y, schedule.stored_key(n))),
     }
 }

@@ -1,5 +1,5 @@
 -- FIPS 197, section 5.2, by whole round keys and, for keys of 6 words, by blocks of six words.
-use Rattle.std.specs.Prelude.{◌≡◌, List, [], ◌∷◌, ℕ, ◌+◌, ◌*◌, ◌/◌, length, take}
+use Rattle.std.specs.Prelude.{◌≡◌, List, [], ◌∷◌, ℕ, ◌+◌, ◌*◌, ◌/◌, ◌%◌, length, get_or, take}
 use Rattle.spec.specs.Bytes.{tabulate}
 use Rattle.spec.specs.Aes.{column, state, xor_word, sub_word, rot_word, round_key, key_expansion}
 
@@ -14,6 +14,10 @@ round_keys nk key = tabulate (nk + 7) (round_key (key_expansion nk key))
 -- they stand at the front of `keys`
 abbrev pub Keyed : ℕ → List ℕ → List (List (List ℕ)) → Type 0
 Keyed nk key keys = take (nk + 7) keys ≡ round_keys nk key
+
+-- the first nk words of the round keys are the key's: its bytes, four words of four bytes from each round key
+unfoldable pub key_of : ℕ → List (List (List ℕ)) → List ℕ
+key_of nk keys = tabulate (4 * nk) (λ b. get_or (get_or (get_or keys (b / 16) []) (b / 4 % 4) []) (b % 4) 0)
 
 -- four words, the first of which is a, each other the sum of the one before it and that of k
 abbrev pub chained : List (List ℕ) → List ℕ → List (List ℕ)

@@ -329,12 +329,22 @@ impl KeySchedule {
         self.rounds
     }
 
-    // Round key i; those behind the last of the rounds are whatever the schedule was made of.
-    pub fn round_key(&self, i: usize) -> [[u8; 4]; 4]
+    // The round key that is stored at place i; those behind the last of the rounds are whatever the schedule was made of.
+    pub fn stored_key(&self, i: usize) -> [[u8; 4]; 4]
         requires { i < 15 }
         ensures { result ≡ get_or self.now.round_keys i [] }
     {
         let keys = &self.round_keys;
         keys[i].columns()
+    }
+
+    // Round key i of any key whose schedule it is.
+    pub fn round_key(&self, i: usize) -> [[u8; 4]; 4]
+        requires { i ≤ self.now.rounds }
+        ensures { (nk : ℕ) (key : List ℕ) → Expands nk key self.now → result ≡ round_key (key_expansion nk key) i }
+    {
+        // from here on the invariant is known, by which the rounds are at most 14
+        let _ = &self.rounds;
+        self.stored_key(i)
     }
 }

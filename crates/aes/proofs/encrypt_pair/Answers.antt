@@ -17,8 +17,8 @@ loop-i-preserved c = λ nk key x.
     let two = steps-round _ _ _ _ _ _ c.sub_bytes-in-loop-i.ensures c.shift_rows-in-loop-i.ensures c.mix_columns-d.ensures c.add_round_key-f.ensures in
     let more = after-more c.args.schedule.now nk key x in
     let before = l.invariant nk key x in (
-      more _ _ _ _ l.i (omega arith) (omega (arith, c.rounds-n.ensures)) c.round_key-in-loop-i.ensures one before.0,
-      more _ _ _ _ l.i (omega arith) (omega (arith, c.rounds-n.ensures)) c.round_key-in-loop-i-2.ensures two before.1,
+      more _ _ _ _ l.i (omega arith) (omega (arith, c.rounds-n.ensures)) c.stored_key-in-loop-i.ensures one before.0,
+      more _ _ _ _ l.i (omega arith) (omega (arith, c.rounds-n.ensures)) c.stored_key-in-loop-i-2.ensures two before.1,
     )
 
 pub returns-clause-first : goal.returns-clause-first
@@ -36,7 +36,7 @@ returns-clause-first c = λ nk key x.
       | else-n-gt-FEWEST t ↦ let same : l.i - 1 ≡ n.result - 1 = omega (arith, t.if-n-gt-FEWEST.false, n.ensures.bounds) in t.x-is ∙ rw same at ninth
     ] in
     c.bytes_of.ensures
-    ∙ ap bytes_of (cipher-is c.args.schedule.now nk key x _ _ _ _ _ _ n.result n.ensures.count c.round_key.ensures c.add_round_key-x.ensures before-last c.round_key-3.ensures c.last_round.ensures)
+    ∙ ap bytes_of (cipher-is c.args.schedule.now nk key x _ _ _ _ _ _ n.result n.ensures.count c.stored_key.ensures c.add_round_key-x.ensures before-last c.stored_key-3.ensures c.last_round.ensures)
 
 pub returns-clause-second : goal.returns-clause-second
 returns-clause-second c = λ nk key x.
@@ -53,4 +53,4 @@ returns-clause-second c = λ nk key x.
       | else-n-gt-FEWEST t ↦ let same : l.i - 1 ≡ n.result - 1 = omega (arith, t.if-n-gt-FEWEST.false, n.ensures.bounds) in t.y-is ∙ rw same at ninth
     ] in
     c.bytes_of-2.ensures
-    ∙ ap bytes_of (cipher-is c.args.schedule.now nk key x _ _ _ _ _ _ n.result n.ensures.count c.round_key-2.ensures c.add_round_key-y.ensures before-last c.round_key-4.ensures c.last_round-2.ensures)
+    ∙ ap bytes_of (cipher-is c.args.schedule.now nk key x _ _ _ _ _ _ n.result n.ensures.count c.stored_key-2.ensures c.add_round_key-y.ensures before-last c.stored_key-4.ensures c.last_round-2.ensures)

@@ -16,8 +16,8 @@ loop-i-preserved c =
       omega arith,
       λ nk key a x e.
           let n = x.count in
-          after-two c.args.schedule.now nk key x _ _ _ _ _ l.i (omega arith) (omega (arith, c.rounds-n.ensures)) c.round_key.ensures
-          c.round_key-in-loop-i.ensures c.two_rounds-y.ensures (l.invariant.3 nk key a x e),
+          after-two c.args.schedule.now nk key x _ _ _ _ _ l.i (omega arith) (omega (arith, c.rounds-n.ensures)) c.stored_key.ensures
+          c.stored_key-in-loop-i.ensures c.two_rounds-y.ensures (l.invariant.3 nk key a x e),
     )
 
 pub returns : goal.returns

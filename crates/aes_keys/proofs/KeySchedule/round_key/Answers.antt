@@ -1,14 +1,10 @@
--- The round key at its place.
+-- The round key at its place is the key's, by the schedule that it is.
+use mathlib.Core.Path.{◌∙◌}
 use native.Mathlib.Omega.{arith}
-use mathlib.Core.Path.{ap, ◌∙◌}
-use mathlib.Core.List.{[]}
-use lib.ListN.{get_or}
-use Rattle.std.proofs.lemmas.List.{get_or_default}
-use Rattle.aes_keys.specs.Scheduled.{Schedule}
+use Rattle.aes_keys.proofs.Schedules.{round-key-at}
 use Rattle.aes_keys.proofs.KeySchedule.round_key.Goals as goal
 
 pub returns : goal.returns
-returns c =
-    let keys = c.self.inside.round_keys in
-    let i = c.args.i in
-    c.columns.ensures ∙ get_or_default keys i _ [] (omega (arith, c.requires, c.self.told)) ∙ ap (λ (s : Schedule). get_or s.round_keys i []) c.self.view_is
+returns c = λ nk key x.
+    let n = x.count in
+    c.stored_key.ensures ∙ round-key-at nk key c.args.self.now.round_keys c.args.i x.keyed (omega (arith, c.requires))

@@ -1,0 +1,2 @@
+-- The law that the struct's schedule is that of its key.
+pub mod Schedules
